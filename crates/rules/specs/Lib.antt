@@ -1,0 +1,17 @@
+pub mod Basics
+pub mod Refusal
+pub mod Parsers
+pub mod Markup
+pub mod Calendar
+pub mod Timestamp
+pub mod Forms
+pub mod Invariants
+pub mod Types
+pub mod Judge
+pub mod Utf8
+pub mod Check
+pub mod Sets
+pub mod Stretches
+pub mod Listing
+pub mod Comparison
+pub mod Services

@@ -1,0 +1,82 @@
+-- 01-scope.md, "Sets of times": the set that a record writes, and its list of stretches.
+use Prim.Native.Nat.{ℕ, _+_}
+use mathlib.Core.Bool.{Bool, cond}
+use mathlib.Core.List.{List, [], _∷_, _++_, flatMap}
+use mathlib.Core.Option.{Option}
+use lib.Dec.{ltb}
+use lib.ListN.{length}
+use lib.IntN.{ℤ, pos}
+use Rattle.rules.specs.Basics.{ifSome, find}
+use Rattle.rules.specs.Refusal.{TYPE, SHAPE, UNKNOWN-BOUND, TOO-MANY, NO-ROOM, Outcome, answered, refused, _unless_, _when_, _andThen_, both}
+use Rattle.rules.specs.Markup.{Attribute, Nodes, end, node, Element}
+use Rattle.rules.specs.Timestamp.{Moment, tickOf}
+use Rattle.rules.specs.Invariants.{isNull, isClosed, Side, low, high, Endpoint, valued, infinite, unknown, endpointOf}
+use Rattle.rules.specs.Types.{Kind, IVL-TS, QSU-TS, QSI-TS, QSD-TS, hasType}
+use Rattle.rules.specs.Sets.{Bound, unbounded, openAt, closedAt, Interval, _upto_, Op, union, intersection, difference, Expression, interval, combine}
+use Rattle.rules.specs.Stretches.{stretches}
+
+-- the bound that a side means; one that is missing, or null without being unbounded, is UNKNOWN BOUND
+abbrev pub boundRead : (closed : Bool) → Endpoint → Outcome Bound
+boundRead closed (valued m) = answered (cond closed (closedAt (tickOf m)) (openAt (tickOf m)))
+boundRead closed infinite = answered unbounded
+boundRead closed unknown = refused UNKNOWN-BOUND
+
+abbrev pub boundOf : (shift : ℕ) → Side → List Attribute → Nodes → Outcome Bound
+boundOf shift side attrs kids = boundRead (isClosed side attrs) (endpointOf shift side kids)
+
+abbrev pub intervalOf : (shift : ℕ) → List Attribute → Nodes → Outcome Interval
+intervalOf shift attrs kids = both _upto_ (boundOf shift low attrs kids) (boundOf shift high attrs kids)
+
+abbrev pub typeFor : Op → Kind
+typeFor union = QSU-TS
+typeFor intersection = QSI-TS
+typeFor difference = QSD-TS
+
+-- the operation of a set type
+abbrev pub operationOf : List Attribute → Option Op
+operationOf attrs = find (λ o. hasType attrs (typeFor o)) (union ∷ intersection ∷ difference ∷ [])
+
+-- the set that an element writes; a null one is UNKNOWN BOUND; `members` are its members put together
+unfoldable pub setFrom : (shift : ℕ) → List Attribute → Nodes → (members : Op → Outcome Expression) → Outcome Expression
+setFrom shift attrs kids members =
+    cond (hasType attrs IVL-TS) (intervalOf shift attrs kids andThen λ v. answered (interval v))
+    (ifSome (operationOf attrs) (λ o. cond (isNull attrs) (refused UNKNOWN-BOUND) (members o)) (refused TYPE))
+
+unfoldable mutual
+  -- the members of a set, one or more, put together from the first on
+  pub membersOf : (shift : ℕ) → Op → Nodes → Outcome Expression
+  membersOf shift o end = refused SHAPE
+  membersOf shift o (node n attrs kids rest) = joined shift o (setFrom shift attrs kids (λ j. membersOf shift j kids)) rest
+
+  -- the set so far, with the members from here on
+  pub joined : (shift : ℕ) → Op → (soFar : Outcome Expression) → Nodes → Outcome Expression
+  joined shift o soFar end = soFar
+  joined shift o soFar (node n attrs kids rest) =
+      joined shift o (both (combine o) soFar (setFrom shift attrs kids (λ j. membersOf shift j kids))) rest
+
+-- the set that a record's element writes
+abbrev pub setOf : (shift : ℕ) → Element → Outcome Expression
+setOf shift e = setFrom shift (e .attrs) (e .kids) (λ o. membersOf shift o (e .kids))
+
+-- the IVL_TS elements among these and inside them
+unfoldable pub intervalCount : Nodes → ℕ
+intervalCount end = 0
+intervalCount (node n attrs kids rest) = cond (hasType attrs IVL-TS) 1 0 + intervalCount kids + intervalCount rest
+
+-- intervals written: the record's IVL_TS elements
+abbrev pub intervalsWritten : Element → ℕ
+intervalsWritten e = intervalCount (node (e .name) (e .attrs) (e .kids) end)
+
+-- the stretches of the set that an element writes; over 32 intervals are TOO MANY, more stretches than the room are NO ROOM
+unfoldable pub listElement : (shift room : ℕ) → Element → Outcome (List Interval)
+listElement shift room e = setOf shift e andThen λ s.
+    answered (stretches s) unless TOO-MANY when ltb 32 (intervalsWritten e) ++ NO-ROOM when ltb room (length (stretches s))
+
+-- kind and tick of a bound; four numbers a stretch
+abbrev pub boundNumbers : Bound → List ℤ
+boundNumbers unbounded = pos 0 ∷ pos 0 ∷ []
+boundNumbers (openAt t) = pos 1 ∷ t ∷ []
+boundNumbers (closedAt t) = pos 2 ∷ t ∷ []
+
+abbrev pub listNumbers : List Interval → List ℤ
+listNumbers = flatMap (λ s. boundNumbers (s .low) ++ boundNumbers (s .high))

@@ -1,0 +1,1 @@
+// The rules page as definitions (specs/) and laws about them (proofs/). No code is here.
