@@ -1,3 +1,5 @@
 pub mod Opened
 pub mod WorkedExamples
 pub mod Limits
+pub mod Tests
+pub mod Precedence

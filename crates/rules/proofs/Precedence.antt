@@ -1,0 +1,229 @@
+-- The refusal ladder: of all faults the one that stands first is given, whatever the order in which they are found.
+use Prim.Native.Nat.{ℕ, suc, _≤_}
+use mathlib.Core.Path.{_≡_, refl, sym, _∙_, ap}
+use mathlib.Core.Logic.{_↔_}
+use mathlib.Core.Bool.{Bool, true, false, cond}
+use mathlib.Core.List.{List, [], _∷_, _++_, append-assoc, List·Memᴰ, List·Memᴰ·head, List·Memᴰ·tail}
+use mathlib.Core.Option.{Option, none, some}
+use native.Mathlib.Omega.{arith}
+use borrow.Author.Tests.{leb-true, leb-false, le-leb, lt-leb}
+use lib.Dec.{leb}
+use lib.ListN.{getD}
+use lib.IntN.{ℤ}
+use Rattle.rules.specs.Basics.{ifSome}
+use Rattle.rules.specs.Refusal.{Refusal, OFFSET, TOO-LONG, NOT-UTF-8, MARKUP, TYPE, SHAPE, VALUE, RULE, UNKNOWN-BOUND, TOO-MANY, NO-ROOM, number, precedence, rankIn, rank, earlier, firstOf, Outcome, answered, refused, faultsIn, faultsOf, _unless_}
+use Rattle.rules.specs.Markup.{Element, document}
+use Rattle.rules.specs.Check.{elementOf, recordFaults, check}
+use Rattle.rules.proofs.Tests.{clash}
+
+-- the ladder holds each refusal at its rank
+at-rank : (r : Refusal) → getD precedence (rank r) OFFSET ≡ r
+unfolding rankIn
+at-rank OFFSET = refl
+at-rank TOO-LONG = refl
+at-rank NOT-UTF-8 = refl
+at-rank MARKUP = refl
+at-rank TYPE = refl
+at-rank SHAPE = refl
+at-rank VALUE = refl
+at-rank RULE = refl
+at-rank UNKNOWN-BOUND = refl
+at-rank TOO-MANY = refl
+at-rank NO-ROOM = refl
+
+-- the numbers follow the ladder
+pub number-is : (r : Refusal) → number r ≡ suc (rank r)
+unfolding rankIn
+number-is OFFSET = refl
+number-is TOO-LONG = refl
+number-is NOT-UTF-8 = refl
+number-is MARKUP = refl
+number-is TYPE = refl
+number-is SHAPE = refl
+number-is VALUE = refl
+number-is RULE = refl
+number-is UNKNOWN-BOUND = refl
+number-is TOO-MANY = refl
+number-is NO-ROOM = refl
+
+pub rank-injective : (a b : Refusal) → rank a ≡ rank b → a ≡ b
+rank-injective a b e = sym (at-rank a) ∙ ap (λ n. getD precedence n OFFSET) e ∙ at-rank b
+
+pub number-injective : (a b : Refusal) → number a ≡ number b → a ≡ b
+number-injective a b e = rank-injective a b (omega (arith, number-is a, number-is b))
+
+-- of two, the one of the smaller rank
+lower : Refusal → Refusal → Refusal
+lower a b = cond (leb (rank a) (rank b)) a b
+
+lower-assoc : (a b c : Refusal) → lower (lower a b) c ≡ lower a (lower b c)
+unfolding lower
+lower-assoc a b c = go _ _ refl refl
+  where
+    go : (x y : Bool) → leb (rank a) (rank b) ≡ x → leb (rank b) (rank c) ≡ y → lower (lower a b) c ≡ lower a (lower b c)
+    go true true d e = rw (d, e, le-leb (rank a) (rank c) (omega (arith, leb-true (rank a) (rank b) d, leb-true (rank b) (rank c) e)), d)
+    go true false d e = rw (d, e)
+    go false true d e = rw (d, e, d)
+    go false false d e = rw (d, e, lt-leb (rank a) (rank c) (omega (arith, leb-false (rank a) (rank b) d, leb-false (rank b) (rank c) e)))
+
+lower-comm : (a b : Refusal) → lower a b ≡ lower b a
+unfolding lower
+lower-comm a b = go _ _ refl refl
+  where
+    go : (x y : Bool) → leb (rank a) (rank b) ≡ x → leb (rank b) (rank a) ≡ y → lower a b ≡ lower b a
+    go true true d e = rw (d, e) (rank-injective a b (omega (arith, leb-true (rank a) (rank b) d, leb-true (rank b) (rank a) e)))
+    go true false d e = rw (d, e)
+    go false true d e = rw (d, e)
+    go false false d e = absurd (omega (arith, leb-false (rank a) (rank b) d, leb-false (rank b) (rank a) e))
+
+pub earlier-assoc : (a b c : Option Refusal) → earlier (earlier a b) c ≡ earlier a (earlier b c)
+unfolding lower
+earlier-assoc none b c = refl
+earlier-assoc (some a) none c = refl
+earlier-assoc (some a) (some b) none = refl
+earlier-assoc (some a) (some b) (some c) = ap some (lower-assoc a b c)
+
+pub earlier-none-left : (a : Option Refusal) → earlier none a ≡ a
+earlier-none-left a = refl
+
+pub earlier-none-right : (a : Option Refusal) → earlier a none ≡ a
+earlier-none-right none = refl
+earlier-none-right (some a) = refl
+
+pub earlier-comm : (a b : Option Refusal) → earlier a b ≡ earlier b a
+unfolding lower
+earlier-comm none b = sym (earlier-none-right b)
+earlier-comm (some a) none = refl
+earlier-comm (some a) (some b) = ap some (lower-comm a b)
+
+pub earlier-idem : (a : Option Refusal) → earlier a a ≡ a
+earlier-idem none = refl
+earlier-idem (some a) = rw (le-leb (rank a) (rank a) (omega arith))
+
+pub firstOf-append : (a b : List Refusal) → firstOf (a ++ b) ≡ earlier (firstOf a) (firstOf b)
+unfolding firstOf
+firstOf-append [] b = refl
+firstOf-append (r ∷ a) b = ap (earlier (some r)) (firstOf-append a b) ∙ sym (earlier-assoc (some r) (firstOf a) (firstOf b))
+
+one-of : (P : Refusal → Type 0) (a b : Refusal) → P a → P b → P (lower a b)
+unfolding lower
+one-of P a b p q = go (leb (rank a) (rank b))
+  where
+    go : (x : Bool) → P (cond x a b)
+    go true = p
+    go false = q
+
+lower-le : (a b : Refusal) → rank (lower a b) ≤ rank a
+unfolding lower
+lower-le a b = go _ refl
+  where
+    go : (x : Bool) → leb (rank a) (rank b) ≡ x → rank (lower a b) ≤ rank a
+    go true e = rw e (omega arith)
+    go false e = rw e (omega (arith, leb-false (rank a) (rank b) e))
+
+first-in : (faults : List Refusal) (r : Refusal) → firstOf faults ≡ some r → List·Memᴰ r faults
+unfolding firstOf lower
+first-in [] r e = clash (cc)
+first-in (q ∷ faults) r e = go (first-in faults) (firstOf faults) refl e
+  where
+    go : ((r : Refusal) → firstOf faults ≡ some r → List·Memᴰ r faults) → (o : Option Refusal) → firstOf faults ≡ o → earlier (some q) o ≡ some r → List·Memᴰ r (q ∷ faults)
+    go below none d e = let z : r ≡ q = cc in List·Memᴰ·head z
+    go below (some p) d e =
+        let z : lower q p ≡ r = cc in
+        rw z at (one-of (λ x. List·Memᴰ x (q ∷ faults)) q p (List·Memᴰ·head refl) (List·Memᴰ·tail (below p d)))
+
+-- a fault among those given: one is given, of its rank or a smaller one
+some-first : {q : Refusal} {faults : List Refusal} → List·Memᴰ q faults → (r : Refusal) × (firstOf faults ≡ some r) × (rank r ≤ rank q)
+unfolding firstOf lower
+some-first {q} (List·Memᴰ·head {x = x} {xs = xs} e) = go (firstOf xs)
+  where
+    go : (o : Option Refusal) → (r : Refusal) × (earlier (some x) o ≡ some r) × (rank r ≤ rank q)
+    go none = (x, refl, rw e (omega arith))
+    go (some p) = (lower x p, refl, rw e (lower-le x p))
+some-first {q} (List·Memᴰ·tail {x = x} m) =
+    let (p, e, l) = some-first m in
+    (lower x p, rw e, omega (arith, ap rank (lower-comm x p), lower-le p x))
+
+-- the refusal given is r exactly if r is a fault and no fault stands before it on the ladder
+pub first-is : (faults : List Refusal) (r : Refusal) → firstOf faults ≡ some r ↔ (List·Memᴰ r faults × ((q : Refusal) → List·Memᴰ q faults → rank r ≤ rank q))
+first-is faults r = (λ e. (first-in faults r e, least e), given)
+  where
+    least : firstOf faults ≡ some r → (q : Refusal) → List·Memᴰ q faults → rank r ≤ rank q
+    least e q m = let (p, d, l) = some-first m in
+        let z : r ≡ p = cc in omega (arith, ap rank z)
+
+    given : List·Memᴰ r faults × ((q : Refusal) → List·Memᴰ q faults → rank r ≤ rank q) → firstOf faults ≡ some r
+    given (m, h) = let (p, d, l) = some-first m in
+        d ∙ ap some (rank-injective p r (omega (arith, h p (first-in faults p d))))
+
+pub no-fault : (faults : List Refusal) → firstOf faults ≡ none ↔ faults ≡ []
+unfolding firstOf
+no-fault [] = (λ e. refl, λ e. refl)
+no-fault (r ∷ faults) = (λ e. let (p, d, l) = some-first {q = r} (List·Memᴰ·head {xs = faults} refl) in clash (cc), λ e. clash (cc))
+
+module _ {A : Type 0} where
+  pub unless-answered : (a : A) (faults : List Refusal) → (answered a unless faults) ≡ answered a ↔ faults ≡ []
+  unless-answered a faults = (λ e. no-fault faults .0 (go (firstOf faults) e), λ e. rw (no-fault faults .1 e))
+    where
+      go : (o : Option Refusal) → ifSome o refused (answered a) ≡ answered a → o ≡ none
+      go none e = refl
+      go (some r) e = clash (cc)
+
+  pub unless-refused : (o : Outcome A) (faults : List Refusal) (r : Refusal) → (o unless faults) ≡ refused r ↔ firstOf (faultsOf o ++ faults) ≡ some r
+  unless-refused o faults r = (λ e. go o _ refl e, λ e. rw e)
+    where
+      go : (o : Outcome A) (x : Option Refusal) → firstOf (faultsOf o ++ faults) ≡ x → ifSome x refused o ≡ refused r → firstOf (faultsOf o ++ faults) ≡ some r
+      go (answered a) none d e = clash (cc)
+      go (refused q) none d e = let z : q ∷ faults ≡ [] = no-fault (q ∷ faults) .0 d in clash (cc)
+      go (answered a) (some p) d e = cc
+      go (refused q) (some p) d e = cc
+
+  firstOf-unless : (o : Outcome A) (faults : List Refusal) → firstOf (faultsOf (o unless faults)) ≡ firstOf (faultsOf o ++ faults)
+  unfolding firstOf
+  firstOf-unless o faults = go o _ refl
+    where
+      go : (o : Outcome A) (x : Option Refusal) → firstOf (faultsOf o ++ faults) ≡ x → firstOf (faultsOf (ifSome x refused o)) ≡ x
+      go (answered a) none d = refl
+      go (answered a) (some p) d = refl
+      go (refused q) none d = let z : q ∷ faults ≡ [] = no-fault (q ∷ faults) .0 d in clash (cc)
+      go (refused q) (some p) d = refl
+
+  pub unless-unless : (o : Outcome A) (a b : List Refusal) → (o unless a unless b) ≡ (o unless (a ++ b))
+  unless-unless o a b =
+      rw (← append-assoc (faultsOf o) a b, firstOf-append (faultsOf (o unless a)) b, firstOf-unless o a, firstOf-append (faultsOf o ++ a) b)
+      (go (firstOf (faultsOf o ++ a)) (firstOf b))
+    where
+      go : (x y : Option Refusal) → ifSome (earlier x y) refused (ifSome x refused o) ≡ ifSome (earlier x y) refused o
+      go none y = refl
+      go (some p) none = refl
+      go (some p) (some q) = refl
+
+earlier-again : (a b : Option Refusal) → earlier a (earlier b a) ≡ earlier b a
+earlier-again a b = ap (earlier a) (earlier-comm b a) ∙ sym (earlier-assoc a a b) ∙ ap (λ x. earlier x b) (earlier-idem a) ∙ earlier-comm a b
+
+-- an outcome's own refusal counts once
+firstOf-again : {A : Type 0} (o : Outcome A) (f : A → List Refusal) (faults : List Refusal) → firstOf (faultsOf o ++ (faults ++ faultsIn f o)) ≡ firstOf (faults ++ faultsIn f o)
+unfolding firstOf
+firstOf-again (answered a) f faults = refl
+firstOf-again (refused r) f faults = rw (firstOf-append faults (r ∷ [])) (earlier-again (some r) (firstOf faults))
+
+module _ (offset : ℤ) (input : List ℕ) where
+  firstOf-check : firstOf (faultsOf (elementOf input) ++ recordFaults offset input) ≡ firstOf (recordFaults offset input)
+  unfolding recordFaults
+  firstOf-check = simp firstOf-again
+
+  pub check-refused : (r : Refusal) → check offset input ≡ refused r ↔ firstOf (recordFaults offset input) ≡ some r
+  unfolding check
+  check-refused r =
+      let h = unless-refused (elementOf input) (recordFaults offset input) r in
+      (λ e. sym firstOf-check ∙ h .0 e, λ e. h .1 (firstOf-check ∙ e))
+
+  pub check-answered : (e : Element) → check offset input ≡ answered e ↔ (document input ≡ some e) × (recordFaults offset input ≡ [])
+  unfolding check
+  check-answered e = (λ h. go _ refl _ refl (rw firstOf-check at h), λ (d, f). rw (firstOf-check, no-fault _ .1 f, d))
+    where
+      go : (d : Option Element) → document input ≡ d → (x : Option Refusal) → firstOf (recordFaults offset input) ≡ x → ifSome x refused (ifSome d answered (refused MARKUP)) ≡ answered e → (document input ≡ some e) × (recordFaults offset input ≡ [])
+      go none f none g h = clash (cc)
+      go (some d) f none g h = (let z : d ≡ e = cc in f ∙ ap some z, no-fault _ .0 g)
+      go none f (some r) g h = clash (cc)
+      go (some d) f (some r) g h = clash (cc)
