@@ -3,3 +3,5 @@ pub mod WorkedExamples
 pub mod Limits
 pub mod Tests
 pub mod Precedence
+pub mod Digits
+pub mod Calendar
