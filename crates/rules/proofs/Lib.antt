@@ -5,3 +5,4 @@ pub mod Tests
 pub mod Precedence
 pub mod Digits
 pub mod Calendar
+pub mod Utf8
