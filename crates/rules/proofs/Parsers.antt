@@ -14,10 +14,10 @@ use Rattle.rules.specs.Parsers.{Parsed, bad, ok, Parser, next, else, res
 use Rattle.rules.proofs.Tests.{clash}
 
 -- one, and then the other with what is left
-pub next-ok : {A B : Type 0} (x : Parsed A) (k : A → Parser B) {b : B} {r : List ℕ} → next x k ≡ ok b r
-    → (a : A) × (s : List ℕ) × (x ≡ ok a s) × (k a s ≡ ok b r)
-next-ok bad k e = clash (cc)
-next-ok (ok a s) k e = (a, s, refl, e)
+pub next-ok : {A B P : Type 0} (x : Parsed A) (k : A → Parser B) {b : B} {r : List ℕ} → next x k ≡ ok b r
+    → ((a : A) (s : List ℕ) → x ≡ ok a s → k a s ≡ ok b r → P) → P
+next-ok bad k e f = clash (cc)
+next-ok (ok a s) k e f = f a s refl e
 
 -- one and then only a value put together from what it read
 pub map-ok : {A B : Type 0} (x : Parsed A) (f : A → B) {b : B} {r : List ℕ} → next x (λ a. pure (f a)) ≡ ok b r → (a : A) × (x ≡ ok a r) × (f a ≡ b)
@@ -33,6 +33,18 @@ cons-ok (ok a s) p e = let (l, f, g) = map-ok (p s) (λ l. a ∷ l) e in (a, s, 
 pub else-ok : {A : Type 0} (x y : Parsed A) {a : A} {r : List ℕ} → else x y ≡ ok a r → (x ≡ ok a r) ⊎ (y ≡ ok a r)
 else-ok bad y e = inr e
 else-ok (ok a s) y e = inl e
+
+-- one and others after it, or nothing
+pub data More {A : Type 0} (x : Parsed A) (p : Parser (List A)) (s : List ℕ) (as′ : List A) (r : List ℕ) : Type 0 where
+  more : (a : A) (t : List ℕ) (l : List A) → x ≡ ok a t → p t ≡ ok l r → a ∷ l ≡ as′ → More x p s as′ r
+  done : as′ ≡ [] → s ≡ r → More x p s as′ r
+
+pub more-ok : {A : Type 0} (x : Parsed A) (p : Parser (List A)) (s : List ℕ) {as′ : List A} {r : List ℕ} → else (next x (λ a. p >>= (λ as′. pure (a ∷ as′)))) (ok [] s) ≡ ok as′ r
+    → More x p s as′ r
+more-ok x p s e = elim (else-ok (next x (λ a. p >>= (λ as′. pure (a ∷ as′)))) _ e) [
+  | inl f ↦ let (a, t, l, g, h, z) = cons-ok x p f in more a t l g h z
+  | inr f ↦ done (cc) (cc)
+]
 
 pub guard-ok : (b : Bool) (s : List ℕ) {u : Unit {0}} {r : List ℕ} → guard b s ≡ ok u r → (b ≡ true) × (s ≡ r)
 guard-ok true s e = (refl, cc)
@@ -59,13 +71,13 @@ front-cons : {p : ℕ → Bool} {s t cs r : List ℕ} {c : ℕ} → (s ≡ c ∷
 unfolding every
 front-cons {c = c} (e, h) f = record { parts = e ∙ ap (λ x. c ∷ x) (f .parts); all = rw h (f .all) }
 
-front-none : {p : ℕ → Bool} {s cs r : List ℕ} → ok [] s ≡ ok cs r → Front p s cs r × (length cs ≡ 0)
+front-none : {p : ℕ → Bool} {s cs r : List ℕ} → cs ≡ [] → s ≡ r → Front p s cs r × (length cs ≡ 0)
 unfolding every
-front-none {cs = cs} e = let z : [] ≡ cs = cc in (record { parts = cc; all = rw (← z) }, rw (← z))
+front-none z e = rw z (record { parts = e; all = refl }, refl)
 
 pub times-ok : (n : ℕ) (p : ℕ → Bool) (s : List ℕ) {cs r : List ℕ} → times n p s ≡ ok cs r → Front p s cs r × (length cs ≡ n)
 unfolding times
-times-ok zero p s e = front-none e
+times-ok zero p s e = front-none (cc) (cc)
 times-ok (suc n) p s e =
     let (c, t, ds, f, g, z) = cons-ok (one p s) (times n p) e in
     let (h, k) = times-ok n p t g in
@@ -73,17 +85,14 @@ times-ok (suc n) p s e =
 
 pub upTo-ok : (n : ℕ) (p : ℕ → Bool) (s : List ℕ) {cs r : List ℕ} → upTo n p s ≡ ok cs r → Front p s cs r × (length cs ≤ n)
 unfolding upTo
-upTo-ok zero p s e = let (f, h) = front-none e in (f, omega arith)
-upTo-ok (suc n) p s {cs} {r} e = go (λ t cs r. upTo-ok n p t) (else-ok _ _ e)
-  where
-    go : ((t cs r : List ℕ) → upTo n p t ≡ ok cs r → Front p t cs r × (length cs ≤ n))
-        → (next (one p s) (λ c. upTo n p >>= (λ cs. pure (c ∷ cs))) ≡ ok cs r) ⊎ (ok [] s ≡ ok cs r)
-        → Front p s cs r × (length cs ≤ suc n)
-    go below (inl e) =
-        let (c, t, ds, f, g, z) = cons-ok (one p s) (upTo n p) e in
-        let (h, k) = below t ds r g in
-        rw (← z) (front-cons (one-ok p s f) h, omega arith)
-    go below (inr e) = let (f, h) = front-none e in (f, omega arith)
+upTo-ok zero p s {cs} {r} e =
+    let z : cs ≡ [] = cc in
+    let f : s ≡ r = cc in
+    let (g, h) = front-none z f in (g, omega arith)
+upTo-ok (suc n) p s e = elim (more-ok (one p s) (upTo n p) s e) [
+  | more c t ds f g z ↦ let (h, k) = upTo-ok n p t g in rw (← z) (front-cons (one-ok p s f) h, omega arith)
+  | done z f ↦ let (g, h) = front-none z f in (g, omega arith)
+]
 
 -- the whole text is read
 pub whole-ok : {A : Type 0} (p : Parser A) (s : List ℕ) {a : A} → whole p s ≡ some a → p s ≡ ok a []

@@ -11,7 +11,7 @@ use lib.Dec.{leb}
 use lib.ListN.{getD}
 use lib.IntN.{ℤ}
 use Rattle.rules.specs.Basics.{ifSome}
-use Rattle.rules.specs.Refusal.{Refusal, OFFSET, TOO-LONG, NOT-UTF-8, MARKUP, TYPE, SHAPE, VALUE, RULE, UNKNOWN-BOUND, TOO-MANY, NO-ROOM, number, precedence, rankIn, rank, earlier, firstOf, Outcome, answered, refused, faultsIn, faultsOf, _unless_}
+use Rattle.rules.specs.Refusal.{Refusal, OFFSET, TOO-LONG, NOT-UTF-8, MARKUP, TYPE, SHAPE, VALUE, RULE, UNKNOWN-BOUND, TOO-MANY, NO-ROOM, number, precedence, rankIn, rank, earlier, firstOf, Outcome, answered, refused, faultsIn, faultsOf, _unless_, _when_}
 use Rattle.rules.specs.Markup.{Element, document}
 use Rattle.rules.specs.Check.{elementOf, recordFaults, check}
 use Rattle.rules.proofs.Tests.{clash}
@@ -161,32 +161,38 @@ unfolding firstOf
 no-fault [] = (λ e. refl, λ e. refl)
 no-fault (r ∷ faults) = (λ e. let (p, d, l) = some-first {q = r} (List·Memᴰ·head {xs = faults} refl) in clash (cc), λ e. clash (cc))
 
+pub when-none : (r : Refusal) (b : Bool) → (r when b) ≡ [] → b ≡ false
+when-none r true e = clash (cc)
+when-none r false e = refl
+
+-- refused by the first of all faults, or answered and without fault
+data Unless {A : Type 0} (o : Outcome A) (faults : List Refusal) : Type 0 where
+  faulty : (r : Refusal) → firstOf (faultsOf o ++ faults) ≡ some r → (o unless faults) ≡ refused r → Unless o faults
+  faultless : (a : A) → o ≡ answered a → faults ≡ [] → (o unless faults) ≡ answered a → Unless o faults
+
 module _ {A : Type 0} where
-  pub unless-answered : (a : A) (faults : List Refusal) → (answered a unless faults) ≡ answered a ↔ faults ≡ []
-  unless-answered a faults = (λ e. no-fault faults .0 (go (firstOf faults) e), λ e. rw (no-fault faults .1 e))
+  unless-cases : (o : Outcome A) (faults : List Refusal) → Unless o faults
+  unless-cases o faults = go o _ refl
     where
-      go : (o : Option Refusal) → ifSome o refused (answered a) ≡ answered a → o ≡ none
-      go none e = refl
-      go (some r) e = clash (cc)
+      go : (o : Outcome A) (x : Option Refusal) → firstOf (faultsOf o ++ faults) ≡ x → Unless o faults
+      go (answered a) none d = faultless a refl (no-fault faults .0 d) (rw d)
+      go (refused q) none d = let z : q ∷ faults ≡ [] = no-fault (q ∷ faults) .0 d in clash (cc)
+      go (answered a) (some r) d = faulty r d (rw d)
+      go (refused q) (some r) d = faulty r d (rw d)
+
+  pub unless-answered : (o : Outcome A) (faults : List Refusal) (a : A) → (o unless faults) ≡ answered a ↔ (o ≡ answered a) × (faults ≡ [])
+  unfolding firstOf
+  unless-answered o faults a = (λ e. elim (unless-cases o faults) [ faulty r f g ↦ clash (cc) | faultless b f g h ↦ (cc, g) ], λ (e, f). rw (e, f))
+
+  pub answered-unless : (a : A) (faults : List Refusal) → (answered a unless faults) ≡ answered a ↔ faults ≡ []
+  answered-unless a faults = let h = unless-answered (answered a) faults a in (λ e. h .0 e .1, λ e. h .1 (refl, e))
 
   pub unless-refused : (o : Outcome A) (faults : List Refusal) (r : Refusal) → (o unless faults) ≡ refused r ↔ firstOf (faultsOf o ++ faults) ≡ some r
-  unless-refused o faults r = (λ e. go o _ refl e, λ e. rw e)
-    where
-      go : (o : Outcome A) (x : Option Refusal) → firstOf (faultsOf o ++ faults) ≡ x → ifSome x refused o ≡ refused r → firstOf (faultsOf o ++ faults) ≡ some r
-      go (answered a) none d e = clash (cc)
-      go (refused q) none d e = let z : q ∷ faults ≡ [] = no-fault (q ∷ faults) .0 d in clash (cc)
-      go (answered a) (some p) d e = cc
-      go (refused q) (some p) d e = cc
+  unless-refused o faults r = (λ e. elim (unless-cases o faults) [ faulty q f g ↦ cc | faultless a f g h ↦ clash (cc) ], λ e. rw e)
 
   firstOf-unless : (o : Outcome A) (faults : List Refusal) → firstOf (faultsOf (o unless faults)) ≡ firstOf (faultsOf o ++ faults)
   unfolding firstOf
-  firstOf-unless o faults = go o _ refl
-    where
-      go : (o : Outcome A) (x : Option Refusal) → firstOf (faultsOf o ++ faults) ≡ x → firstOf (faultsOf (ifSome x refused o)) ≡ x
-      go (answered a) none d = refl
-      go (answered a) (some p) d = refl
-      go (refused q) none d = let z : q ∷ faults ≡ [] = no-fault (q ∷ faults) .0 d in clash (cc)
-      go (refused q) (some p) d = refl
+  firstOf-unless o faults = elim (unless-cases o faults) [ faulty r f g ↦ rw (g, f) | faultless a f g h ↦ rw (h, f, g) ]
 
   pub unless-unless : (o : Outcome A) (a b : List Refusal) → (o unless a unless b) ≡ (o unless (a ++ b))
   unless-unless o a b =
@@ -220,10 +226,10 @@ module _ (offset : ℤ) (input : List ℕ) where
 
   pub check-answered : (e : Element) → check offset input ≡ answered e ↔ (document input ≡ some e) × (recordFaults offset input ≡ [])
   unfolding check
-  check-answered e = (λ h. go _ refl _ refl (rw firstOf-check at h), λ (d, f). rw (firstOf-check, no-fault _ .1 f, d))
+  check-answered e =
+      let h = unless-answered (elementOf input) (recordFaults offset input) e in
+      (λ f. (found (document input) (h .0 f .0), h .0 f .1), λ (d, f). h .1 (rw d, f))
     where
-      go : (d : Option Element) → document input ≡ d → (x : Option Refusal) → firstOf (recordFaults offset input) ≡ x → ifSome x refused (ifSome d answered (refused MARKUP)) ≡ answered e → (document input ≡ some e) × (recordFaults offset input ≡ [])
-      go none f none g h = clash (cc)
-      go (some d) f none g h = (let z : d ≡ e = cc in f ∙ ap some z, no-fault _ .0 g)
-      go none f (some r) g h = clash (cc)
-      go (some d) f (some r) g h = clash (cc)
+      found : (d : Option Element) → ifSome d answered (refused MARKUP) ≡ answered e → d ≡ some e
+      found none f = clash (cc)
+      found (some d) f = cc

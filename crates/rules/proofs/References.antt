@@ -57,20 +57,14 @@ cons-decoded s t cs r (inr e) d = inr (rw e)
 pub text-decoded : (f : ℕ) (s : List ℕ) {cs r : List ℕ} → text f s ≡ ok cs r → Decoded s cs r
 unfolding text
 text-decoded zero s e = clash (cc)
-text-decoded (suc f) s {cs} {r} e = go (λ t cs r. text-decoded f t) (else-ok _ _ e)
-  where
-    go : ((t cs r : List ℕ) → text f t ≡ ok cs r → Decoded t cs r)
-        → (next (byte 34 s) (λ b. pure []) ≡ ok cs r) ⊎ (next (char s) (λ c s. next (text f s) (λ cs. pure (c ∷ cs))) ≡ ok cs r)
-        → Decoded s cs r
-    go below (inl e) = let (b, h, z) = map-ok (byte 34 s) (λ b. []) e in rw (← z) (inl (byte-ok 34 s h))
-    go below (inr e) = let (c, t, ds, g, h, z) = cons-ok (char s) (text f) e in rw (← z) (cons-decoded s t ds r (char-ok s g) (below t ds r h))
+text-decoded (suc f) s {cs} {r} e = elim (else-ok (next (byte 34 s) (λ b. pure [])) _ e) [
+  | inl e ↦ let (b, h, z) = map-ok (byte 34 s) (λ b. []) e in rw (← z) (inl (byte-ok 34 s h))
+  | inr e ↦ let (c, t, ds, g, h, z) = cons-ok (char s) (text f) e in rw (← z) (cons-decoded s t ds r (char-ok s g) (text-decoded f t h))
+]
 
 pub value-decoded : (s : List ℕ) {cs r : List ℕ} → value s ≡ ok cs r → (s ≡ 34 ∷ cs ++ 34 ∷ r) ⊎ (exists isReferenced cs ≡ true)
 unfolding value
-value-decoded s {cs} {r} e =
-    let (b, t, f, g) = next-ok (byte 34 s) (λ b t. text (length t) t) e in
-    go (byte-ok 34 s f) (text-decoded (length t) t g)
-  where
-    go : {t : List ℕ} → s ≡ 34 ∷ t → Decoded t cs r → (s ≡ 34 ∷ cs ++ 34 ∷ r) ⊎ (exists isReferenced cs ≡ true)
-    go q (inl d) = inl (q ∙ ap (λ x. 34 ∷ x) d)
-    go q (inr d) = inr d
+value-decoded s e = next-ok (byte 34 s) _ e λ b t f g. elim (text-decoded (length t) t g) [
+  | inl d ↦ inl (byte-ok 34 s f ∙ ap (λ x. 34 ∷ x) d)
+  | inr d ↦ inr d
+]
