@@ -56,6 +56,13 @@ days-of-years-most n h = omega (arith, days-of-years n)
 pub days-before-year-most : (y : ℕ) → y ≤ 9999 → daysBeforeYear y ≤ 3_651_694
 days-before-year-most y h = omega (arith, days-before-year y)
 
+pub year-least : (y : ℕ) → 365 ≤ yearLength y
+year-least y = go (isLeap y)
+  where
+    go : (leap : Bool) → 365 ≤ cond leap 366 365
+    go true = omega arith
+    go false = omega arith
+
 pub months-make-year : (y : ℕ) → daysOfMonths y 12 ≡ yearLength y
 unfolding daysOfMonths monthLength
 months-make-year y = go (isLeap y)

@@ -8,3 +8,4 @@ pub mod Digits
 pub mod Calendar
 pub mod Utf8
 pub mod References
+pub mod Ticks

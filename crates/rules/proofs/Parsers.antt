@@ -3,14 +3,14 @@ use Prim.Native.Nat.{ℕ, zero, suc, _≤_}
 use mathlib.Core.Path.{_≡_, refl, _∙_, ap}
 use mathlib.Core.Logic.{_⊎_, inl, inr}
 use mathlib.Core.Bool.{Bool, true, false, cond}
-use mathlib.Core.List.{List, [], _∷_, _++_}
+use mathlib.Core.List.{List, [], _∷_}
 use mathlib.Core.Option.{some}
 use native.Mathlib.Omega.{arith}
 use borrow.Author.Tests.{eqb-true}
 use lib.Dec.{eqb}
 use lib.ListN.{length}
 use Rattle.rules.specs.Basics.{every}
-use Rattle.rules.specs.Parsers.{Parsed, bad, ok, Parser, next, else, result, pure, guard, _>>=_, _>>_, one, times, upTo, byte, finish, whole}
+use Rattle.rules.specs.Parsers.{Parsed, bad, ok, Parser, next, else, result, pure, guard, _>>=_, _>>_, one, upTo, byte, finish, whole}
 use Rattle.rules.proofs.Tests.{clash}
 
 -- one, and then the other with what is left
@@ -35,19 +35,19 @@ else-ok bad y e = inr e
 else-ok (ok a s) y e = inl e
 
 -- one and others after it, or nothing
-pub data More {A : Type 0} (x : Parsed A) (p : Parser (List A)) (s : List ℕ) (as′ : List A) (r : List ℕ) : Type 0 where
-  more : (a : A) (t : List ℕ) (l : List A) → x ≡ ok a t → p t ≡ ok l r → a ∷ l ≡ as′ → More x p s as′ r
-  done : as′ ≡ [] → s ≡ r → More x p s as′ r
+pub data More {A : Type 0} (x : Parsed A) (p : Parser (List A)) (as′ : List A) (r : List ℕ) : Type 0 where
+  more : (a : A) (t : List ℕ) (l : List A) → x ≡ ok a t → p t ≡ ok l r → a ∷ l ≡ as′ → More x p as′ r
+  done : as′ ≡ [] → More x p as′ r
 
 pub more-ok : {A : Type 0} (x : Parsed A) (p : Parser (List A)) (s : List ℕ) {as′ : List A} {r : List ℕ} → else (next x (λ a. p >>= (λ as′. pure (a ∷ as′)))) (ok [] s) ≡ ok as′ r
-    → More x p s as′ r
+    → More x p as′ r
 more-ok x p s e = elim (else-ok (next x (λ a. p >>= (λ as′. pure (a ∷ as′)))) _ e) [
   | inl f ↦ let (a, t, l, g, h, z) = cons-ok x p f in more a t l g h z
-  | inr f ↦ done (cc) (cc)
+  | inr f ↦ done (cc)
 ]
 
-pub guard-ok : (b : Bool) (s : List ℕ) {u : Unit {0}} {r : List ℕ} → guard b s ≡ ok u r → (b ≡ true) × (s ≡ r)
-guard-ok true s e = (refl, cc)
+pub guard-ok : (b : Bool) (s : List ℕ) {u : Unit {0}} {r : List ℕ} → guard b s ≡ ok u r → b ≡ true
+guard-ok true s e = refl
 guard-ok false s e = clash (cc)
 
 pub one-ok : (p : ℕ → Bool) (s : List ℕ) {c : ℕ} {r : List ℕ} → one p s ≡ ok c r → (s ≡ c ∷ r) × (p c ≡ true)
@@ -62,36 +62,12 @@ one-ok p (d ∷ s) {c} {r} e = go _ refl e
 pub byte-ok : (b : ℕ) (s : List ℕ) {c : ℕ} {r : List ℕ} → byte b s ≡ ok c r → s ≡ b ∷ r
 byte-ok b s {c} {r} e = let (f, g) = one-ok (λ c. eqb c b) s e in f ∙ ap (λ x. x ∷ r) (eqb-true c b g)
 
--- bytes cs at the front of s, for each of which p holds, and then r
-pub record Front (p : ℕ → Bool) (s cs r : List ℕ) : Type 0 where
-  pub parts : s ≡ cs ++ r
-  pub all : every p cs ≡ true
-
-front-cons : {p : ℕ → Bool} {s t cs r : List ℕ} {c : ℕ} → (s ≡ c ∷ t) × (p c ≡ true) → Front p t cs r → Front p s (c ∷ cs) r
-unfolding every
-front-cons {c = c} (e, h) f = record { parts = e ∙ ap (λ x. c ∷ x) (f .parts); all = rw h (f .all) }
-
-front-none : {p : ℕ → Bool} {s cs r : List ℕ} → cs ≡ [] → s ≡ r → Front p s cs r × (length cs ≡ 0)
-unfolding every
-front-none z e = rw z (record { parts = e; all = refl }, refl)
-
-pub times-ok : (n : ℕ) (p : ℕ → Bool) (s : List ℕ) {cs r : List ℕ} → times n p s ≡ ok cs r → Front p s cs r × (length cs ≡ n)
-unfolding times
-times-ok zero p s e = front-none (cc) (cc)
-times-ok (suc n) p s e =
-    let (c, t, ds, f, g, z) = cons-ok (one p s) (times n p) e in
-    let (h, k) = times-ok n p t g in
-    rw (← z) (front-cons (one-ok p s f) h, ap suc k)
-
-pub upTo-ok : (n : ℕ) (p : ℕ → Bool) (s : List ℕ) {cs r : List ℕ} → upTo n p s ≡ ok cs r → Front p s cs r × (length cs ≤ n)
-unfolding upTo
-upTo-ok zero p s {cs} {r} e =
-    let z : cs ≡ [] = cc in
-    let f : s ≡ r = cc in
-    let (g, h) = front-none z f in (g, omega arith)
+pub upTo-ok : (n : ℕ) (p : ℕ → Bool) (s : List ℕ) {cs r : List ℕ} → upTo n p s ≡ ok cs r → (length cs ≤ n) × (every p cs ≡ true)
+unfolding upTo every
+upTo-ok zero p s {cs} e = let z : cs ≡ [] = cc in rw z (omega arith, refl)
 upTo-ok (suc n) p s e = elim (more-ok (one p s) (upTo n p) s e) [
-  | more c t ds f g z ↦ let (h, k) = upTo-ok n p t g in rw (← z) (front-cons (one-ok p s f) h, omega arith)
-  | done z f ↦ let (g, h) = front-none z f in (g, omega arith)
+  | more c t ds f g z ↦ let (h, k) = upTo-ok n p t g in rw (← z) (omega arith, rw (one-ok p s f .1) k)
+  | done z ↦ rw z (omega arith, refl)
 ]
 
 -- the whole text is read
