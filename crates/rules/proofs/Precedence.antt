@@ -16,38 +16,26 @@ use Rattle.rules.specs.Markup.{Element, document}
 use Rattle.rules.specs.Check.{elementOf, recordFaults, check}
 use Rattle.rules.proofs.Tests.{clash}
 
--- the ladder holds each refusal at its rank
-at-rank : (r : Refusal) → getD precedence (rank r) OFFSET ≡ r
+-- the ladder holds each refusal at its rank, and the numbers follow the ladder
+on-ladder : (r : Refusal) → (getD precedence (rank r) OFFSET ≡ r) × (number r ≡ suc (rank r))
 unfolding rankIn
-at-rank OFFSET = refl
-at-rank TOO-LONG = refl
-at-rank NOT-UTF-8 = refl
-at-rank MARKUP = refl
-at-rank TYPE = refl
-at-rank SHAPE = refl
-at-rank VALUE = refl
-at-rank RULE = refl
-at-rank UNKNOWN-BOUND = refl
-at-rank TOO-MANY = refl
-at-rank NO-ROOM = refl
-
--- the numbers follow the ladder
-pub number-is : (r : Refusal) → number r ≡ suc (rank r)
-unfolding rankIn
-number-is OFFSET = refl
-number-is TOO-LONG = refl
-number-is NOT-UTF-8 = refl
-number-is MARKUP = refl
-number-is TYPE = refl
-number-is SHAPE = refl
-number-is VALUE = refl
-number-is RULE = refl
-number-is UNKNOWN-BOUND = refl
-number-is TOO-MANY = refl
-number-is NO-ROOM = refl
+on-ladder OFFSET = (refl, refl)
+on-ladder TOO-LONG = (refl, refl)
+on-ladder NOT-UTF-8 = (refl, refl)
+on-ladder MARKUP = (refl, refl)
+on-ladder TYPE = (refl, refl)
+on-ladder SHAPE = (refl, refl)
+on-ladder VALUE = (refl, refl)
+on-ladder RULE = (refl, refl)
+on-ladder UNKNOWN-BOUND = (refl, refl)
+on-ladder TOO-MANY = (refl, refl)
+on-ladder NO-ROOM = (refl, refl)
 
 pub rank-injective : (a b : Refusal) → rank a ≡ rank b → a ≡ b
-rank-injective a b e = sym (at-rank a) ∙ ap (λ n. getD precedence n OFFSET) e ∙ at-rank b
+rank-injective a b e = sym (on-ladder a .0) ∙ ap (λ n. getD precedence n OFFSET) e ∙ on-ladder b .0
+
+pub number-is : (r : Refusal) → number r ≡ suc (rank r)
+number-is r = on-ladder r .1
 
 pub number-injective : (a b : Refusal) → number a ≡ number b → a ≡ b
 number-injective a b e = rank-injective a b (omega (arith, number-is a, number-is b))
