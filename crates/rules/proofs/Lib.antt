@@ -1,3 +1,6 @@
+pub mod Order
+pub mod Edges
+pub mod Canonical
 pub mod Opened
 pub mod WorkedExamples
 pub mod Limits

@@ -1,0 +1,70 @@
+-- An interval by its edges: the places from its first on, and before its end, the next place after its last.
+use mathlib.Core.Path.{_≡_, refl, sym, _∙_, ap}
+use mathlib.Core.Bool.{Bool, true, false, not, _&&_, _||_, and-false}
+use mathlib.Core.Option.{Option, none, some}
+use lib.IntN.{ℤ, predℤ, suc-pred, pred-suc}
+use Rattle.rules.specs.Basics.{ifSome}
+use Rattle.rules.specs.Sets.{Place, at, gapAfter, nextPlace, previousPlace, _isBefore_, Bound, unbounded, openAt, closedAt, Interval, _upto_, firstPlace, lastPlace, fromLow, toHigh, holds}
+use Rattle.rules.specs.Stretches.{lowAt, highAt}
+use Rattle.rules.proofs.Order.{places, before-next}
+
+-- the next place after the last up to a high bound, if there is one
+abbrev pub endPlace : Bound → Option Place
+endPlace unbounded = none
+endPlace (openAt t) = some (at t)
+endPlace (closedAt t) = some (gapAfter t)
+
+-- the two edges of an interval: its first place and its end, if it has them
+abbrev pub firstOf : Interval → Option Place
+firstOf s = firstPlace (s .low)
+
+abbrev pub endOf : Interval → Option Place
+endOf s = endPlace (s .high)
+
+-- the place is not before the first; it is before the end; it is past the end
+abbrev pub since : Option Place → Place → Bool
+since f x = ifSome f (λ a. not (x isBefore a)) true
+
+abbrev pub until : Option Place → Place → Bool
+until e x = ifSome e (λ n. x isBefore n) true
+
+abbrev pub past : Option Place → Place → Bool
+past e x = ifSome e (λ n. n isBefore x) false
+
+pub to-end : (h : Bound) (x : Place) → toHigh h x ≡ until (endPlace h) x
+to-end unbounded x = refl
+to-end (openAt t) x = sym (rw suc-pred at (before-next x (gapAfter (predℤ t))))
+to-end (closedAt t) x = sym (before-next x (at t))
+
+pub half-open : (s : Interval) (x : Place) → holds s x ≡ since (firstOf s) x && until (endOf s) x
+half-open s x = ap (fromLow (s .low) x &&_) (to-end (s .high) x)
+
+both : (a b : Bool) → a && b ≡ true → (a ≡ true) × (b ≡ true)
+both true b h = (refl, h)
+both false b h = (h, cc)
+
+pub inside : (s : Interval) (x : Place) → holds s x ≡ true → (since (firstOf s) x ≡ true) × (until (endOf s) x ≡ true)
+inside s x h = both (since (firstOf s) x) (until (endOf s) x) (sym (half-open s x) ∙ h)
+
+pub is-inside : (s : Interval) (x : Place) → since (firstOf s) x ≡ true → until (endOf s) x ≡ true → holds s x ≡ true
+is-inside s x h k = half-open s x ∙ rw (h, k) refl
+
+pub not-until : (s : Interval) (x : Place) → until (endOf s) x ≡ false → holds s x ≡ false
+not-until s x h = half-open s x ∙ rw h (and-false (since (firstOf s) x))
+
+pub first-low : (x : Place) → firstPlace (lowAt x) ≡ some x
+first-low (at t) = refl
+first-low (gapAfter t) = refl
+
+pub last-high : (x : Place) → lastPlace (highAt x) ≡ some x
+last-high (at t) = refl
+last-high (gapAfter t) = rw pred-suc refl
+
+-- the high that ends before a place has its end there
+pub end-high : (x : Place) → endPlace (highAt (previousPlace x)) ≡ some x
+end-high (at t) = rw suc-pred refl
+end-high (gapAfter t) = refl
+
+pub turned : {a b : Bool} → (a ≡ false → b ≡ false) → b ≡ true → a ≡ true
+turned {a = true} {b} f h = refl
+turned {a = false} {b} f h = sym (f refl) ∙ h
