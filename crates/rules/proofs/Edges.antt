@@ -65,6 +65,37 @@ pub end-high : (x : Place) → endPlace (highAt (previousPlace x)) ≡ some x
 end-high (at t) = rw suc-pred refl
 end-high (gapAfter t) = refl
 
+-- a stretch is followed by what is at its end
+pub after-end : (p : Place → Bool) (h : Bound) → ifSome (lastPlace h) (λ x. p (nextPlace x)) false ≡ ifSome (endPlace h) p false
+after-end p unbounded = refl
+after-end p (openAt t) = rw suc-pred
+after-end p (closedAt t) = refl
+
+abbrev lowFrom : Option Place → Bound
+lowFrom none = unbounded
+lowFrom (some x) = lowAt x
+
+abbrev highBefore : Option Place → Bound
+highBefore none = unbounded
+highBefore (some x) = highAt (previousPlace x)
+
+low-from : (l : Bound) → l ≡ lowFrom (firstPlace l)
+low-from unbounded = refl
+low-from (openAt t) = refl
+low-from (closedAt t) = refl
+
+high-before : (h : Bound) → h ≡ highBefore (endPlace h)
+high-before unbounded = refl
+high-before (openAt t) = rw suc-pred
+high-before (closedAt t) = refl
+
+-- an interval is known by its edges
+pub by-edges : (s r : Interval) → firstOf s ≡ firstOf r → endOf s ≡ endOf r → s ≡ r
+by-edges s r e d =
+    let l : s .low ≡ r .low = low-from (s .low) ∙ ap lowFrom e ∙ sym (low-from (r .low)) in
+    let h : s .high ≡ r .high = high-before (s .high) ∙ ap highBefore d ∙ sym (high-before (r .high)) in
+    λ i. l i upto h i
+
 pub turned : {a b : Bool} → (a ≡ false → b ≡ false) → b ≡ true → a ≡ true
 turned {a = true} {b} f h = refl
 turned {a = false} {b} f h = sym (f refl) ∙ h

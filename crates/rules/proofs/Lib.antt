@@ -1,6 +1,7 @@
 pub mod Order
 pub mod Edges
 pub mod Canonical
+pub mod Unique
 pub mod Opened
 pub mod WorkedExamples
 pub mod Limits
