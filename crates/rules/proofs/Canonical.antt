@@ -17,14 +17,14 @@ Opens f e = ifSome f (until e) true ≡ true
 abbrev pub Parts : (end first : Option Place) → Type 0
 Parts e f = ifSome f (past e) false ≡ true
 
-abbrev pub PartsFrom : Interval → List Interval → Type 0
-PartsFrom s [] = Unit {0}
-PartsFrom s (r ∷ rs) = Parts (endOf s) (firstOf r)
+abbrev pub Follows : (end : Option Place) → List Interval → Type 0
+Follows e [] = Unit {0}
+Follows e (s ∷ ss) = Parts e (firstOf s)
 
 -- from low to high, each interval has a place, and there is a place between it and the following one that is in neither
 abbrev pub Canonical : List Interval → Type 0
 Canonical [] = Unit {0}
-Canonical (s ∷ ss) = Opens (firstOf s) (endOf s) × PartsFrom s ss × Canonical ss
+Canonical (s ∷ ss) = Opens (firstOf s) (endOf s) × Follows (endOf s) ss × Canonical ss
 
 opens-until : (f e : Option Place) (x : Place) → Opens f e → since f x ≡ false → past e x ≡ false
 opens-until none e x o h = cc

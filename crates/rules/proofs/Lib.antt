@@ -3,6 +3,7 @@ pub mod Edges
 pub mod Canonical
 pub mod Unique
 pub mod Changes
+pub mod Drawing
 pub mod Opened
 pub mod WorkedExamples
 pub mod Limits

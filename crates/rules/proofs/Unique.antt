@@ -8,7 +8,7 @@ use Rattle.rules.specs.Sets.{Place, previousPlace, _isBefore_, Interval,
 use Rattle.rules.proofs.Order.{places, before-irreflexive, previous-is}
 use Rattle.rules.proofs.Edges.{firstOf, endOf, since, until, inside, is-inside, after-end, by-edges, turned}
 
-since-up : (f : Option Place) (x y : Place) → x isBefore y ≡ true → since f x ≡ true → since f y ≡ true
+pub since-up : (f : Option Place) (x y : Place) → x isBefore y ≡ true → since f x ≡ true → since f y ≡ true
 since-up none x y h k = refl
 since-up (some f) x y h k = omega places
 
