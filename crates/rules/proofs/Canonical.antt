@@ -7,7 +7,7 @@ use lib.IntN.{pos, suc-pred}
 use Rattle.rules.specs.Basics.{ifSome, exists}
 use Rattle.rules.specs.Sets.{Place, at, gapAfter, nextPlace, previousPlace, _isBefore_, Bound, unbounded, openAt, closedAt, Interval, firstPlace, lastPlace, fromLow, toHigh, holds, IsStretch, isIn, ComesBefore, AllStretches, Lists}
 use Rattle.rules.proofs.Order.{places, before-irreflexive, next-is, previous-is}
-use Rattle.rules.proofs.Edges.{endPlace, firstOf, endOf, since, until, past, inside, is-inside, not-until, turned}
+use Rattle.rules.proofs.Edges.{endPlace, firstEdge, endEdge, since, until, past, inside, is-inside, not-until, turned}
 
 -- the first place is before the end
 abbrev pub Opens : (first end : Option Place) → Type 0
@@ -19,12 +19,12 @@ Parts e f = ifSome f (past e) false ≡ true
 
 abbrev pub Follows : (end : Option Place) → List Interval → Type 0
 Follows e [] = Unit {0}
-Follows e (s ∷ ss) = Parts e (firstOf s)
+Follows e (s ∷ ss) = Parts e (firstEdge s)
 
 -- from low to high, each interval has a place, and there is a place between it and the following one that is in neither
 abbrev pub Canonical : List Interval → Type 0
 Canonical [] = Unit {0}
-Canonical (s ∷ ss) = Opens (firstOf s) (endOf s) × Follows (endOf s) ss × Canonical ss
+Canonical (s ∷ ss) = Opens (firstEdge s) (endEdge s) × Follows (endEdge s) ss × Canonical ss
 
 opens-until : (f e : Option Place) (x : Place) → Opens f e → since f x ≡ false → past e x ≡ false
 opens-until none e x o h = cc
@@ -37,12 +37,12 @@ parts-since none (some f) x o h = cc
 parts-since (some n) (some f) x o h = omega places
 
 -- what is not past the end of one is in none of those that follow it
-not-past : (s : Interval) (ss : List Interval) → Canonical (s ∷ ss) → (y : Place) → past (endOf s) y ≡ false → isIn ss y ≡ false
+not-past : (s : Interval) (ss : List Interval) → Canonical (s ∷ ss) → (y : Place) → past (endEdge s) y ≡ false → isIn ss y ≡ false
 unfolding exists
 not-past s [] c y h = refl
 not-past s (r ∷ rs) c y h =
-    let g : since (firstOf r) y ≡ false = parts-since (endOf s) (firstOf r) y (c .1) h in
-    rw (g, not-past r rs (c .2) y (opens-until (firstOf r) (endOf r) y (c .2 .0) g)) refl
+    let g : since (firstEdge r) y ≡ false = parts-since (endEdge s) (firstEdge r) y (c .1) h in
+    rw (g, not-past r rs (c .2) y (opens-until (firstEdge r) (endEdge r) y (c .2 .0) g)) refl
 
 place-in : (f e : Option Place) → Opens f e → (x : Place) × (since f x ≡ true) × (until e x ≡ true)
 place-in none none o = (at (pos 0), refl, refl)
@@ -56,7 +56,7 @@ between (some n) x y h k = omega places
 
 comes-before : (s : Interval) (ss : List Interval) → Canonical (s ∷ ss) → ComesBefore s ss
 comes-before s ss c x y i j =
-    between (endOf s) x y (inside s x i .1) (turned (not-past s ss c y) j)
+    between (endEdge s) x y (inside s x i .1) (turned (not-past s ss c y) j)
 
 -- a place that is not before the end is not before the first, and the place next to it not either
 opens-since : (f e : Option Place) (y : Place) → Opens f e → until e y ≡ false → since f (nextPlace y) ≡ true
@@ -85,13 +85,13 @@ false-after p (closedAt t) h = h (gapAfter t) (omega places) (omega places)
 module _ (p : Place → Bool) where
   -- p agrees with the list from the place next before it on
   abbrev Agrees : Interval → List Interval → Type 0
-  Agrees s ss = (y : Place) → since (firstOf s) (nextPlace y) ≡ true → isIn (s ∷ ss) y ≡ p y
+  Agrees s ss = (y : Place) → since (firstEdge s) (nextPlace y) ≡ true → isIn (s ∷ ss) y ≡ p y
 
   first-stretch : (s : Interval) (ss : List Interval) → Canonical (s ∷ ss) → Agrees s ss → IsStretch p s
   unfolding exists
   first-stretch s ss c h =
-      let f = firstOf s in
-      let e = endOf s in
+      let f = firstEdge s in
+      let e = endEdge s in
       let i = place-in f e (c .0) in
       record {
         inhabited = (i .0, is-inside s (i .0) (i .1) (i .2));
@@ -107,8 +107,8 @@ module _ (p : Place → Bool) where
     first-stretch s (r ∷ rs) c h,
     comes-before s (r ∷ rs) c,
     canonical-stretches r rs (c .2) (λ y n.
-        let u : until (endOf s) y ≡ false = parts-until (endOf s) (firstOf r) y (c .1) n in
-        rw (not-until s y u) at (h y (opens-since (firstOf s) (endOf s) y (c .0) u))),
+        let u : until (endEdge s) y ≡ false = parts-until (endEdge s) (firstEdge r) y (c .1) n in
+        rw (not-until s y u) at (h y (opens-since (firstEdge s) (endEdge s) y (c .0) u))),
   )
 
 pub canonical-lists : {p : Place → Bool} {ss : List Interval} → Canonical ss → ((x : Place) → isIn ss x ≡ p x) → Lists p ss

@@ -15,11 +15,11 @@ endPlace (openAt t) = some (at t)
 endPlace (closedAt t) = some (gapAfter t)
 
 -- the two edges of an interval: its first place and its end, if it has them
-abbrev pub firstOf : Interval → Option Place
-firstOf s = firstPlace (s .low)
+abbrev pub firstEdge : Interval → Option Place
+firstEdge s = firstPlace (s .low)
 
-abbrev pub endOf : Interval → Option Place
-endOf s = endPlace (s .high)
+abbrev pub endEdge : Interval → Option Place
+endEdge s = endPlace (s .high)
 
 -- the place is not before the first; it is before the end; it is past the end
 abbrev pub since : Option Place → Place → Bool
@@ -36,21 +36,21 @@ to-end unbounded x = refl
 to-end (openAt t) x = sym (rw suc-pred at (before-next x (gapAfter (predℤ t))))
 to-end (closedAt t) x = sym (before-next x (at t))
 
-pub half-open : (s : Interval) (x : Place) → holds s x ≡ since (firstOf s) x && until (endOf s) x
+pub half-open : (s : Interval) (x : Place) → holds s x ≡ since (firstEdge s) x && until (endEdge s) x
 half-open s x = ap (fromLow (s .low) x &&_) (to-end (s .high) x)
 
 both : (a b : Bool) → a && b ≡ true → (a ≡ true) × (b ≡ true)
 both true b h = (refl, h)
 both false b h = (h, cc)
 
-pub inside : (s : Interval) (x : Place) → holds s x ≡ true → (since (firstOf s) x ≡ true) × (until (endOf s) x ≡ true)
-inside s x h = both (since (firstOf s) x) (until (endOf s) x) (sym (half-open s x) ∙ h)
+pub inside : (s : Interval) (x : Place) → holds s x ≡ true → (since (firstEdge s) x ≡ true) × (until (endEdge s) x ≡ true)
+inside s x h = both (since (firstEdge s) x) (until (endEdge s) x) (sym (half-open s x) ∙ h)
 
-pub is-inside : (s : Interval) (x : Place) → since (firstOf s) x ≡ true → until (endOf s) x ≡ true → holds s x ≡ true
+pub is-inside : (s : Interval) (x : Place) → since (firstEdge s) x ≡ true → until (endEdge s) x ≡ true → holds s x ≡ true
 is-inside s x h k = half-open s x ∙ rw (h, k) refl
 
-pub not-until : (s : Interval) (x : Place) → until (endOf s) x ≡ false → holds s x ≡ false
-not-until s x h = half-open s x ∙ rw h (and-false (since (firstOf s) x))
+pub not-until : (s : Interval) (x : Place) → until (endEdge s) x ≡ false → holds s x ≡ false
+not-until s x h = half-open s x ∙ rw h (and-false (since (firstEdge s) x))
 
 pub first-low : (x : Place) → firstPlace (lowAt x) ≡ some x
 first-low (at t) = refl
@@ -90,7 +90,7 @@ high-before (openAt t) = rw suc-pred
 high-before (closedAt t) = refl
 
 -- an interval is known by its edges
-pub by-edges : (s r : Interval) → firstOf s ≡ firstOf r → endOf s ≡ endOf r → s ≡ r
+pub by-edges : (s r : Interval) → firstEdge s ≡ firstEdge r → endEdge s ≡ endEdge r → s ≡ r
 by-edges s r e d =
     let l : s .low ≡ r .low = low-from (s .low) ∙ ap lowFrom e ∙ sym (low-from (r .low)) in
     let h : s .high ≡ r .high = high-before (s .high) ∙ ap highBefore d ∙ sym (high-before (r .high)) in

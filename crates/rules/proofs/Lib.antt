@@ -4,6 +4,7 @@ pub mod Canonical
 pub mod Unique
 pub mod Changes
 pub mod Drawing
+pub mod Counting
 pub mod Opened
 pub mod WorkedExamples
 pub mod Limits

@@ -6,17 +6,17 @@ use mathlib.Core.Option.{Option, none, some}
 use Rattle.rules.specs.Basics.{ifSome, exists}
 use Rattle.rules.specs.Sets.{Place, previousPlace, _isBefore_, Interval, holds, IsStretch, isIn, ComesBefore, AllStretches, Lists}
 use Rattle.rules.proofs.Order.{places, before-irreflexive, previous-is}
-use Rattle.rules.proofs.Edges.{firstOf, endOf, since, until, inside, is-inside, after-end, by-edges, turned}
+use Rattle.rules.proofs.Edges.{firstEdge, endEdge, since, until, inside, is-inside, after-end, by-edges, turned}
 
 pub since-up : (f : Option Place) (x y : Place) → x isBefore y ≡ true → since f x ≡ true → since f y ≡ true
 since-up none x y h k = refl
 since-up (some f) x y h k = omega places
 
-until-down : (e : Option Place) (x y : Place) → x isBefore y ≡ true → until e y ≡ true → until e x ≡ true
+pub until-down : (e : Option Place) (x y : Place) → x isBefore y ≡ true → until e y ≡ true → until e x ≡ true
 until-down none x y h k = refl
 until-down (some n) x y h k = omega places
 
-turn : {a b : Bool} → (a ≡ true → b ≡ true) → b ≡ false → a ≡ false
+pub turn : {a b : Bool} → (a ≡ true → b ≡ true) → b ≡ false → a ≡ false
 turn {a = true} {b} f h = sym (f refl) ∙ h
 turn {a = false} {b} f h = refl
 
@@ -25,11 +25,11 @@ module _ (p : Place → Bool) where
   abbrev Falls : (Place → Bool) → (Place → Bool) → Type 0
   Falls side q = (x : Place) → side x ≡ true → p x ≡ false → q x ≡ false
 
-  falls-low : (s : Interval) → IsStretch p s → (z : Place) → holds s z ≡ true → Falls (_isBefore z) (since (firstOf s))
-  falls-low s k z i x b = turn (λ h. k .filled x (is-inside s x h (until-down (endOf s) x z b (inside s z i .1))))
+  falls-low : (s : Interval) → IsStretch p s → (z : Place) → holds s z ≡ true → Falls (_isBefore z) (since (firstEdge s))
+  falls-low s k z i x b = turn (λ h. k .filled x (is-inside s x h (until-down (endEdge s) x z b (inside s z i .1))))
 
-  falls-high : (s : Interval) → IsStretch p s → (z : Place) → holds s z ≡ true → Falls (z isBefore_) (until (endOf s))
-  falls-high s k z i x b = turn (λ h. k .filled x (is-inside s x (since-up (firstOf s) z x b (inside s z i .0)) h))
+  falls-high : (s : Interval) → IsStretch p s → (z : Place) → holds s z ≡ true → Falls (z isBefore_) (until (endEdge s))
+  falls-high s k z i x b = turn (λ h. k .filled x (is-inside s x (since-up (firstEdge s) z x b (inside s z i .0)) h))
 
   same-first : (f g : Option Place) (z : Place) → since f z ≡ true → since g z ≡ true → Falls (_isBefore z) (since f) → Falls (_isBefore z) (since g) → ifSome f (λ x. p (previousPlace x)) false ≡ false → ifSome g (λ x. p (previousPlace x)) false ≡ false → f ≡ g
   same-first none none z i j k l a b = refl
@@ -48,8 +48,8 @@ module _ (p : Place → Bool) where
   shared s r k l z i j =
       let a = inside s z i in
       let b = inside r z j in
-      by-edges s r (same-first (firstOf s) (firstOf r) z (a .0) (b .0) (falls-low s k z i) (falls-low r l z j) (k .before) (l .before))
-      (same-end (endOf s) (endOf r) z (a .1) (b .1) (falls-high s k z i) (falls-high r l z j) (sym (after-end p (s .high)) ∙ k .after) (sym (after-end p (r .high)) ∙ l .after))
+      by-edges s r (same-first (firstEdge s) (firstEdge r) z (a .0) (b .0) (falls-low s k z i) (falls-low r l z j) (k .before) (l .before))
+      (same-end (endEdge s) (endEdge r) z (a .1) (b .1) (falls-high s k z i) (falls-high r l z j) (sym (after-end p (s .high)) ∙ k .after) (sym (after-end p (r .high)) ∙ l .after))
 
 either : {C : Type 0} (a b : Bool) → a || b ≡ true → (a ≡ true → C) → (b ≡ true → C) → C
 either true b e f g = f refl
