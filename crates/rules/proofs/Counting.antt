@@ -5,10 +5,16 @@ use mathlib.Core.Bool.{Bool, true, false, cond}
 use mathlib.Core.List.{List, [], _∷_, _++_}
 use mathlib.Core.Option.{Option, none, some}
 use native.Mathlib.Omega.{arith}
+use native.Mathlib.Nat.{zero-add, add-zero, add-assoc}
 use lib.ListN.{length, length-append}
-use Rattle.rules.specs.Basics.{isSome, exactlyOne}
+use Rattle.rules.specs.Basics.{isSome, ifSome, exactlyOne}
+use Rattle.rules.specs.Refusal.{TYPE, UNKNOWN-BOUND, Outcome, answered, refused, _andThen_, both}
+use Rattle.rules.specs.Markup.{Attribute, Nodes, end, node, Element}
+use Rattle.rules.specs.Invariants.{isNull}
+use Rattle.rules.specs.Types.{IVL-TS, hasType}
 use Rattle.rules.specs.Sets.{Place, previousPlace, _isBefore_, Bound, unbounded, Interval, _upto_, holds, Op, union, intersection, difference, apply, Expression, interval, combine, meant, intervals}
 use Rattle.rules.specs.Stretches.{lowAt, highAt, changes, drawn, placeBefore, stretches}
+use Rattle.rules.specs.Listing.{intervalOf, operationOf, setFrom, membersOf, joined, setOf, intervalCount, intervalsWritten}
 use Rattle.rules.proofs.Order.{places}
 use Rattle.rules.proofs.Edges.{firstEdge, endEdge, inside, is-inside}
 use Rattle.rules.proofs.Unique.{since-up, until-down, turn}
@@ -104,3 +110,57 @@ stretches-at-most e =
     go : (b : Bool) → 2 * length (drawn (meant e) (cond b (some unbounded) none) (changes e)) ≡ differ false b + turns (meant e) b (changes e)
     go true = drawn-turns (meant e) (some unbounded) (changes e)
     go false = drawn-turns (meant e) none (changes e)
+
+-- a set that is answered has n intervals at most
+abbrev AtMost : ℕ → Outcome Expression → Type 0
+AtMost n (answered s) = length (intervals s) ≤ n
+AtMost n (refused r) = Unit {0}
+
+at-most-both : (o : Op) (a b : Outcome Expression) (m n : ℕ) → AtMost m a → AtMost n b → AtMost (m + n) (both (combine o) a b)
+unfolding intervals
+at-most-both o (answered a) (answered b) m n h k = rw length-append (omega arith)
+at-most-both o (answered a) (refused r) m n h k = tt
+at-most-both o (refused r) b m n h k = tt
+
+at-most-one : (o : Outcome Interval) (n : ℕ) → AtMost (1 + n) (o andThen λ v. answered (interval v))
+unfolding intervals
+at-most-one (answered v) n = omega arith
+at-most-one (refused r) n = tt
+
+at-most-members : (o : Option Op) (null : Bool) (members : Op → Outcome Expression) (n : ℕ) → ((o : Op) → AtMost n (members o))
+    → AtMost (0 + n) (ifSome o (λ j. cond null (refused UNKNOWN-BOUND) (members j)) (refused TYPE))
+at-most-members none null members n h = tt
+at-most-members (some o) true members n h = tt
+at-most-members (some o) false members n h = rw zero-add (h o)
+
+at-most-set : (shift : ℕ) (attrs : List Attribute) (kids : Nodes) (members : Op → Outcome Expression) (n : ℕ) → ((o : Op) → AtMost n (members o))
+    → AtMost (cond (hasType attrs IVL-TS) 1 0 + n) (setFrom shift attrs kids members)
+unfolding setFrom
+at-most-set shift attrs kids members n h = go (hasType attrs IVL-TS)
+  where
+    go : (b : Bool) → AtMost (cond b 1 0 + n) (cond b (intervalOf shift attrs kids andThen λ v. answered (interval v)) (ifSome (operationOf attrs) (λ o. cond (isNull attrs) (refused UNKNOWN-BOUND) (members o)) (refused TYPE)))
+    go true = at-most-one (intervalOf shift attrs kids) n
+    go false = at-most-members (operationOf attrs) (isNull attrs) members n h
+
+mutual
+  unfolding membersOf joined intervalCount
+
+  members-at-most : (shift : ℕ) (o : Op) (ns : Nodes) → AtMost (intervalCount ns) (membersOf shift o ns)
+  members-at-most shift o end = tt
+  members-at-most shift o (node n attrs kids rest) = joined-at-most shift o rest (setFrom shift attrs kids (λ j. membersOf shift j kids)) (cond (hasType attrs IVL-TS) 1 0 + intervalCount kids)
+      (at-most-set shift attrs kids (λ j. membersOf shift j kids) (intervalCount kids) (λ j. members-at-most shift j kids))
+
+  joined-at-most : (shift : ℕ) (o : Op) (ns : Nodes) (soFar : Outcome Expression) (n : ℕ) → AtMost n soFar → AtMost (n + intervalCount ns) (joined shift o soFar ns)
+  joined-at-most shift o end soFar m h = rw add-zero h
+  joined-at-most shift o (node n attrs kids rest) soFar m h =
+      rw (← add-assoc) (joined-at-most shift o rest (both (combine o) soFar (setFrom shift attrs kids (λ j. membersOf shift j kids))) (m + (cond (hasType attrs IVL-TS) 1 0 + intervalCount kids))
+      (at-most-both o soFar (setFrom shift attrs kids (λ j. membersOf shift j kids)) m (cond (hasType attrs IVL-TS) 1 0 + intervalCount kids) h
+      (at-most-set shift attrs kids (λ j. membersOf shift j kids) (intervalCount kids) (λ j. members-at-most shift j kids))))
+
+pub stretches-within : (shift : ℕ) (e : Element) (s : Expression) → setOf shift e ≡ answered s → length (stretches s) ≤ intervalsWritten e
+unfolding intervalCount
+stretches-within shift e s h =
+    let k : AtMost (cond (hasType (e .attrs) IVL-TS) 1 0 + intervalCount (e .kids)) (setOf shift e) =
+    at-most-set shift (e .attrs) (e .kids) (λ o. membersOf shift o (e .kids)) (intervalCount (e .kids)) (λ o. members-at-most shift o (e .kids)) in
+    let l : length (intervals s) ≤ cond (hasType (e .attrs) IVL-TS) 1 0 + intervalCount (e .kids) = rw h at k in
+    omega (arith, stretches-at-most s)
