@@ -7,7 +7,7 @@ use lib.IntN.{pos, suc-pred}
 use Rattle.rules.specs.Basics.{ifSome, exists}
 use Rattle.rules.specs.Sets.{Place, at, gapAfter, nextPlace, previousPlace, _isBefore_, Bound, unbounded, openAt, closedAt, Interval, firstPlace, lastPlace, fromLow, toHigh, holds, IsStretch, isIn, ComesBefore, AllStretches, Lists}
 use Rattle.rules.proofs.Order.{places, before-irreflexive, next-is, previous-is}
-use Rattle.rules.proofs.Edges.{endPlace, firstEdge, endEdge, since, until, past, inside, is-inside, not-until, turned}
+use Rattle.rules.proofs.Edges.{endPlace, firstEdge, endEdge, since, until, past, inside, is-inside, not-until, passes}
 
 -- the first place is before the end
 abbrev pub Opens : (first end : Option Place) → Type 0
@@ -56,7 +56,7 @@ between (some n) x y h k = omega places
 
 comes-before : (s : Interval) (ss : List Interval) → Canonical (s ∷ ss) → ComesBefore s ss
 comes-before s ss c x y i j =
-    between (endEdge s) x y (inside s x i .1) (turned (not-past s ss c y) j)
+    between (endEdge s) x y (inside s x i .1) (passes (not-past s ss c y) j)
 
 -- a place that is not before the end is not before the first, and the place next to it not either
 opens-since : (f e : Option Place) (y : Place) → Opens f e → until e y ≡ false → since f (nextPlace y) ≡ true

@@ -8,7 +8,7 @@ use native.Mathlib.Omega.{arith}
 use native.Mathlib.Nat.{zero-add, add-zero, add-assoc}
 use lib.ListN.{length, length-append}
 use Rattle.rules.specs.Basics.{isSome, ifSome, exactlyOne}
-use Rattle.rules.specs.Refusal.{TYPE, UNKNOWN-BOUND, Outcome, answered, refused, _andThen_, both}
+use Rattle.rules.specs.Refusal.{Refusal, TYPE, UNKNOWN-BOUND, Outcome, answered, refused, _andThen_, both}
 use Rattle.rules.specs.Markup.{Attribute, Nodes, end, node, Element}
 use Rattle.rules.specs.Invariants.{isNull}
 use Rattle.rules.specs.Types.{IVL-TS, hasType}
@@ -16,8 +16,7 @@ use Rattle.rules.specs.Sets.{Place, previousPlace, _isBefore_, Bound, un
 use Rattle.rules.specs.Stretches.{lowAt, highAt, changes, drawn, placeBefore, stretches}
 use Rattle.rules.specs.Listing.{intervalOf, operationOf, setFrom, membersOf, joined, setOf, intervalCount, intervalsWritten}
 use Rattle.rules.proofs.Order.{places}
-use Rattle.rules.proofs.Edges.{firstEdge, endEdge, inside, is-inside}
-use Rattle.rules.proofs.Unique.{since-up, until-down, turn}
+use Rattle.rules.proofs.Edges.{firstEdge, endEdge, inside, is-inside, since-up, until-down, fails}
 use Rattle.rules.proofs.Changes.{Rising, changes-rise}
 
 -- 1 if the two differ
@@ -70,7 +69,7 @@ module _ (v : Interval) where
   turns-no-more : (d c : Place) (xs : List Place) → holds v d ≡ true → d isBefore c ≡ true → holds v c ≡ false → Rising (some c) xs → turns (holds v) false xs ≤ 0
   turns-no-more d c [] i h o r = omega arith
   turns-no-more d c (x ∷ xs) i h o r =
-      let out : holds v x ≡ false = turn (λ j. is-inside v c (since-up (firstEdge v) d c h (inside v d i .0)) (until-down (endEdge v) c x (r .0) (inside v x j .1))) o in
+      let out : holds v x ≡ false = fails (λ j. is-inside v c (since-up (firstEdge v) d c h (inside v d i .0)) (until-down (endEdge v) c x (r .0) (inside v x j .1))) o in
       rw out (omega (arith, turns-no-more d x xs i (omega places) out (r .1)))
 
   turns-out : (c : Place) (xs : List Place) → holds v c ≡ true → Rising (some c) xs → turns (holds v) true xs ≤ 1
@@ -112,55 +111,57 @@ stretches-at-most e =
     go false = drawn-turns (meant e) none (changes e)
 
 -- a set that is answered has n intervals at most
-abbrev AtMost : ℕ → Outcome Expression → Type 0
-AtMost n (answered s) = length (intervals s) ≤ n
-AtMost n (refused r) = Unit {0}
+data AtMost (n : ℕ) : Outcome Expression → Type 0 where
+  counted : {s : Expression} → length (intervals s) ≤ n → AtMost n (answered s)
+  nothing : {r : Refusal} → AtMost n (refused r)
 
-at-most-both : (o : Op) (a b : Outcome Expression) (m n : ℕ) → AtMost m a → AtMost n b → AtMost (m + n) (both (combine o) a b)
+count : {n : ℕ} {s : Expression} → AtMost n (answered s) → length (intervals s) ≤ n
+count (counted h) = h
+
+combined-at-most : (o : Op) {m n : ℕ} {a b : Outcome Expression} → AtMost m a → AtMost n b → AtMost (m + n) (both (combine o) a b)
 unfolding intervals
-at-most-both o (answered a) (answered b) m n h k = rw length-append (omega arith)
-at-most-both o (answered a) (refused r) m n h k = tt
-at-most-both o (refused r) b m n h k = tt
+combined-at-most o (counted {s = a} h) (counted {s = b} k) = counted {s = combine o a b} (rw length-append (omega arith))
+combined-at-most o (counted h) nothing = nothing
+combined-at-most o nothing k = nothing
 
-at-most-one : (o : Outcome Interval) (n : ℕ) → AtMost (1 + n) (o andThen λ v. answered (interval v))
+interval-at-most : (v : Outcome Interval) (n : ℕ) → AtMost (1 + n) (v andThen λ i. answered (interval i))
 unfolding intervals
-at-most-one (answered v) n = omega arith
-at-most-one (refused r) n = tt
+interval-at-most (answered i) n = counted {s = interval i} (omega arith)
+interval-at-most (refused r) n = nothing
 
-at-most-members : (o : Option Op) (null : Bool) (members : Op → Outcome Expression) (n : ℕ) → ((o : Op) → AtMost n (members o))
+operation-at-most : (o : Option Op) (null : Bool) {n : ℕ} {members : Op → Outcome Expression} → ((j : Op) → AtMost n (members j))
     → AtMost (0 + n) (ifSome o (λ j. cond null (refused UNKNOWN-BOUND) (members j)) (refused TYPE))
-at-most-members none null members n h = tt
-at-most-members (some o) true members n h = tt
-at-most-members (some o) false members n h = rw zero-add (h o)
+operation-at-most none null h = nothing
+operation-at-most (some o) true h = nothing
+operation-at-most (some o) false h = rw zero-add (h o)
 
-at-most-set : (shift : ℕ) (attrs : List Attribute) (kids : Nodes) (members : Op → Outcome Expression) (n : ℕ) → ((o : Op) → AtMost n (members o))
-    → AtMost (cond (hasType attrs IVL-TS) 1 0 + n) (setFrom shift attrs kids members)
-unfolding setFrom
-at-most-set shift attrs kids members n h = go (hasType attrs IVL-TS)
-  where
-    go : (b : Bool) → AtMost (cond b 1 0 + n) (cond b (intervalOf shift attrs kids andThen λ v. answered (interval v)) (ifSome (operationOf attrs) (λ o. cond (isNull attrs) (refused UNKNOWN-BOUND) (members o)) (refused TYPE)))
-    go true = at-most-one (intervalOf shift attrs kids) n
-    go false = at-most-members (operationOf attrs) (isNull attrs) members n h
+module _ (shift : ℕ) where
+  -- the IVL_TS elements of one element
+  abbrev countOf : List Attribute → Nodes → ℕ
+  countOf attrs kids = cond (hasType attrs IVL-TS) 1 0 + intervalCount kids
 
-mutual
-  unfolding membersOf joined intervalCount
+  set-at-most : (attrs : List Attribute) (kids : Nodes) → ((o : Op) → AtMost (intervalCount kids) (membersOf shift o kids))
+      → AtMost (countOf attrs kids) (setFrom shift attrs kids (λ o. membersOf shift o kids))
+  unfolding setFrom
+  set-at-most attrs kids h = go (hasType attrs IVL-TS)
+    where
+      go : (b : Bool) → AtMost (cond b 1 0 + intervalCount kids) (cond b (intervalOf shift attrs kids andThen λ v. answered (interval v)) (ifSome (operationOf attrs) (λ o. cond (isNull attrs) (refused UNKNOWN-BOUND) (membersOf shift o kids)) (refused TYPE)))
+      go true = interval-at-most (intervalOf shift attrs kids) (intervalCount kids)
+      go false = operation-at-most (operationOf attrs) (isNull attrs) h
 
-  members-at-most : (shift : ℕ) (o : Op) (ns : Nodes) → AtMost (intervalCount ns) (membersOf shift o ns)
-  members-at-most shift o end = tt
-  members-at-most shift o (node n attrs kids rest) = joined-at-most shift o rest (setFrom shift attrs kids (λ j. membersOf shift j kids)) (cond (hasType attrs IVL-TS) 1 0 + intervalCount kids)
-      (at-most-set shift attrs kids (λ j. membersOf shift j kids) (intervalCount kids) (λ j. members-at-most shift j kids))
+  mutual
+    unfolding membersOf joined intervalCount
 
-  joined-at-most : (shift : ℕ) (o : Op) (ns : Nodes) (soFar : Outcome Expression) (n : ℕ) → AtMost n soFar → AtMost (n + intervalCount ns) (joined shift o soFar ns)
-  joined-at-most shift o end soFar m h = rw add-zero h
-  joined-at-most shift o (node n attrs kids rest) soFar m h =
-      rw (← add-assoc) (joined-at-most shift o rest (both (combine o) soFar (setFrom shift attrs kids (λ j. membersOf shift j kids))) (m + (cond (hasType attrs IVL-TS) 1 0 + intervalCount kids))
-      (at-most-both o soFar (setFrom shift attrs kids (λ j. membersOf shift j kids)) m (cond (hasType attrs IVL-TS) 1 0 + intervalCount kids) h
-      (at-most-set shift attrs kids (λ j. membersOf shift j kids) (intervalCount kids) (λ j. members-at-most shift j kids))))
+    members-at-most : (o : Op) (ns : Nodes) → AtMost (intervalCount ns) (membersOf shift o ns)
+    members-at-most o end = nothing
+    members-at-most o (node n attrs kids rest) = joined-at-most o rest (set-at-most attrs kids (λ j. members-at-most j kids))
 
-pub stretches-within : (shift : ℕ) (e : Element) (s : Expression) → setOf shift e ≡ answered s → length (stretches s) ≤ intervalsWritten e
-unfolding intervalCount
-stretches-within shift e s h =
-    let k : AtMost (cond (hasType (e .attrs) IVL-TS) 1 0 + intervalCount (e .kids)) (setOf shift e) =
-    at-most-set shift (e .attrs) (e .kids) (λ o. membersOf shift o (e .kids)) (intervalCount (e .kids)) (λ o. members-at-most shift o (e .kids)) in
-    let l : length (intervals s) ≤ cond (hasType (e .attrs) IVL-TS) 1 0 + intervalCount (e .kids) = rw h at k in
-    omega (arith, stretches-at-most s)
+    joined-at-most : (o : Op) (ns : Nodes) {m : ℕ} {soFar : Outcome Expression} → AtMost m soFar → AtMost (m + intervalCount ns) (joined shift o soFar ns)
+    joined-at-most o end h = rw add-zero h
+    joined-at-most o (node n attrs kids rest) h =
+        rw (← add-assoc) (joined-at-most o rest (combined-at-most o h (set-at-most attrs kids (λ j. members-at-most j kids))))
+
+  pub stretches-within : (e : Element) {s : Expression} → setOf shift e ≡ answered s → length (stretches s) ≤ intervalsWritten e
+  unfolding intervalCount
+  stretches-within e {s} h =
+      omega (arith, stretches-at-most s, count (rw h at (set-at-most (e .attrs) (e .kids) (λ o. members-at-most o (e .kids)))))

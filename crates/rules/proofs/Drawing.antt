@@ -7,9 +7,9 @@ use Rattle.rules.specs.Basics.{ifSome, exists}
 use Rattle.rules.specs.Sets.{Place, at, gapAfter, previousPlace, _isBefore_, Bound, unbounded, Interval, _upto_, firstPlace, fromLow, holds, isIn, Lists, Expression, meant}
 use Rattle.rules.specs.Stretches.{lowAt, highAt, changes, drawn, placeBefore, stretches}
 use Rattle.rules.proofs.Order.{places, before-irreflexive}
-use Rattle.rules.proofs.Edges.{endPlace, since, until, half-open, first-low, end-high}
+use Rattle.rules.proofs.Edges.{endPlace, since, until, half-open, first-low, end-high, since-up}
 use Rattle.rules.proofs.Canonical.{Opens, Parts, Follows, Canonical, canonical-lists}
-use Rattle.rules.proofs.Unique.{lists-unique, since-up}
+use Rattle.rules.proofs.Unique.{lists-unique}
 use Rattle.rules.proofs.Changes.{Rising, SameSide, changes-rise, meant-steady}
 
 open-end : (f : Option Place) → Opens f none

@@ -96,6 +96,19 @@ by-edges s r e d =
     let h : s .high ≡ r .high = high-before (s .high) ∙ ap highBefore d ∙ sym (high-before (r .high)) in
     λ i. l i upto h i
 
-pub turned : {a b : Bool} → (a ≡ false → b ≡ false) → b ≡ true → a ≡ true
-turned {a = true} {b} f h = refl
-turned {a = false} {b} f h = sym (f refl) ∙ h
+pub since-up : (f : Option Place) (x y : Place) → x isBefore y ≡ true → since f x ≡ true → since f y ≡ true
+since-up none x y h k = refl
+since-up (some f) x y h k = omega places
+
+pub until-down : (e : Option Place) (x y : Place) → x isBefore y ≡ true → until e y ≡ true → until e x ≡ true
+until-down none x y h k = refl
+until-down (some n) x y h k = omega places
+
+-- from one test to another, turned round: what fails if the other fails, and what passes if the other passes
+pub fails : {a b : Bool} → (a ≡ true → b ≡ true) → b ≡ false → a ≡ false
+fails {a = true} {b} f h = sym (f refl) ∙ h
+fails {a = false} {b} f h = refl
+
+pub passes : {a b : Bool} → (a ≡ false → b ≡ false) → b ≡ true → a ≡ true
+passes {a = true} {b} f h = refl
+passes {a = false} {b} f h = sym (f refl) ∙ h

@@ -107,7 +107,7 @@ same-place (at s) (gapAfter t) e = absurd (omega arith)
 same-place (gapAfter s) (at t) e = absurd (omega arith)
 same-place (gapAfter s) (gapAfter t) e = ap gapAfter (same-integer s t (omega arith))
 
-pub ruleset places = (arith, before-less, after-less, less-before, less-after, not-less, not-not-less, less-not, less-not-not, same-place, true≢false, false≢true)
+pub ruleset places = (arith, before-less, after-less, less-before, less-after, not-less, not-not-less, less-not, less-not-not, same-place)
 
 pub before-irreflexive : (x : Place) → x isBefore x ≡ false
 before-irreflexive x = omega places

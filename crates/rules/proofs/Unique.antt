@@ -6,19 +6,7 @@ use mathlib.Core.Option.{Option, none, some}
 use Rattle.rules.specs.Basics.{ifSome, exists}
 use Rattle.rules.specs.Sets.{Place, previousPlace, _isBefore_, Interval, holds, IsStretch, isIn, ComesBefore, AllStretches, Lists}
 use Rattle.rules.proofs.Order.{places, before-irreflexive, previous-is}
-use Rattle.rules.proofs.Edges.{firstEdge, endEdge, since, until, inside, is-inside, after-end, by-edges, turned}
-
-pub since-up : (f : Option Place) (x y : Place) → x isBefore y ≡ true → since f x ≡ true → since f y ≡ true
-since-up none x y h k = refl
-since-up (some f) x y h k = omega places
-
-pub until-down : (e : Option Place) (x y : Place) → x isBefore y ≡ true → until e y ≡ true → until e x ≡ true
-until-down none x y h k = refl
-until-down (some n) x y h k = omega places
-
-pub turn : {a b : Bool} → (a ≡ true → b ≡ true) → b ≡ false → a ≡ false
-turn {a = true} {b} f h = sym (f refl) ∙ h
-turn {a = false} {b} f h = refl
+use Rattle.rules.proofs.Edges.{firstEdge, endEdge, since, until, inside, is-inside, after-end, by-edges, since-up, until-down, fails}
 
 module _ (p : Place → Bool) where
   -- a test that is false of each place before z which is out, as of one before z in a stretch
@@ -26,10 +14,10 @@ module _ (p : Place → Bool) where
   Falls side q = (x : Place) → side x ≡ true → p x ≡ false → q x ≡ false
 
   falls-low : (s : Interval) → IsStretch p s → (z : Place) → holds s z ≡ true → Falls (_isBefore z) (since (firstEdge s))
-  falls-low s k z i x b = turn (λ h. k .filled x (is-inside s x h (until-down (endEdge s) x z b (inside s z i .1))))
+  falls-low s k z i x b = fails (λ h. k .filled x (is-inside s x h (until-down (endEdge s) x z b (inside s z i .1))))
 
   falls-high : (s : Interval) → IsStretch p s → (z : Place) → holds s z ≡ true → Falls (z isBefore_) (until (endEdge s))
-  falls-high s k z i x b = turn (λ h. k .filled x (is-inside s x (since-up (firstEdge s) z x b (inside s z i .0)) h))
+  falls-high s k z i x b = fails (λ h. k .filled x (is-inside s x (since-up (firstEdge s) z x b (inside s z i .0)) h))
 
   same-first : (f g : Option Place) (z : Place) → since f z ≡ true → since g z ≡ true → Falls (_isBefore z) (since f) → Falls (_isBefore z) (since g) → ifSome f (λ x. p (previousPlace x)) false ≡ false → ifSome g (λ x. p (previousPlace x)) false ≡ false → f ≡ g
   same-first none none z i j k l a b = refl
@@ -79,7 +67,7 @@ unfolding exists
 rest-same s ss rs a b c y = go (holds s y) refl (c y)
   where
     go : (t : Bool) → holds s y ≡ t → t || isIn ss y ≡ t || isIn rs y → isIn ss y ≡ isIn rs y
-    go true i e = turn (a y y i) (before-irreflexive y) ∙ sym (turn (b y y i) (before-irreflexive y))
+    go true i e = fails (a y y i) (before-irreflexive y) ∙ sym (fails (b y y i) (before-irreflexive y))
     go false i e = e
 
 unique : (p : Place → Bool) (ss rs : List Interval) → AllStretches p ss → AllStretches p rs → Same ss rs → ss ≡ rs
