@@ -1,13 +1,13 @@
 -- A list of intervals whose edges rise strictly is the list of the stretches of its places.
-use mathlib.Core.Path.{_≡_, refl, sym, _∙_, ap}
-use mathlib.Core.Bool.{Bool, true, false, not, _&&_, _||_}
+use mathlib.Core.Path.{_≡_, refl, sym, _∙_}
+use mathlib.Core.Bool.{Bool, true, false}
 use mathlib.Core.List.{List, [], _∷_}
 use mathlib.Core.Option.{Option, none, some}
-use lib.IntN.{pos, suc-pred}
+use lib.IntN.{pos}
 use Rattle.rules.specs.Basics.{ifSome, exists}
-use Rattle.rules.specs.Sets.{Place, at, gapAfter, nextPlace, previousPlace, _isBefore_, Bound, unbounded, openAt, closedAt, Interval, firstPlace, lastPlace, fromLow, toHigh, holds, IsStretch, isIn, ComesBefore, AllStretches, Lists}
-use Rattle.rules.proofs.Order.{places, before-irreflexive, next-is, previous-is}
-use Rattle.rules.proofs.Edges.{endPlace, firstEdge, endEdge, since, until, past, inside, is-inside, not-until, passes}
+use Rattle.rules.specs.Sets.{Place, at, nextPlace, previousPlace, _isBefore_, Interval, IsStretch, isIn, ComesBefore, AllStretches, Lists}
+use Rattle.rules.proofs.Order.{places, next-number, previous-number}
+use Rattle.rules.proofs.Edges.{firstEdge, endEdge, since, until, past, inside, is-inside, not-until, after-end, passes}
 
 -- the first place is before the end
 abbrev pub Opens : (first end : Option Place) → Type 0
@@ -46,7 +46,7 @@ not-past s (r ∷ rs) c y h =
 
 place-in : (f e : Option Place) → Opens f e → (x : Place) × (since f x ≡ true) × (until e x ≡ true)
 place-in none none o = (at (pos 0), refl, refl)
-place-in none (some n) o = (previousPlace n, refl, omega (places, previous-is n))
+place-in none (some n) o = (previousPlace n, refl, omega (places, previous-number n))
 place-in (some f) none o = (f, omega places, refl)
 place-in (some f) (some n) o = (f, omega places, o)
 
@@ -55,35 +55,33 @@ between none x y h k = cc
 between (some n) x y h k = omega places
 
 comes-before : (s : Interval) (ss : List Interval) → Canonical (s ∷ ss) → ComesBefore s ss
-comes-before s ss c x y i j =
-    between (endEdge s) x y (inside s x i .1) (passes (not-past s ss c y) j)
+comes-before s ss c x y i j = between (endEdge s) x y (inside s x i .1) (passes (not-past s ss c y) j)
 
--- a place that is not before the end is not before the first, and the place next to it not either
 opens-since : (f e : Option Place) (y : Place) → Opens f e → until e y ≡ false → since f (nextPlace y) ≡ true
 opens-since none e y o h = refl
 opens-since (some f) none y o h = cc
-opens-since (some f) (some n) y o h = omega (places, next-is y)
+opens-since (some f) (some n) y o h = omega (places, next-number y)
 
 parts-until : (e f : Option Place) (y : Place) → Parts e f → since f (nextPlace y) ≡ true → until e y ≡ false
 parts-until e none y o h = cc
 parts-until none (some f) y o h = cc
-parts-until (some n) (some f) y o h = omega (places, next-is y)
+parts-until (some n) (some f) y o h = omega (places, next-number y)
 
 since-next : (f : Option Place) (y : Place) → since f y ≡ true → since f (nextPlace y) ≡ true
 since-next none y h = refl
-since-next (some f) y h = omega (places, next-is y)
+since-next (some f) y h = omega (places, next-number y)
 
+-- next before the first; at the end
 false-before : (p : Place → Bool) (f : Option Place) → ((y : Place) → since f (nextPlace y) ≡ true → since f y ≡ false → p y ≡ false) → ifSome f (λ x. p (previousPlace x)) false ≡ false
 false-before p none h = refl
-false-before p (some f) h = h (previousPlace f) (omega (places, next-is (previousPlace f), previous-is f)) (omega (places, previous-is f))
+false-before p (some f) h = h (previousPlace f) (omega (places, next-number (previousPlace f), previous-number f)) (omega (places, previous-number f))
 
-false-after : (p : Place → Bool) (h : Bound) → ((y : Place) → until (endPlace h) y ≡ false → past (endPlace h) y ≡ false → p y ≡ false) → ifSome (lastPlace h) (λ x. p (nextPlace x)) false ≡ false
-false-after p unbounded h = refl
-false-after p (openAt t) h = rw suc-pred (h (at t) (omega places) (omega places))
-false-after p (closedAt t) h = h (gapAfter t) (omega places) (omega places)
+false-at : (p : Place → Bool) (e : Option Place) → ((y : Place) → until e y ≡ false → past e y ≡ false → p y ≡ false) → ifSome e p false ≡ false
+false-at p none h = refl
+false-at p (some n) h = h n (omega places) (omega places)
 
 module _ (p : Place → Bool) where
-  -- p agrees with the list from the place next before it on
+  -- p has the places of the list, from the one next before its first on
   abbrev Agrees : Interval → List Interval → Type 0
   Agrees s ss = (y : Place) → since (firstEdge s) (nextPlace y) ≡ true → isIn (s ∷ ss) y ≡ p y
 
@@ -97,7 +95,7 @@ module _ (p : Place → Bool) where
         inhabited = (i .0, is-inside s (i .0) (i .1) (i .2));
         filled = λ x i. sym (h x (since-next f x (inside s x i .0))) ∙ rw i refl;
         before = false-before p f (λ y n o. sym (h y n) ∙ rw (o, not-past s ss c y (opens-until f e y (c .0) o)) refl);
-        after = false-after p (s .high) (λ y u n. sym (h y (opens-since f e y (c .0) u)) ∙ rw (not-until s y u, not-past s ss c y n) refl);
+        after = after-end p (s .high) ∙ false-at p e (λ y u n. sym (h y (opens-since f e y (c .0) u)) ∙ rw (not-until s y u, not-past s ss c y n) refl);
       }
 
   canonical-stretches : (s : Interval) (ss : List Interval) → Canonical (s ∷ ss) → Agrees s ss → AllStretches p (s ∷ ss)

@@ -4,9 +4,9 @@ use mathlib.Core.Bool.{Bool, true, false, not, _&&_, cond}
 use mathlib.Core.List.{List, [], _∷_, _++_, flatMap, append-assoc}
 use mathlib.Core.Option.{Option, none, some}
 use Rattle.rules.specs.Basics.{ifSome, listOf}
-use Rattle.rules.specs.Sets.{Place, nextPlace, previousPlace, _isBefore_, Interval, firstPlace, lastPlace, holds, apply, Expression, interval, combine, meant, intervals}
+use Rattle.rules.specs.Sets.{Place, nextPlace, _isBefore_, Interval, firstPlace, lastPlace, holds, apply, Expression, interval, combine, meant, intervals}
 use Rattle.rules.specs.Stretches.{changesOf, insert, sorted, changes, placeBefore}
-use Rattle.rules.proofs.Order.{places, before-total, before-next, previous-is}
+use Rattle.rules.proofs.Order.{places, before-total, before-next, previous-number}
 use Rattle.rules.proofs.Edges.{since}
 
 -- from low to high, all after c if there is a c
@@ -87,7 +87,7 @@ changes-rise e = go (changes e) (rising-sorted (flatMap changesOf (intervals e))
   where
     go : (xs : List Place) → Rising none xs → Rising (some (placeBefore xs)) xs
     go [] r = tt
-    go (x ∷ xs) r = (omega (places, previous-is x), r .1)
+    go (x ∷ xs) r = (omega (places, previous-number x), r .1)
 
 pub meant-steady : (e : Expression) (a b : Place) → SameSide a b (changes e) → meant e a ≡ meant e b
 meant-steady e a b h = meant-side a b e (side-sorted a b (flatMap changesOf (intervals e)) h)

@@ -1,14 +1,16 @@
 -- The stretches that are drawn are the stretches of the set.
 use mathlib.Core.Path.{_≡_, refl, sym, _∙_, ap, ap₂, fun-ext}
-use mathlib.Core.Bool.{Bool, true, false, not, _&&_, _||_, cond, and-true, and-false, or-false}
+use mathlib.Core.Bool.{Bool, true, false, _&&_, _||_, cond, and-true, and-false, or-false}
 use mathlib.Core.List.{List, [], _∷_, _++_}
 use mathlib.Core.Option.{Option, none, some}
+use lib.IntN.{pos}
 use Rattle.rules.specs.Basics.{ifSome, exists}
-use Rattle.rules.specs.Sets.{Place, at, gapAfter, previousPlace, _isBefore_, Bound, unbounded, Interval, _upto_, firstPlace, fromLow, holds, isIn, Lists, Expression, meant}
+use Rattle.rules.specs.Sets.{Place, previousPlace, _isBefore_, Bound, unbounded, closedAt, Interval, _upto_, firstPlace, fromLow, holds, isIn, Lists, union, Expression, interval, combine, meant}
 use Rattle.rules.specs.Stretches.{lowAt, highAt, changes, drawn, placeBefore, stretches}
+use Rattle.rules.proofs.Opened.{opened}
 use Rattle.rules.proofs.Order.{places, before-irreflexive}
-use Rattle.rules.proofs.Edges.{endPlace, since, until, half-open, first-low, end-high, since-up}
-use Rattle.rules.proofs.Canonical.{Opens, Parts, Follows, Canonical, canonical-lists}
+use Rattle.rules.proofs.Edges.{since, half-open, first-low, end-high, since-up}
+use Rattle.rules.proofs.Canonical.{Opens, Follows, Canonical, canonical-lists}
 use Rattle.rules.proofs.Unique.{lists-unique}
 use Rattle.rules.proofs.Changes.{Rising, SameSide, changes-rise, meant-steady}
 
@@ -40,19 +42,19 @@ begun-at : (l : Bound) (c : Place) (b : Bool) → fromLow l c ≡ true → Begun
 begun-at l c true h = h
 begun-at l c false h = refl
 
+begun-low : (x : Place) (b : Bool) → BegunAt x (cond b (some (lowAt x)) none)
+begun-low x b = begun-at (lowAt x) x b (rw first-low (omega places))
+
 begun-reaches : (l : Bound) (y : Place) (b : Bool) → ifSome (cond b (some l) none) (λ m. fromLow m y) false ≡ b && fromLow l y
 begun-reaches l y true = refl
 begun-reaches l y false = refl
 
-low-holds : (x : Place) → fromLow (lowAt x) x ≡ true
-low-holds x = rw first-low (omega places)
-
 drawn-holds : (l : Bound) (x y : Place) → holds (l upto highAt (previousPlace x)) y ≡ fromLow l y && y isBefore x
 drawn-holds l x y = half-open (l upto highAt (previousPlace x)) y ∙ rw end-high
 
-joined : (t a b : Bool) → a && t || cond t false b ≡ cond t a b
-joined true a b = or-false (a && true) ∙ and-true a
-joined false a b = rw and-false refl
+or-cond : (t a b : Bool) → a && t || cond t false b ≡ cond t a b
+or-cond true a b = or-false (a && true) ∙ and-true a
+or-cond false a b = rw and-false refl
 
 sides-before : (a b x : Place) (xs : List Place) → a isBefore x ≡ true → b isBefore x ≡ true → Rising (some x) xs → SameSide a b xs
 sides-before a b x [] h k r = tt
@@ -75,7 +77,7 @@ module _ (p : Place → Bool) where
   unfolding drawn
   drawn-canonical c none [] b r = tt
   drawn-canonical c (some l) [] b r = (open-end (firstPlace l), tt, tt)
-  drawn-canonical c none (x ∷ xs) b r = drawn-canonical x (cond (p x) (some (lowAt x)) none) xs (begun-at (lowAt x) x (p x) (low-holds x)) (r .1)
+  drawn-canonical c none (x ∷ xs) b r = drawn-canonical x (cond (p x) (some (lowAt x)) none) xs (begun-low x (p x)) (r .1)
   drawn-canonical c (some l) (x ∷ xs) b r =
       elim (p x) as (λ t. Canonical (cond t [] (l upto highAt (previousPlace x) ∷ []) ++ drawn p (cond t (some l) none) xs)) [
         | false ↦ (rw end-high (opens-at (firstPlace l) c x b (r .0)), rw end-high (drawn-follows x none xs refl (r .1)), drawn-canonical x none xs refl (r .1))
@@ -106,12 +108,12 @@ module _ (p : Place → Bool) where
   drawn-said c (some l) [] b r y = or-false (fromLow l y && true) ∙ and-true (fromLow l y)
   drawn-said c none (x ∷ xs) b r y =
       let e = begun-reaches (lowAt x) y (p x) in
-      drawn-said x (cond (p x) (some (lowAt x)) none) xs (begun-at (lowAt x) x (p x) (low-holds x)) (r .1) y
+      drawn-said x (cond (p x) (some (lowAt x)) none) xs (begun-low x (p x)) (r .1) y
       ∙ said-from x y xs (r .1) _ false (p x) (λ h. e ∙ rw (first-low, h) (and-false (p x))) (λ h. e ∙ rw (first-low, h) (and-true (p x)))
   drawn-said c (some l) (x ∷ xs) b r y =
       elim (p x) as (λ t. isIn (cond t [] (l upto highAt (previousPlace x) ∷ []) ++ drawn p (cond t (some l) none) xs) y ≡ cond (y isBefore x) (fromLow l y) (said t y xs)) [
         | false ↦ ap₂ _||_ (drawn-holds l x y) (drawn-said x none xs refl (r .1) y ∙ said-from x y xs (r .1) false false false (λ h. refl) (λ h. refl))
-            ∙ joined (y isBefore x) (fromLow l y) (said false y xs)
+            ∙ or-cond (y isBefore x) (fromLow l y) (said false y xs)
         | true ↦ drawn-said x (some l) xs (since-up (firstPlace l) c x (r .0) b) (r .1) y
             ∙ said-from x y xs (r .1) (fromLow l y) (fromLow l y) true (λ h. refl) (λ h. since-up (firstPlace l) c y (omega places) b)
       ]
@@ -142,3 +144,11 @@ same-list a b h = is-stretches b (rw (fun-ext h) at (stretches-are a))
 
 pub same-times : (a b : Expression) → stretches a ≡ stretches b → (y : Place) → meant a y ≡ meant b y
 same-times a b e y = sym (stretches-are a .all y) ∙ ap (λ ss. isIn ss y) e ∙ stretches-are b .all y
+
+-- [1, 2] and [3, 4] are two stretches: the gap between 2 and 3 is out
+pub apart :
+    let first = closedAt (pos 1) upto closedAt (pos 2) in
+    let second = closedAt (pos 3) upto closedAt (pos 4) in
+    stretches (combine union (interval first) (interval second)) ≡ first ∷ second ∷ []
+unfolding opened
+apart = refl

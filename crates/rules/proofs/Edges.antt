@@ -1,8 +1,8 @@
 -- An interval by its edges: the places from its first on, and before its end, the next place after its last.
 use mathlib.Core.Path.{_≡_, refl, sym, _∙_, ap}
-use mathlib.Core.Bool.{Bool, true, false, not, _&&_, _||_, and-false}
+use mathlib.Core.Bool.{Bool, true, false, not, _&&_, and-false}
 use mathlib.Core.Option.{Option, none, some}
-use lib.IntN.{ℤ, predℤ, suc-pred, pred-suc}
+use lib.IntN.{predℤ, suc-pred, pred-suc}
 use Rattle.rules.specs.Basics.{ifSome}
 use Rattle.rules.specs.Sets.{Place, at, gapAfter, nextPlace, previousPlace, _isBefore_, Bound, unbounded, openAt, closedAt, Interval, _upto_, firstPlace, lastPlace, fromLow, toHigh, holds}
 use Rattle.rules.specs.Stretches.{lowAt, highAt}
@@ -39,12 +39,12 @@ to-end (closedAt t) x = sym (before-next x (at t))
 pub half-open : (s : Interval) (x : Place) → holds s x ≡ since (firstEdge s) x && until (endEdge s) x
 half-open s x = ap (fromLow (s .low) x &&_) (to-end (s .high) x)
 
-both : (a b : Bool) → a && b ≡ true → (a ≡ true) × (b ≡ true)
-both true b h = (refl, h)
-both false b h = (h, cc)
+and-both : (a b : Bool) → a && b ≡ true → (a ≡ true) × (b ≡ true)
+and-both true b h = (refl, h)
+and-both false b h = (h, cc)
 
 pub inside : (s : Interval) (x : Place) → holds s x ≡ true → (since (firstEdge s) x ≡ true) × (until (endEdge s) x ≡ true)
-inside s x h = both (since (firstEdge s) x) (until (endEdge s) x) (sym (half-open s x) ∙ h)
+inside s x h = and-both (since (firstEdge s) x) (until (endEdge s) x) (sym (half-open s x) ∙ h)
 
 pub is-inside : (s : Interval) (x : Place) → since (firstEdge s) x ≡ true → until (endEdge s) x ≡ true → holds s x ≡ true
 is-inside s x h k = half-open s x ∙ rw (h, k) refl
@@ -60,12 +60,12 @@ pub last-high : (x : Place) → lastPlace (highAt x) ≡ some x
 last-high (at t) = refl
 last-high (gapAfter t) = rw pred-suc refl
 
--- the high that ends before a place has its end there
+-- of the high that ends before x
 pub end-high : (x : Place) → endPlace (highAt (previousPlace x)) ≡ some x
 end-high (at t) = rw suc-pred refl
 end-high (gapAfter t) = refl
 
--- a stretch is followed by what is at its end
+-- what is next after the last place is at the end
 pub after-end : (p : Place → Bool) (h : Bound) → ifSome (lastPlace h) (λ x. p (nextPlace x)) false ≡ ifSome (endPlace h) p false
 after-end p unbounded = refl
 after-end p (openAt t) = rw suc-pred
@@ -104,7 +104,7 @@ pub until-down : (e : Option Place) (x y : Place) → x isBefore y ≡ true → 
 until-down none x y h k = refl
 until-down (some n) x y h k = omega places
 
--- from one test to another, turned round: what fails if the other fails, and what passes if the other passes
+-- a test fails if one that it implies fails; it passes if one passes that fails with it
 pub fails : {a b : Bool} → (a ≡ true → b ≡ true) → b ≡ false → a ≡ false
 fails {a = true} {b} f h = sym (f refl) ∙ h
 fails {a = false} {b} f h = refl

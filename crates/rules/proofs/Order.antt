@@ -1,21 +1,20 @@
--- The order of places: each place has a number, so that `omega places` proves what follows of the order by arithmetic.
+-- The order of places. A place has the number up x - down x, and by these numbers `omega places` reads and proves the order as arithmetic.
 use Prim.Native.Nat.{ℕ, zero, suc, _+_, _*_, _≤_, _<_}
-use mathlib.Core.Path.{_≡_, refl, sym, _∙_, ap}
+use mathlib.Core.Path.{_≡_, refl, ap}
 use mathlib.Core.Bool.{Bool, true, false, not, true≢false, false≢true}
 use native.Mathlib.Omega.{arith}
-use lib.Dec.{ltb, leb}
-use lib.IntN.{ℤ, pos, negsuc, sucℤ, predℤ, suc-pred, pred-suc}
+use lib.IntN.{ℤ, pos, negsuc, sucℤ, suc-pred, pred-suc}
 use lib.Signed.{ltZ, leZ}
 use borrow.Author.Tests.{ltb-true, ltb-false, leb-true, leb-false, not-true, not-false}
 use Rattle.rules.specs.Sets.{Place, at, gapAfter, nextPlace, previousPlace, _isBefore_}
 
 -- the test b tells whether m is less than n
-abbrev pub Tells : Bool → ℕ → ℕ → Type 0
+abbrev Tells : Bool → ℕ → ℕ → Type 0
 Tells b m n = (b ≡ true → m < n) × (b ≡ false → n ≤ m)
 
 ruleset tests = (arith, ltb-true, ltb-false, leb-true, leb-false, true≢false, false≢true)
 
--- an integer is what of it is above 0 less what is below
+-- an integer is above t - below t
 above : ℤ → ℕ
 above (pos n) = n
 above (negsuc n) = 0
@@ -38,11 +37,11 @@ leZ-tells (pos a) (negsuc b) = omega tests
 leZ-tells (negsuc a) (pos b) = omega tests
 leZ-tells (negsuc a) (negsuc b) = omega tests
 
-suc-is : (t : ℤ) → above (sucℤ t) + below t ≡ suc (above t + below (sucℤ t))
+suc-number : (t : ℤ) → above (sucℤ t) + below t ≡ suc (above t + below (sucℤ t))
 unfolding above below
-suc-is (pos n) = omega arith
-suc-is (negsuc zero) = omega arith
-suc-is (negsuc (suc n)) = omega arith
+suc-number (pos n) = omega arith
+suc-number (negsuc zero) = omega arith
+suc-number (negsuc (suc n)) = omega arith
 
 pub up : Place → ℕ
 up (at t) = 2 * above t
@@ -59,16 +58,16 @@ before-tells (at s) (gapAfter t) = omega (arith, leZ-tells s t .0, leZ-tells s t
 before-tells (gapAfter s) (at t) = omega (arith, ltZ-tells s t .0, ltZ-tells s t .1)
 before-tells (gapAfter s) (gapAfter t) = omega (arith, ltZ-tells s t .0, ltZ-tells s t .1)
 
-pub next-is : (x : Place) → up (nextPlace x) + down x ≡ suc (up x + down (nextPlace x))
+pub next-number : (x : Place) → up (nextPlace x) + down x ≡ suc (up x + down (nextPlace x))
 unfolding up down
-next-is (at t) = omega arith
-next-is (gapAfter t) = omega (arith, suc-is t)
+next-number (at t) = omega arith
+next-number (gapAfter t) = omega (arith, suc-number t)
 
 tested : (b : Bool) {m n : ℕ} → Tells b m n → (m < n → b ≡ true) × (n ≤ m → b ≡ false)
 tested true t = (λ h. refl, λ h. absurd (omega (arith, t .0 refl)))
 tested false t = (λ h. absurd (omega (arith, t .1 refl)), λ h. refl)
 
--- the rules by which `omega places` reads the order as arithmetic, and proves it
+-- the rules of `omega places`, for a test that passes, one that fails, and their negations
 pub before-less : (x y : Place) → x isBefore y ≡ true → up x + down y < up y + down x
 before-less x y = before-tells x y .0
 
@@ -127,14 +126,14 @@ previous-next (at t) = refl
 previous-next (gapAfter t) = ap gapAfter (pred-suc t)
 
 pub before-next-self : (x : Place) → x isBefore nextPlace x ≡ true
-before-next-self x = omega (places, next-is x)
+before-next-self x = omega (places, next-number x)
 
 pub before-next : (x y : Place) → x isBefore nextPlace y ≡ not (y isBefore x)
 before-next x y = go (y isBefore x) refl
   where
     go : (b : Bool) → y isBefore x ≡ b → x isBefore nextPlace y ≡ not b
-    go true e = omega (places, next-is y)
-    go false e = omega (places, next-is y)
+    go true e = omega (places, next-number y)
+    go false e = omega (places, next-number y)
 
-pub previous-is : (x : Place) → up x + down (previousPlace x) ≡ suc (up (previousPlace x) + down x)
-previous-is x = rw next-previous at (next-is (previousPlace x))
+pub previous-number : (x : Place) → up x + down (previousPlace x) ≡ suc (up (previousPlace x) + down x)
+previous-number x = rw next-previous at (next-number (previousPlace x))

@@ -1,15 +1,15 @@
 -- The stretches of a set are listed in one way only.
 use mathlib.Core.Path.{_≡_, refl, sym, _∙_, ap}
-use mathlib.Core.Bool.{Bool, true, false, not, _&&_, _||_, false≢true}
+use mathlib.Core.Bool.{Bool, true, false, _||_, false≢true}
 use mathlib.Core.List.{List, [], _∷_}
 use mathlib.Core.Option.{Option, none, some}
 use Rattle.rules.specs.Basics.{ifSome, exists}
 use Rattle.rules.specs.Sets.{Place, previousPlace, _isBefore_, Interval, holds, IsStretch, isIn, ComesBefore, AllStretches, Lists}
-use Rattle.rules.proofs.Order.{places, before-irreflexive, previous-is}
+use Rattle.rules.proofs.Order.{places, before-irreflexive, previous-number}
 use Rattle.rules.proofs.Edges.{firstEdge, endEdge, since, until, inside, is-inside, after-end, by-edges, since-up, until-down, fails}
 
 module _ (p : Place → Bool) where
-  -- a test that is false of each place before z which is out, as of one before z in a stretch
+  -- the test q fails for each place on that side that is out
   abbrev Falls : (Place → Bool) → (Place → Bool) → Type 0
   Falls side q = (x : Place) → side x ≡ true → p x ≡ false → q x ≡ false
 
@@ -21,9 +21,9 @@ module _ (p : Place → Bool) where
 
   same-first : (f g : Option Place) (z : Place) → since f z ≡ true → since g z ≡ true → Falls (_isBefore z) (since f) → Falls (_isBefore z) (since g) → ifSome f (λ x. p (previousPlace x)) false ≡ false → ifSome g (λ x. p (previousPlace x)) false ≡ false → f ≡ g
   same-first none none z i j k l a b = refl
-  same-first none (some g) z i j k l a b = cc (k (previousPlace g) (omega (places, previous-is g)) b)
-  same-first (some f) none z i j k l a b = cc (l (previousPlace f) (omega (places, previous-is f)) a)
-  same-first (some f) (some g) z i j k l a b = ap some (omega (places, previous-is f, previous-is g, k (previousPlace g) (omega (places, previous-is g)) b, l (previousPlace f) (omega (places, previous-is f)) a))
+  same-first none (some g) z i j k l a b = cc (k (previousPlace g) (omega (places, previous-number g)) b)
+  same-first (some f) none z i j k l a b = cc (l (previousPlace f) (omega (places, previous-number f)) a)
+  same-first (some f) (some g) z i j k l a b = ap some (omega (places, previous-number f, previous-number g, k (previousPlace g) (omega (places, previous-number g)) b, l (previousPlace f) (omega (places, previous-number f)) a))
 
   same-end : (e d : Option Place) (z : Place) → until e z ≡ true → until d z ≡ true → Falls (z isBefore_) (until e) → Falls (z isBefore_) (until d) → ifSome e p false ≡ false → ifSome d p false ≡ false → e ≡ d
   same-end none none z i j k l a b = refl
