@@ -72,7 +72,8 @@ since-next none y h = refl
 since-next (some f) y h = omega (places, next-number y)
 
 -- next before the first; at the end
-false-before : (p : Place → Bool) (f : Option Place) → ((y : Place) → since f (nextPlace y) ≡ true → since f y ≡ false → p y ≡ false) → ifSome f (λ x. p (previousPlace x)) false ≡ false
+false-before : (p : Place → Bool) (f : Option Place) → ((y : Place) → since f (nextPlace y) ≡ true → since f y ≡ false → p y ≡ false)
+    → ifSome f (λ x. p (previousPlace x)) false ≡ false
 false-before p none h = refl
 false-before p (some f) h = h (previousPlace f) (omega (places, next-number (previousPlace f), previous-number f)) (omega (places, previous-number f))
 

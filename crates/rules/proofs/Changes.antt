@@ -65,7 +65,8 @@ module _ (a b : Place) where
   first-side none h = refl
   first-side (some f) h = ap not (h .0)
 
-  last-side : (z : Option Place) → SameSide a b (ifSome z (λ x. nextPlace x ∷ []) []) → ifSome z (λ x. not (x isBefore a)) true ≡ ifSome z (λ x. not (x isBefore b)) true
+  last-side : (z : Option Place) → SameSide a b (ifSome z (λ x. nextPlace x ∷ []) [])
+      → ifSome z (λ x. not (x isBefore a)) true ≡ ifSome z (λ x. not (x isBefore b)) true
   last-side none h = refl
   last-side (some z) h = sym (before-next a z) ∙ h .0 ∙ before-next b z
 

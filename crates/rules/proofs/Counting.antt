@@ -60,13 +60,15 @@ module _ (f : Bool → Bool → Bool) where
   both-differ true false c d = omega (arith, one-at-most (exactlyOne (f true c) (f false d)))
   both-differ false true c d = omega (arith, one-at-most (exactlyOne (f false c) (f true d)))
 
-  both-turn : f false false ≡ false → (p q : Place → Bool) (xs : List Place) (a b : Bool) → turns (λ y. f (p y) (q y)) (f a b) xs ≤ turns p a xs + turns q b xs
+  both-turn : f false false ≡ false → (p q : Place → Bool) (xs : List Place) (a b : Bool)
+      → turns (λ y. f (p y) (q y)) (f a b) xs ≤ turns p a xs + turns q b xs
   both-turn e p q [] a b = rw e at (both-differ a false b false)
   both-turn e p q (x ∷ xs) a b = omega (arith, both-differ a (p x) b (q x), both-turn e p q xs (p x) (q x))
 
 module _ (v : Interval) where
   -- after a place that is in, one that is out: all that follow are out
-  turns-no-more : (d c : Place) (xs : List Place) → holds v d ≡ true → d isBefore c ≡ true → holds v c ≡ false → Rising (some c) xs → turns (holds v) false xs ≤ 0
+  turns-no-more : (d c : Place) (xs : List Place) → holds v d ≡ true → d isBefore c ≡ true → holds v c ≡ false
+      → Rising (some c) xs → turns (holds v) false xs ≤ 0
   turns-no-more d c [] i h o r = omega arith
   turns-no-more d c (x ∷ xs) i h o r =
       let out : holds v x ≡ false = fails (λ j. is-inside v c (since-up (firstEdge v) d c h (inside v d i .0)) (until-down (endEdge v) c x (r .0) (inside v x j .1))) o in
@@ -88,16 +90,17 @@ module _ (v : Interval) where
       go true e h = omega (arith, turns-out x xs e (r .1))
       go false e h = omega arith
 
-nothing-of-nothing : (o : Op) → apply o false false ≡ false
-nothing-of-nothing union = refl
-nothing-of-nothing intersection = refl
-nothing-of-nothing difference = refl
+-- what is in neither is out
+apply-out : (o : Op) → apply o false false ≡ false
+apply-out union = refl
+apply-out intersection = refl
+apply-out difference = refl
 
 meant-turns : (e : Expression) (c : Option Place) (xs : List Place) → Rising c xs → turns (meant e) false xs ≤ 2 * length (intervals e)
 unfolding meant intervals
 meant-turns (interval v) c xs r = interval-turns v c xs r
 meant-turns (combine o a b) c xs r =
-    let h = rw (nothing-of-nothing o) at (both-turn (apply o) (nothing-of-nothing o) (meant a) (meant b) xs false false) in
+    let h = rw (apply-out o) at (both-turn (apply o) (apply-out o) (meant a) (meant b) xs false false) in
     rw length-append (omega (arith, h, meant-turns a c xs r, meant-turns b c xs r))
 
 pub stretches-at-most : (e : Expression) → length (stretches e) ≤ length (intervals e)
@@ -135,19 +138,16 @@ operation-at-most none null h = nothing
 operation-at-most (some o) true h = nothing
 operation-at-most (some o) false h = rw zero-add (h o)
 
-module _ (shift : ℕ) where
-  -- the IVL_TS elements of one element
-  abbrev countOf : List Attribute → Nodes → ℕ
-  countOf attrs kids = cond (hasType attrs IVL-TS) 1 0 + intervalCount kids
+cond-at-most : (b : Bool) (n : ℕ) {x y : Outcome Expression} → AtMost (1 + n) x → AtMost (0 + n) y → AtMost (cond b 1 0 + n) (cond b x y)
+cond-at-most true n h k = h
+cond-at-most false n h k = k
 
+module _ (shift : ℕ) where
   set-at-most : (attrs : List Attribute) (kids : Nodes) → ((o : Op) → AtMost (intervalCount kids) (membersOf shift o kids))
-      → AtMost (countOf attrs kids) (setFrom shift attrs kids (λ o. membersOf shift o kids))
+      → AtMost (cond (hasType attrs IVL-TS) 1 0 + intervalCount kids) (setFrom shift attrs kids (λ o. membersOf shift o kids))
   unfolding setFrom
-  set-at-most attrs kids h = go (hasType attrs IVL-TS)
-    where
-      go : (b : Bool) → AtMost (cond b 1 0 + intervalCount kids) (cond b (intervalOf shift attrs kids andThen λ v. answered (interval v)) (ifSome (operationOf attrs) (λ o. cond (isNull attrs) (refused UNKNOWN-BOUND) (membersOf shift o kids)) (refused TYPE)))
-      go true = interval-at-most (intervalOf shift attrs kids) (intervalCount kids)
-      go false = operation-at-most (operationOf attrs) (isNull attrs) h
+  set-at-most attrs kids h =
+      cond-at-most (hasType attrs IVL-TS) (intervalCount kids) (interval-at-most (intervalOf shift attrs kids) (intervalCount kids)) (operation-at-most (operationOf attrs) (isNull attrs) h)
 
   mutual
     unfolding membersOf joined intervalCount

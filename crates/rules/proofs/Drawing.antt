@@ -64,13 +64,17 @@ sides-before a b x (y ∷ ys) h k r =
     (i ∙ sym j, sides-before a b y ys i j (r .1))
 
 module _ (p : Place → Bool) where
+  -- what is drawn at x of a stretch begun at l, if p is t there
+  abbrev goesOn : (l : Bound) (x : Place) (xs : List Place) (t : Bool) → List Interval
+  goesOn l x xs t = cond t [] (l upto highAt (previousPlace x) ∷ []) ++ drawn p (cond t (some l) none) xs
+
   drawn-follows : (c : Place) (begun : Option Bound) (xs : List Place) → BeginsAfter c begun → Rising (some c) xs → Follows (some c) (drawn p begun xs)
   unfolding drawn
   drawn-follows c none [] b r = tt
   drawn-follows c (some l) [] b r = b
   drawn-follows c none (x ∷ xs) b r = drawn-follows c (cond (p x) (some (lowAt x)) none) xs (begins-after c x (p x) (r .0)) (rising-down c x xs (r .0) (r .1))
   drawn-follows c (some l) (x ∷ xs) b r =
-      elim (p x) as (λ t. Follows (some c) (cond t [] (l upto highAt (previousPlace x) ∷ []) ++ drawn p (cond t (some l) none) xs))
+      elim (p x) as (λ t. Follows (some c) (goesOn l x xs t))
       [ false ↦ b | true ↦ drawn-follows c (some l) xs b (rising-down c x xs (r .0) (r .1)) ]
 
   drawn-canonical : (c : Place) (begun : Option Bound) (xs : List Place) → BegunAt c begun → Rising (some c) xs → Canonical (drawn p begun xs)
@@ -79,7 +83,7 @@ module _ (p : Place → Bool) where
   drawn-canonical c (some l) [] b r = (open-end (firstPlace l), tt, tt)
   drawn-canonical c none (x ∷ xs) b r = drawn-canonical x (cond (p x) (some (lowAt x)) none) xs (begun-low x (p x)) (r .1)
   drawn-canonical c (some l) (x ∷ xs) b r =
-      elim (p x) as (λ t. Canonical (cond t [] (l upto highAt (previousPlace x) ∷ []) ++ drawn p (cond t (some l) none) xs)) [
+      elim (p x) as (λ t. Canonical (goesOn l x xs t)) [
         | false ↦ (rw end-high (opens-at (firstPlace l) c x b (r .0)), rw end-high (drawn-follows x none xs refl (r .1)), drawn-canonical x none xs refl (r .1))
         | true ↦ drawn-canonical x (some l) xs (since-up (firstPlace l) c x (r .0) b) (r .1)
       ]
@@ -111,7 +115,7 @@ module _ (p : Place → Bool) where
       drawn-said x (cond (p x) (some (lowAt x)) none) xs (begun-low x (p x)) (r .1) y
       ∙ said-from x y xs (r .1) _ false (p x) (λ h. e ∙ rw (first-low, h) (and-false (p x))) (λ h. e ∙ rw (first-low, h) (and-true (p x)))
   drawn-said c (some l) (x ∷ xs) b r y =
-      elim (p x) as (λ t. isIn (cond t [] (l upto highAt (previousPlace x) ∷ []) ++ drawn p (cond t (some l) none) xs) y ≡ cond (y isBefore x) (fromLow l y) (said t y xs)) [
+      elim (p x) as (λ t. isIn (goesOn l x xs t) y ≡ cond (y isBefore x) (fromLow l y) (said t y xs)) [
         | false ↦ ap₂ _||_ (drawn-holds l x y) (drawn-said x none xs refl (r .1) y ∙ said-from x y xs (r .1) false false false (λ h. refl) (λ h. refl))
             ∙ or-cond (y isBefore x) (fromLow l y) (said false y xs)
         | true ↦ drawn-said x (some l) xs (since-up (firstPlace l) c x (r .0) b) (r .1) y
@@ -119,7 +123,8 @@ module _ (p : Place → Bool) where
       ]
 
   -- p says of each place what it says of the last change before it
-  steady-said : (c : Place) (xs : List Place) → Rising (some c) xs → (y : Place) → ((z : Place) → z isBefore c ≡ false → SameSide z y xs → p z ≡ p y) → said (p c) y xs ≡ p y
+  steady-said : (c : Place) (xs : List Place) → Rising (some c) xs → (y : Place)
+      → ((z : Place) → z isBefore c ≡ false → SameSide z y xs → p z ≡ p y) → said (p c) y xs ≡ p y
   steady-said c [] r y h = h c (before-irreflexive c) tt
   steady-said c (x ∷ xs) r y h = go (y isBefore x) refl (λ e. steady-said x xs (r .1) y (λ z k s. h z (omega places) (k ∙ sym e, s)))
     where
@@ -130,11 +135,16 @@ module _ (p : Place → Bool) where
 pub stretches-are : (e : Expression) → Lists (meant e) (stretches e)
 unfolding stretches
 stretches-are e =
+    let p = meant e in
     let xs = changes e in
     let c = placeBefore xs in
-    let p = meant e in
-    canonical-lists (drawn-canonical p c (cond (p c) (some unbounded) none) xs (begun-at unbounded c (p c) refl) (changes-rise e))
-    (λ y. drawn-said p c (cond (p c) (some unbounded) none) xs (begun-at unbounded c (p c) refl) (changes-rise e) y ∙ ap (λ b. said p b y xs) (begun-reaches unbounded y (p c) ∙ and-true (p c)) ∙ steady-said p c xs (changes-rise e) y (λ z k. meant-steady e z y))
+    let begun = cond (p c) (some unbounded) none in
+    let begins = begun-at unbounded c (p c) refl in
+    let rise = changes-rise e in
+    canonical-lists (drawn-canonical p c begun xs begins rise)
+    (λ y. drawn-said p c begun xs begins rise y
+    ∙ ap (λ b. said p b y xs) (begun-reaches unbounded y (p c) ∙ and-true (p c))
+    ∙ steady-said p c xs rise y (λ z k. meant-steady e z y))
 
 pub is-stretches : (e : Expression) {ss : List Interval} → Lists (meant e) ss → ss ≡ stretches e
 is-stretches e l = lists-unique l (stretches-are e)

@@ -8,36 +8,49 @@ use Rattle.rules.specs.Sets.{Place, previousPlace, _isBefore_, Interval,
 use Rattle.rules.proofs.Order.{places, before-irreflexive, previous-number}
 use Rattle.rules.proofs.Edges.{firstEdge, endEdge, since, until, inside, is-inside, after-end, by-edges, since-up, until-down, fails}
 
-module _ (p : Place → Bool) where
-  -- the test q fails for each place on that side that is out
-  abbrev Falls : (Place → Bool) → (Place → Bool) → Type 0
-  Falls side q = (x : Place) → side x ≡ true → p x ≡ false → q x ≡ false
+module _ (p : Place → Bool) (z : Place) where
+  -- what holds of the edges of a stretch that has z: no place between the edge and z is out, and the next one beyond the edge is
+  abbrev IsFirst : Option Place → Type 0
+  IsFirst f = (since f z ≡ true) × ((x : Place) → x isBefore z ≡ true → p x ≡ false → since f x ≡ false) × (ifSome f (λ x. p (previousPlace x)) false ≡ false)
 
-  falls-low : (s : Interval) → IsStretch p s → (z : Place) → holds s z ≡ true → Falls (_isBefore z) (since (firstEdge s))
-  falls-low s k z i x b = fails (λ h. k .filled x (is-inside s x h (until-down (endEdge s) x z b (inside s z i .1))))
+  abbrev IsEnd : Option Place → Type 0
+  IsEnd e = (until e z ≡ true) × ((x : Place) → z isBefore x ≡ true → p x ≡ false → until e x ≡ false) × (ifSome e p false ≡ false)
 
-  falls-high : (s : Interval) → IsStretch p s → (z : Place) → holds s z ≡ true → Falls (z isBefore_) (until (endEdge s))
-  falls-high s k z i x b = fails (λ h. k .filled x (is-inside s x (since-up (firstEdge s) z x b (inside s z i .0)) h))
+  is-first : (s : Interval) → IsStretch p s → holds s z ≡ true → IsFirst (firstEdge s)
+  is-first s k i =
+      (inside s z i .0, λ x b. fails (λ h. k .filled x (is-inside s x h (until-down (endEdge s) x z b (inside s z i .1)))), k .before)
 
-  same-first : (f g : Option Place) (z : Place) → since f z ≡ true → since g z ≡ true → Falls (_isBefore z) (since f) → Falls (_isBefore z) (since g) → ifSome f (λ x. p (previousPlace x)) false ≡ false → ifSome g (λ x. p (previousPlace x)) false ≡ false → f ≡ g
-  same-first none none z i j k l a b = refl
-  same-first none (some g) z i j k l a b = cc (k (previousPlace g) (omega (places, previous-number g)) b)
-  same-first (some f) none z i j k l a b = cc (l (previousPlace f) (omega (places, previous-number f)) a)
-  same-first (some f) (some g) z i j k l a b = ap some (omega (places, previous-number f, previous-number g, k (previousPlace g) (omega (places, previous-number g)) b, l (previousPlace f) (omega (places, previous-number f)) a))
+  is-end : (s : Interval) → IsStretch p s → holds s z ≡ true → IsEnd (endEdge s)
+  is-end s k i = (
+    inside s z i .1,
+    λ x b. fails (λ h. k .filled x (is-inside s x (since-up (firstEdge s) z x b (inside s z i .0)) h)),
+    sym (after-end p (s .high)) ∙ k .after,
+  )
 
-  same-end : (e d : Option Place) (z : Place) → until e z ≡ true → until d z ≡ true → Falls (z isBefore_) (until e) → Falls (z isBefore_) (until d) → ifSome e p false ≡ false → ifSome d p false ≡ false → e ≡ d
-  same-end none none z i j k l a b = refl
-  same-end none (some d) z i j k l a b = cc (k d j b)
-  same-end (some e) none z i j k l a b = cc (l e i a)
-  same-end (some e) (some d) z i j k l a b = ap some (omega (places, k d j b, l e i a))
+  -- the edge f is not before g
+  not-sooner : (f g : Option Place) → IsFirst f → IsFirst g → ifSome g (λ y. since f (previousPlace y)) false ≡ false
+  not-sooner f none a b = refl
+  not-sooner f (some g) a b = a .1 (previousPlace g) (omega (places, previous-number g)) (b .2)
+
+  same-first : (f g : Option Place) → IsFirst f → IsFirst g → f ≡ g
+  same-first f g a b = go f g (not-sooner f g a b) (not-sooner g f b a)
+    where
+      go : (f g : Option Place) → ifSome g (λ y. since f (previousPlace y)) false ≡ false → ifSome f (λ y. since g (previousPlace y)) false ≡ false → f ≡ g
+      go none none h k = refl
+      go none (some g) h k = cc
+      go (some f) none h k = cc
+      go (some f) (some g) h k = ap some (omega (places, previous-number f, previous-number g))
+
+  same-end : (e d : Option Place) → IsEnd e → IsEnd d → e ≡ d
+  same-end none none a b = refl
+  same-end none (some d) a b = cc (a .1 d (b .0) (b .2))
+  same-end (some e) none a b = cc (b .1 e (a .0) (a .2))
+  same-end (some e) (some d) a b = ap some (omega (places, a .1 d (b .0) (b .2), b .1 e (a .0) (a .2)))
 
   -- stretches that share a place are one
-  shared : (s r : Interval) → IsStretch p s → IsStretch p r → (z : Place) → holds s z ≡ true → holds r z ≡ true → s ≡ r
-  shared s r k l z i j =
-      let a = inside s z i in
-      let b = inside r z j in
-      by-edges s r (same-first (firstEdge s) (firstEdge r) z (a .0) (b .0) (falls-low s k z i) (falls-low r l z j) (k .before) (l .before))
-      (same-end (endEdge s) (endEdge r) z (a .1) (b .1) (falls-high s k z i) (falls-high r l z j) (sym (after-end p (s .high)) ∙ k .after) (sym (after-end p (r .high)) ∙ l .after))
+  shared : (s r : Interval) → IsStretch p s → IsStretch p r → holds s z ≡ true → holds r z ≡ true → s ≡ r
+  shared s r k l i j =
+      by-edges s r (same-first (firstEdge s) (firstEdge r) (is-first s k i) (is-first r l j)) (same-end (endEdge s) (endEdge r) (is-end s k i) (is-end r l j))
 
 either : {C : Type 0} (a b : Bool) → a || b ≡ true → (a ≡ true → C) → (b ≡ true → C) → C
 either true b e f g = f refl
@@ -51,15 +64,16 @@ some-in : {p : Place → Bool} (s : Interval) (ss : List Interval) → IsStretch
 unfolding exists
 some-in s ss k c = let i = k .inhabited in false≢true (c (i .0) ∙ rw (i .1) refl)
 
-first-same : {p : Place → Bool} (s r : Interval) (ss rs : List Interval) → AllStretches p (s ∷ ss) → AllStretches p (r ∷ rs) → Same (s ∷ ss) (r ∷ rs) → s ≡ r
+first-same : {p : Place → Bool} (s r : Interval) (ss rs : List Interval)
+    → AllStretches p (s ∷ ss) → AllStretches p (r ∷ rs) → Same (s ∷ ss) (r ∷ rs) → s ≡ r
 unfolding exists
 first-same {p} s r ss rs a b c =
     let z = a .0 .inhabited .0 in
     let w = b .0 .inhabited .0 in
     let i : holds s z ≡ true = a .0 .inhabited .1 in
     let j : holds r w ≡ true = b .0 .inhabited .1 in
-    either (holds r z) (isIn rs z) (sym (c z) ∙ rw i refl) (shared p s r (a .0) (b .0) z i)
-    (λ k. either (holds s w) (isIn ss w) (c w ∙ rw j refl) (λ l. shared p s r (a .0) (b .0) w l j)
+    either (holds r z) (isIn rs z) (sym (c z) ∙ rw i refl) (shared p z s r (a .0) (b .0) i)
+    (λ k. either (holds s w) (isIn ss w) (c w ∙ rw j refl) (λ l. shared p w s r (a .0) (b .0) l j)
     (λ l. absurd (omega (places, a .1 z w i l, b .1 w z j k))))
 
 rest-same : (s : Interval) (ss rs : List Interval) → ComesBefore s ss → ComesBefore s rs → Same (s ∷ ss) (s ∷ rs) → Same ss rs
