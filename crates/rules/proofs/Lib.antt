@@ -1,3 +1,10 @@
+pub mod Order
+pub mod Edges
+pub mod Canonical
+pub mod Unique
+pub mod Changes
+pub mod Drawing
+pub mod Counting
 pub mod Opened
 pub mod WorkedExamples
 pub mod Limits
