@@ -1,0 +1,61 @@
+-- `text::is_ascii_block` meets its contract. The loop's invariant: `all` says whether the bytes passed are ASCII.
+use Prim.Native.Nat.{_≤_, _-_}
+use mathlib.Core.Path.{_≡_, refl}
+use native.Mathlib.Omega.{arith}
+use lib.ListN.{take, drop}
+use Rattle.rules.specs.Basics.{every}
+use Rattle.text.specs.Characters.{isAscii}
+use borrow.Author.Needs.{needs}
+use Rattle.text.proofs.is_ascii_block.Statement.{statement}
+use Rattle.text.proofs.is_ascii_block.Tie as tie
+use Rattle.text.proofs.is_ascii_block.Reads as reads
+use Rattle.text.proofs.is_ascii_block.Lts as lts
+
+abbrev Inv-loop : tie.InvT-loop
+Inv-loop s at all₀ k₀ all k = (k ≤ 32) × (all ≡ every isAscii (take k (drop at s)))
+
+abbrev μ-loop : tie.MeasureT-loop
+μ-loop s at all₀ k₀ all k = 32 - k
+
+-- src/lib.rt:107:5
+loop-holds : tie.Need-loop-holds Inv-loop μ-loop
+unfolding every
+loop-holds c = (omega arith, refl)
+
+-- src/lib.rt:108:24
+add-all : tie.Need-add-all Inv-loop μ-loop
+add-all c = search needs
+
+-- src/lib.rt:108:22
+shared-slice-read-all : tie.Need-shared-slice-read-all Inv-loop μ-loop
+shared-slice-read-all c = search needs
+
+-- src/lib.rt:109:9
+add-k : tie.Need-add-k Inv-loop μ-loop
+add-k c = search needs
+
+-- src/lib.rt:107:5
+loop-less : tie.Need-loop-less Inv-loop μ-loop
+loop-less c = search needs
+
+-- src/lib.rt:107:5
+loop-again : tie.Need-loop-again Inv-loop μ-loop
+loop-again c = (omega arith, ?x)
+
+-- src/lib.rt:101:1
+returns : tie.Need-returns Inv-loop μ-loop
+returns c = ?y
+
+pub is-ascii-block-spec : {M : Type 1} → statement M
+is-ascii-block-spec =
+    tie.close
+    (tie.spec
+    Inv-loop
+    μ-loop
+    loop-holds
+    add-all
+    shared-slice-read-all
+    add-k
+    loop-less
+    loop-again
+    returns)
