@@ -1,3 +1,11 @@
 pub mod Opened
 pub mod WorkedExamples
 pub mod Limits
+pub mod Tests
+pub mod Parsers
+pub mod Precedence
+pub mod Digits
+pub mod Calendar
+pub mod Utf8
+pub mod References
+pub mod Ticks
