@@ -1,5 +1,5 @@
 -- Where a text may be cut: before the bytes that lead a character.
-use Prim.Native.Nat.{ℕ, zero, suc, _+_, _≤_, _<_, min}
+use Prim.Native.Nat.{ℕ, zero, suc, _-_, _≤_, _<_, min}
 use mathlib.Core.Path.{_≡_, refl, sym, _∙_, ap}
 use mathlib.Core.Bool.{Bool, true, false, not, _&&_, _||_, cond, and-eq-true-iff, false≢true}
 use mathlib.Core.List.{List, [], _∷_}
@@ -80,11 +80,21 @@ pub boundary : (s : List ℕ) (n : ℕ) → isUtf8 s ≡ true → n < length s �
 unfolding every
 boundary s n e h = boundary-from [] s n refl e h
 
-pub longest-here : (n : ℕ) (s : List ℕ) → isUtf8 (take n s) ≡ true → longest n s ≡ n
+longest-here : (n : ℕ) (s : List ℕ) → isUtf8 (take n s) ≡ true → longest n s ≡ n
 unfolding longest
 longest-here zero s e = refl
 longest-here (suc n) s e = rw e refl
 
-pub longest-less : (n : ℕ) (s : List ℕ) → isUtf8 (take (suc n) s) ≡ false → longest (suc n) s ≡ longest n s
+-- the cut of a text, by going back from the room to a byte that is no tail
+pub cut-from : (room : ℕ) (s : List ℕ) → room < length s → cutLength room s ≡ longest room s
+cut-from room s h = ap (λ (n : ℕ). longest n s) (omega arith)
+
+pub longest-boundary : (n : ℕ) (s : List ℕ) → isUtf8 s ≡ true → n < length s → isTail (getD s n 0) ≡ false → longest n s ≡ n
+longest-boundary n s e h t = longest-here n s (boundary s n e h ∙ ap not t)
+
+pub longest-tail : (n : ℕ) (s : List ℕ) → isUtf8 s ≡ true → 0 < n → n < length s → isTail (getD s n 0) ≡ true → longest n s ≡ longest (n - 1) s
 unfolding longest
-longest-less n s e = rw e refl
+longest-tail zero s e p h t = absurd (omega arith)
+longest-tail (suc n) s e p h t =
+    let d : suc n - 1 ≡ n = omega arith in
+    rw (boundary s (suc n) e h, t, d) refl

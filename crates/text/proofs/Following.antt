@@ -1,12 +1,12 @@
 -- Whole characters one after another: what stands at a position decides whether the rest is UTF-8.
-use Prim.Native.Nat.{ℕ, zero, suc, _+_, _≤_, _<_}
+use Prim.Native.Nat.{ℕ, zero, suc, _+_, _-_, _≤_, _<_}
 use mathlib.Core.Path.{_≡_, refl, sym, _∙_, ap}
 use mathlib.Core.Bool.{Bool, true, false, _&&_, cond, and-true, and-assoc, false≢true}
 use mathlib.Core.List.{List, [], _∷_, _++_}
 use mathlib.Core.Option.{Option, none, some, Option·some-ne-none}
 use lib.Dec.{ltb}
 use lib.ListN.{length, getD, take, drop, length-drop, take-append-drop}
-use lib.Seq.{drop-cons, drop-drop}
+use lib.Seq.{drop-cons, drop-drop, take-suc, getD-drop}
 use native.Mathlib.Nat.{add-assoc}
 use native.Mathlib.Numerals.{add-one}
 use native.Mathlib.Omega.{arith}
@@ -139,6 +139,17 @@ ascii-all (c ∷ a) b e = go (isAscii c) refl e (ascii-all a b)
     go true d q h = ascii-first c (a ++ b) (ltb-true c 128 d) ∙ h q
     go false d q h = absurd (false≢true q)
 
+every-last : (p : ℕ → Bool) (l : List ℕ) (a : ℕ) → every p (l ++ (a ∷ [])) ≡ every p l && p a
+unfolding every
+every-last p [] a = and-true (p a)
+every-last p (b ∷ l) a = ap (λ (t : Bool). p b && t) (every-last p l a) ∙ sym (and-assoc (p b) (every p l) (p a))
+
+-- one byte more
+pub every-more : (p : ℕ → Bool) (s : List ℕ) (at k : ℕ) → at + k < length s
+    → every p (take k (drop at s)) && p (getD s (at + k) 0) ≡ every p (take (k + 1) (drop at s))
+every-more p s at k h = sym (rw (add-one k, take-suc (drop at s) k 0 (rw length-drop (omega arith)), getD-drop at s k 0)
+    (every-last p (take k (drop at s)) (getD s (at + k) 0)))
+
 pub skips-none : (s : List ℕ) (i : ℕ) → i ≤ length s → Skips s i i
 skips-none s i h = record { low = omega arith; high = h; whole = refl }
 
@@ -155,3 +166,17 @@ skips-block s i j n k h a = record {
   high = h;
   whole = k .whole ∙ rw (← take-append-drop n (drop j s)) (ascii-all (take n (drop j s)) (drop n (drop j s)) a ∙ ap isUtf8 (drop-drop n j s));
 }
+
+pub passes-ascii : (s : List ℕ) (at j : ℕ) → at < length s → getD s at 0 < 128 → Skips s (at + 1) j → Passes s at (j - at)
+passes-ascii s at j h a k =
+    let e : at + (j - at) ≡ j = omega (arith, k .low) in
+    record {
+      high = omega (arith, k .high);
+      whole = skips-one s at at (skips-none s at (omega arith)) h a .whole ∙ k .whole ∙ rw (lt-ltb 0 (j - at) (omega (arith, k .low)), e) refl;
+    }
+
+pub passes-none : (s : List ℕ) (i n : ℕ) → Passes s i n → n ≡ 0 → isUtf8 (drop i s) ≡ false
+passes-none s i n k e = k .whole ∙ rw e refl
+
+pub passes-on : (s : List ℕ) (i n : ℕ) → Passes s i n → (n ≡ 0 → ⊥) → isUtf8 (drop i s) ≡ isUtf8 (drop (i + n) s)
+passes-on s i n k e = k .whole ∙ rw (lt-ltb 0 n (omega arith)) refl

@@ -62,8 +62,17 @@ leads-four c l h e = rw (past-three c l, above 0xF0 0xF0 c (omega arith), inside
 pub leads-nothing-low : (c : ℕ) → 0x80 ≤ c → c < 0xC2 → none ≡ followers c
 unfolding followers leadOf find
 leads-nothing-low c l h =
-    rw (above 0x00 0x7F c (omega arith), below 0xC2 0xDF c (omega arith), below 0xE0 0xE0 c (omega arith), below 0xE1 0xEC c (omega arith),
-    below 0xEE 0xEF c (omega arith), below 0xED 0xED c (omega arith), below 0xF0 0xF0 c (omega arith), below 0xF1 0xF3 c (omega arith), below 0xF4 0xF4 c (omega arith)) refl
+    rw (
+      above 0x00 0x7F c (omega arith),
+      below 0xC2 0xDF c (omega arith),
+      below 0xE0 0xE0 c (omega arith),
+      below 0xE1 0xEC c (omega arith),
+      below 0xEE 0xEF c (omega arith),
+      below 0xED 0xED c (omega arith),
+      below 0xF0 0xF0 c (omega arith),
+      below 0xF1 0xF3 c (omega arith),
+      below 0xF4 0xF4 c (omega arith),
+    ) refl
 
 -- F5-FF
 pub leads-nothing-high : (c : ℕ) → 0xF5 ≤ c → none ≡ followers c

@@ -91,8 +91,16 @@ pub fn char_length(s: &[u8], at: usize) -> usize
     match class {
         Lead::Alone => 1,
         Lead::Two => if follows_two(s, at + 1) { 2 } else { 0 },
-        Lead::Three(low, high) => if follows_three(s, at + 1, low, high) { 3 } else { 0 },
-        Lead::Four(low, high) => if follows_four(s, at + 1, low, high) { 4 } else { 0 },
+        Lead::Three(low, high) => if follows_three(s, at + 1, low, high) {
+            3
+        } else {
+            0
+        },
+        Lead::Four(low, high) => if follows_four(s, at + 1, low, high) {
+            4
+        } else {
+            0
+        },
         Lead::Nothing => 0,
     }
 }

@@ -1,10 +1,12 @@
 -- `text::is_ascii_block` meets its contract. The loop's invariant: `all` says whether the bytes passed are ASCII.
+use mathlib.Core.Path.{ap}
 use Prim.Native.Nat.{_≤_, _-_}
-use mathlib.Core.Path.{_≡_, refl}
+use mathlib.Core.Path.{_≡_, refl, _∙_}
 use native.Mathlib.Omega.{arith}
 use lib.ListN.{take, drop}
 use Rattle.rules.specs.Basics.{every}
 use Rattle.text.specs.Characters.{isAscii}
+use Rattle.text.proofs.Following.{every-more}
 use borrow.Author.Needs.{needs}
 use Rattle.text.proofs.is_ascii_block.Statement.{statement}
 use Rattle.text.proofs.is_ascii_block.Tie as tie
@@ -40,11 +42,11 @@ loop-less c = search needs
 
 -- src/lib.rt:107:5
 loop-again : tie.Need-loop-again Inv-loop μ-loop
-loop-again c = (omega arith, ?x)
+loop-again c = (omega arith, rw (c .before .before .loop .inv .1) (every-more isAscii (c .before .before .before .args .s .now) (c .before .before .before .args .at) (c .before .before .loop .k) (omega (arith, c .before .before .before .pre))))
 
 -- src/lib.rt:101:1
 returns : tie.Need-returns Inv-loop μ-loop
-returns c = ?y
+returns c = let e : c .before .loop .k ≡ 32 = omega arith in c .before .loop .inv .1 ∙ ap (λ k. every isAscii (take k (drop (c .before .before .args .at) (c .before .before .args .s .now)))) e
 
 pub is-ascii-block-spec : {M : Type 1} → statement M
 is-ascii-block-spec =

@@ -1,6 +1,10 @@
 -- `text::is_utf8` meets its contract. The loop's invariant: the text is UTF-8 exactly if what is left is.
+use mathlib.Core.Path.{ap}
+use lib.ListN.{drop-of-length-le}
+use Rattle.rules.specs.Utf8.{follows}
+use Rattle.text.proofs.Following.{passes-none, passes-on}
 use Prim.Native.Nat.{_≤_, _-_}
-use mathlib.Core.Path.{_≡_, refl}
+use mathlib.Core.Path.{_≡_, refl, sym, _∙_}
 use native.Mathlib.Omega.{arith}
 use lib.ListN.{length, drop}
 use Rattle.rules.specs.Utf8.{isUtf8}
@@ -27,7 +31,7 @@ pass-requires c κs = search needs
 
 -- src/lib.rt:163:13
 returns : tie.Need-returns Inv-loop μ-loop
-returns c = ?a
+returns c = sym (c .before .before .before .loop .inv .1 ∙ passes-none _ _ _ (c .before .pass .ensures) (c .if1 .taken))
 
 -- src/lib.rt:165:9
 add-i : tie.Need-add-i Inv-loop μ-loop
@@ -39,11 +43,12 @@ loop-less c = search needs
 
 -- src/lib.rt:160:5
 loop-again : tie.Need-loop-again Inv-loop μ-loop
-loop-again c = (?b, ?c)
+loop-again c = (c .before .pass .ensures .high, c .before .before .before .loop .inv .1 ∙ passes-on _ _ _ (c .before .pass .ensures) (c .if1 .left))
 
 -- src/lib.rt:156:1
 returns-2 : tie.Need-returns-2 Inv-loop μ-loop
-returns-2 c = ?d
+unfolding follows
+returns-2 c = sym (c .before .loop .inv .1 ∙ ap isUtf8 (drop-of-length-le _ (c .loop-test .left)))
 
 pub is-utf8-spec : {M : Type 1} → statement M
 is-utf8-spec =

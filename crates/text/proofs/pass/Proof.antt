@@ -1,5 +1,5 @@
 -- `text::pass` meets its contract.
-use Rattle.text.proofs.Following.{passes-char}
+use Rattle.text.proofs.Following.{passes-ascii, passes-char}
 use borrow.Author.Needs.{needs}
 use Rattle.text.proofs.pass.Statement.{statement}
 use Rattle.text.proofs.pass.Tie as tie
@@ -26,7 +26,7 @@ sub-result c = search needs
 
 -- src/lib.rt:150:9
 returns : tie.Need-returns
-returns c = ?x
+returns c = passes-ascii _ _ _ (c .before .before .before .before .pre) (c .before .if1 .taken) (c .skip-ascii .ensures)
 
 -- src/lib.rt:152:5
 char-length-requires : tie.Need-char-length-requires

@@ -42,7 +42,7 @@ loop-less c = search needs
 
 -- src/lib.rt:135:5
 loop-again : tie.Need-loop-again Inv-loop μ-loop
-loop-again c = skips-one _ _ _ (c .before .before .before .loop .inv) ?x ?y
+loop-again c = skips-one _ _ _ (c .before .before .before .loop .inv) (c .before .before .loop-test .taken) (c .if1 .left)
 
 -- src/lib.rt:130:1
 returns-2 : tie.Need-returns-2 Inv-loop μ-loop

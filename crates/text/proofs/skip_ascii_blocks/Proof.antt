@@ -1,5 +1,8 @@
 -- `text::skip_ascii_blocks` meets its contract. The loop's invariant: what is passed is whole characters.
+use mathlib.Core.Path.{sym, _∙_}
+use borrow.Author.Tests.{not-false}
 use Prim.Native.Nat.{_-_}
+use native.Mathlib.Omega.{arith}
 use lib.ListN.{length}
 use Rattle.text.specs.Characters.{Skips}
 use Rattle.text.proofs.Following.{skips-none, skips-block}
@@ -42,7 +45,7 @@ loop-less c = search needs
 
 -- src/lib.rt:120:5
 loop-again : tie.Need-loop-again Inv-loop μ-loop
-loop-again c = skips-block _ _ _ 32 (c .before .before .before .loop .inv) ?x ?y
+loop-again c = skips-block _ _ _ 32 (c .before .before .before .loop .inv) (omega (arith, c .before .before .before .loop .inv .high)) (sym (c .before .is-ascii-block .ensures) ∙ not-false _ (c .if1 .left))
 
 -- src/lib.rt:115:1
 returns-2 : tie.Need-returns-2 Inv-loop μ-loop
