@@ -1,7 +1,7 @@
 -- Where a text may be cut: before the bytes that lead a character.
 use Prim.Native.Nat.{ℕ, zero, suc, _-_, _≤_, _<_, min}
 use mathlib.Core.Path.{_≡_, refl, sym, _∙_, ap}
-use mathlib.Core.Bool.{Bool, true, false, not, _&&_, _||_, cond, and-eq-true-iff, false≢true}
+use mathlib.Core.Bool.{Bool, true, false, not, _&&_, _||_, cond, false≢true}
 use mathlib.Core.List.{List, [], _∷_}
 use mathlib.Core.Option.{Option, none, some, Option·none-ne-some}
 use lib.Dec.{leb, ltb}
@@ -11,7 +11,8 @@ use native.Mathlib.Omega.{arith}
 use borrow.Author.Tests.{leb-true, ltb-true}
 use Rattle.rules.specs.Basics.{ifSome, every, find, isFrom}
 use Rattle.rules.specs.Utf8.{Range, inRange, Lead, tail, leads, leadOf, follows, isUtf8, longest, cutLength}
-use Rattle.text.proofs.Leads.{inside, bounds, below, above}
+use Rattle.rules.proofs.Tests.{both-true, isFrom-true}
+use Rattle.text.proofs.Leads.{inside, below, above}
 
 abbrev isTail : ℕ → Bool
 isTail c = inRange c tail
@@ -31,7 +32,7 @@ all-lines = refl
 find-every : {A : Type 0} (p q : A → Bool) (l : List A) (a : A) → every q l ≡ true → find p l ≡ some a → (p a ≡ true) × (q a ≡ true)
 unfolding find every
 find-every p q [] a e f = absurd (Option·none-ne-some a f)
-find-every p q (b ∷ l) a e f = go (p b) refl f (and-eq-true-iff (q b) (every q l) .0 e) (find-every p q l a)
+find-every p q (b ∷ l) a e f = go (p b) refl f (both-true (q b) (every q l) e) (find-every p q l a)
   where
     go : (t : Bool) → p b ≡ t → cond t (some b) (find p l) ≡ some a → (q b ≡ true) × (every q l ≡ true)
         → (every q l ≡ true → find p l ≡ some a → (p a ≡ true) × (q a ≡ true)) → (p a ≡ true) × (q a ≡ true)
@@ -40,13 +41,13 @@ find-every p q (b ∷ l) a e f = go (p b) refl f (and-eq-true-iff (q b) (every q
 
 in-tail : (r : Range) (c : ℕ) → isTailRange r ≡ true → inRange c r ≡ true → isTail c ≡ true
 in-tail r c e f =
-    let h = and-eq-true-iff (leb 0x80 (r .low)) (leb (r .high) 0xBF) .0 e in
-    let k = bounds (r .low) (r .high) c f in
+    let h = both-true (leb 0x80 (r .low)) (leb (r .high) 0xBF) e in
+    let k = isFrom-true (r .low) (r .high) c f in
     inside 0x80 0xBF c (omega (arith, leb-true 0x80 (r .low) (h .0))) (omega (arith, leb-true (r .high) 0xBF (h .1)))
 
 no-tail : (r : Range) (c : ℕ) (a b : Bool) → ltb (r .high) 0x80 ≡ a → ltb 0xBF (r .low) ≡ b → a || b ≡ true → inRange c r ≡ true → isTail c ≡ false
-no-tail r c true b p q e f = let k = bounds (r .low) (r .high) c f in below 0x80 0xBF c (omega (arith, ltb-true (r .high) 0x80 p))
-no-tail r c false true p q e f = let k = bounds (r .low) (r .high) c f in above 0x80 0xBF c (omega (arith, ltb-true 0xBF (r .low) q))
+no-tail r c true b p q e f = let k = isFrom-true (r .low) (r .high) c f in below 0x80 0xBF c (omega (arith, ltb-true (r .high) 0x80 p))
+no-tail r c false true p q e f = let k = isFrom-true (r .low) (r .high) c f in above 0x80 0xBF c (omega (arith, ltb-true 0xBF (r .low) q))
 no-tail r c false false p q e f = absurd (false≢true e)
 
 boundary-from : (l : List Range) (s : List ℕ) (n : ℕ) → every isTailRange l ≡ true → follows l s ≡ true → n < length s
@@ -59,7 +60,7 @@ boundary-from [] (c ∷ s) zero t e h = ap not (sym (by-lead (leadOf c) refl e))
     by-lead none d f = absurd (false≢true f)
     by-lead (some l) d f =
         let k : (inRange c (l .lead) ≡ true) × (isLine l ≡ true) = find-every (λ m. inRange c (m .lead)) isLine leads l all-lines d in
-        no-tail (l .lead) c _ _ refl refl (and-eq-true-iff (every isTailRange (l .next)) _ .0 (k .1) .1) (k .0)
+        no-tail (l .lead) c _ _ refl refl (both-true (every isTailRange (l .next)) _ (k .1) .1) (k .0)
 boundary-from [] (c ∷ s) (suc n) t e h = by-lead (leadOf c) refl e (λ l. boundary-from l s n)
   where
     by-lead : (o : Option Lead) → leadOf c ≡ o → ifSome o (λ l. follows (l .next) s) false ≡ true
@@ -68,12 +69,12 @@ boundary-from [] (c ∷ s) (suc n) t e h = by-lead (leadOf c) refl e (λ l. boun
     by-lead none d f k = absurd (false≢true f)
     by-lead (some l) d f k =
         let q : (inRange c (l .lead) ≡ true) × (isLine l ≡ true) = find-every (λ m. inRange c (m .lead)) isLine leads l all-lines d in
-        k (l .next) (and-eq-true-iff (every isTailRange (l .next)) _ .0 (q .1) .0) f (omega arith)
+        k (l .next) (both-true (every isTailRange (l .next)) _ (q .1) .0) f (omega arith)
 boundary-from (r ∷ l) [] n t e h = absurd (omega arith)
-boundary-from (r ∷ l) (c ∷ s) zero t e h = ap not (sym (in-tail r c (and-eq-true-iff (isTailRange r) _ .0 t .0) (and-eq-true-iff (inRange c r) _ .0 e .0)))
+boundary-from (r ∷ l) (c ∷ s) zero t e h = ap not (sym (in-tail r c (both-true (isTailRange r) _ t .0) (both-true (inRange c r) _ e .0)))
 boundary-from (r ∷ l) (c ∷ s) (suc n) t e h =
-    rw (and-eq-true-iff (inRange c r) _ .0 e .0)
-    (boundary-from l s n (and-eq-true-iff (isTailRange r) _ .0 t .1) (and-eq-true-iff (inRange c r) _ .0 e .1) (omega arith))
+    rw (both-true (inRange c r) _ e .0)
+    (boundary-from l s n (both-true (isTailRange r) _ t .1) (both-true (inRange c r) _ e .1) (omega arith))
 
 -- in a UTF-8 text the beginnings that are UTF-8 end before a byte that is no tail
 pub boundary : (s : List ℕ) (n : ℕ) → isUtf8 s ≡ true → n < length s → isUtf8 (take n s) ≡ not (isTail (getD s n 0))

@@ -153,13 +153,6 @@ every-more p s at k h = sym (rw (add-one k, take-suc (drop at s) k 0 (rw length-
 pub skips-none : (s : List ℕ) (i : ℕ) → i ≤ length s → Skips s i i
 skips-none s i h = record { low = omega arith; high = h; whole = refl }
 
-pub skips-one : (s : List ℕ) (i j : ℕ) → Skips s i j → j < length s → getD s j 0 < 128 → Skips s i (j + 1)
-skips-one s i j k h a = record {
-  low = omega (arith, k .low);
-  high = omega arith;
-  whole = k .whole ∙ rw (drop-cons s j 0 h, add-one j) (ascii-first (getD s j 0) (drop (suc j) s) a);
-}
-
 pub skips-block : (s : List ℕ) (i j n : ℕ) → Skips s i j → j + n ≤ length s → every isAscii (take n (drop j s)) ≡ true → Skips s i (j + n)
 skips-block s i j n k h a = record {
   low = omega (arith, k .low);
@@ -170,10 +163,10 @@ skips-block s i j n k h a = record {
 pub passes-ascii : (s : List ℕ) (at j : ℕ) → at < length s → getD s at 0 < 128 → Skips s (at + 1) j → Passes s at (j - at)
 passes-ascii s at j h a k =
     let e : at + (j - at) ≡ j = omega (arith, k .low) in
-    record {
-      high = omega (arith, k .high);
-      whole = skips-one s at at (skips-none s at (omega arith)) h a .whole ∙ k .whole ∙ rw (lt-ltb 0 (j - at) (omega (arith, k .low)), e) refl;
-    }
+    record { high = omega (arith, k .high); whole = first ∙ k .whole ∙ rw (lt-ltb 0 (j - at) (omega (arith, k .low)), e) refl }
+  where
+    first : isUtf8 (drop at s) ≡ isUtf8 (drop (at + 1) s)
+    first = rw (drop-cons s at 0 h, add-one at) (ascii-first (getD s at 0) (drop (suc at) s) a)
 
 pub passes-none : (s : List ℕ) (i n : ℕ) → Passes s i n → n ≡ 0 → isUtf8 (drop i s) ≡ false
 passes-none s i n k e = k .whole ∙ rw e refl

@@ -1,7 +1,7 @@
 -- The lead bytes of UTF-8, range by range: which ranges the bytes after one lie in.
 use Prim.Native.Nat.{ℕ, _≤_, _<_}
 use mathlib.Core.Path.{_≡_, refl, ap, _∙_}
-use mathlib.Core.Bool.{Bool, true, false, _&&_, and-false, and-eq-true-iff}
+use mathlib.Core.Bool.{Bool, true, false, _&&_, and-false}
 use mathlib.Core.List.{List, [], _∷_}
 use mathlib.Core.Option.{Option, none, some}
 use lib.Dec.{leb}
@@ -14,9 +14,6 @@ use Rattle.text.specs.Characters.{followers}
 
 pub inside : (low high c : ℕ) → low ≤ c → c ≤ high → isFrom low high c ≡ true
 inside low high c l h = rw (le-leb low c l, le-leb c high h) refl
-
-pub bounds : (low high c : ℕ) → isFrom low high c ≡ true → (low ≤ c) × (c ≤ high)
-bounds low high c e = let h = and-eq-true-iff (leb low c) (leb c high) .0 e in (leb-true low c (h .0), leb-true c high (h .1))
 
 pub below : (low high c : ℕ) → c < low → isFrom low high c ≡ false
 below low high c l = rw (lt-leb low c l) refl

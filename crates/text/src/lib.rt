@@ -105,14 +105,17 @@ pub fn char_length(s: &[u8], at: usize) -> usize
     }
 }
 
-// Whether the 32 bytes at a position are ASCII.
+// The bytes that are tested together for being ASCII.
+const BLOCK: usize = 128;
+
+// Whether the block at a position is ASCII.
 fn is_ascii_block(s: &[u8], at: usize) -> bool
-    requires { ⌜ at + 32 ≤ length (now s) ⌝ }
-    ensures { λ r. ⌜ r ≡ every isAscii (take 32 (drop at (now (s .entry)))) ⌝ }
+    requires { ⌜ at + 128 ≤ length (now s) ⌝ }
+    ensures { λ r. ⌜ r ≡ every isAscii (take 128 (drop at (now (s .entry)))) ⌝ }
 {
     let mut all = true;
     let mut k = 0;
-    while k < 32 {
+    while k < BLOCK {
         all = all & (s[at + k] < 128);
         k += 1;
     }
@@ -125,28 +128,24 @@ fn skip_ascii_blocks(s: &[u8], at: usize) -> usize
     ensures { λ r. ⌜ Skips (now (s .entry)) at r ⌝ }
 {
     let mut i = at;
-    while 32 <= s.len() - i {
+    while BLOCK <= s.len() - i {
         if !is_ascii_block(s, i) {
             return i;
         }
-        i += 32;
+        i += BLOCK;
     }
     i
 }
 
-// The end of the ASCII that begins at a position.
-fn skip_ascii(s: &[u8], at: usize) -> usize
-    requires { ⌜ at ≤ length (now s) ⌝ }
-    ensures { λ r. ⌜ Skips (now (s .entry)) at r ⌝ }
+// How far to go past an ASCII byte: one byte, and at some positions the blocks that follow it too.
+fn after_ascii(s: &[u8], at: usize) -> usize
+    requires { ⌜ at < length (now s) ⌝ }
+    ensures { λ r. ⌜ Skips (now (s .entry)) (at + 1) r ⌝ }
 {
-    let mut i = skip_ascii_blocks(s, at);
-    while i < s.len() {
-        if 128 <= s[i] {
-            return i;
-        }
-        i += 1;
+    if at % 64 == 0 {
+        return skip_ascii_blocks(s, at + 1);
     }
-    i
+    at + 1
 }
 
 // How many bytes of whole characters can be passed at a position, 0 if no character stands there.
@@ -155,7 +154,7 @@ fn pass(s: &[u8], at: usize) -> usize
     ensures { λ r. ⌜ Passes (now (s .entry)) at r ⌝ }
 {
     if s[at] < 128 {
-        return skip_ascii(s, at + 1) - at;
+        return after_ascii(s, at) - at;
     }
     char_length(s, at)
 }

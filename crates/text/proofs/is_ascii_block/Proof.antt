@@ -14,39 +14,39 @@ use Rattle.text.proofs.is_ascii_block.Reads as reads
 use Rattle.text.proofs.is_ascii_block.Lts as lts
 
 abbrev Inv-loop : tie.InvT-loop
-Inv-loop s at all₀ k₀ all k = (k ≤ 32) × (all ≡ every isAscii (take k (drop at s)))
+Inv-loop s at all₀ k₀ all k = (k ≤ 128) × (all ≡ every isAscii (take k (drop at s)))
 
 abbrev μ-loop : tie.MeasureT-loop
-μ-loop s at all₀ k₀ all k = 32 - k
+μ-loop s at all₀ k₀ all k = 128 - k
 
--- src/lib.rt:107:5
+-- src/lib.rt:118:5
 loop-holds : tie.Need-loop-holds Inv-loop μ-loop
 unfolding every
 loop-holds c = (omega arith, refl)
 
--- src/lib.rt:108:24
+-- src/lib.rt:119:24
 add-all : tie.Need-add-all Inv-loop μ-loop
 add-all c = search needs
 
--- src/lib.rt:108:22
+-- src/lib.rt:119:22
 shared-slice-read-all : tie.Need-shared-slice-read-all Inv-loop μ-loop
 shared-slice-read-all c = search needs
 
--- src/lib.rt:109:9
+-- src/lib.rt:120:9
 add-k : tie.Need-add-k Inv-loop μ-loop
 add-k c = search needs
 
--- src/lib.rt:107:5
+-- src/lib.rt:118:5
 loop-less : tie.Need-loop-less Inv-loop μ-loop
 loop-less c = search needs
 
--- src/lib.rt:107:5
+-- src/lib.rt:118:5
 loop-again : tie.Need-loop-again Inv-loop μ-loop
 loop-again c = (omega arith, rw (c .before .before .loop .inv .1) (every-more isAscii (c .before .before .before .args .s .now) (c .before .before .before .args .at) (c .before .before .loop .k) (omega (arith, c .before .before .before .pre))))
 
--- src/lib.rt:101:1
+-- src/lib.rt:112:1
 returns : tie.Need-returns Inv-loop μ-loop
-returns c = let e : c .before .loop .k ≡ 32 = omega arith in c .before .loop .inv .1 ∙ ap (λ k. every isAscii (take k (drop (c .before .before .args .at) (c .before .before .args .s .now)))) e
+returns c = let e : c .before .loop .k ≡ 128 = omega arith in c .before .loop .inv .1 ∙ ap (λ k. every isAscii (take k (drop (c .before .before .args .at) (c .before .before .args .s .now)))) e
 
 pub is-ascii-block-spec : {M : Type 1} → statement M
 is-ascii-block-spec =

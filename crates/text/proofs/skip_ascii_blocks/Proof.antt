@@ -19,35 +19,35 @@ Inv-loop s at i₀ i = Skips s at i
 abbrev μ-loop : tie.MeasureT-loop
 μ-loop s at i₀ i = length s - i
 
--- src/lib.rt:120:5
+-- src/lib.rt:131:5
 loop-holds : tie.Need-loop-holds Inv-loop μ-loop
 loop-holds c = skips-none _ _ (c .before .pre)
 
--- src/lib.rt:120:17
+-- src/lib.rt:131:20
 sub-loop : tie.Need-sub-loop Inv-loop μ-loop
 sub-loop c = search needs
 
--- src/lib.rt:121:13
+-- src/lib.rt:132:13
 is-ascii-block-requires : tie.Need-is-ascii-block-requires Inv-loop μ-loop
 is-ascii-block-requires c κs = search needs
 
--- src/lib.rt:122:13
+-- src/lib.rt:133:13
 returns : tie.Need-returns Inv-loop μ-loop
 returns c = c .before .before .before .loop .inv
 
--- src/lib.rt:124:9
+-- src/lib.rt:135:9
 add-i : tie.Need-add-i Inv-loop μ-loop
 add-i c = search needs
 
--- src/lib.rt:120:5
+-- src/lib.rt:131:5
 loop-less : tie.Need-loop-less Inv-loop μ-loop
 loop-less c = search needs
 
--- src/lib.rt:120:5
+-- src/lib.rt:131:5
 loop-again : tie.Need-loop-again Inv-loop μ-loop
-loop-again c = skips-block _ _ _ 32 (c .before .before .before .loop .inv) (omega (arith, c .before .before .before .loop .inv .high)) (sym (c .before .is-ascii-block .ensures) ∙ not-false _ (c .if1 .left))
+loop-again c = skips-block _ _ _ 128 (c .before .before .before .loop .inv) (omega (arith, c .before .before .before .loop .inv .high)) (sym (c .before .is-ascii-block .ensures) ∙ not-false _ (c .if1 .left))
 
--- src/lib.rt:115:1
+-- src/lib.rt:126:1
 returns-2 : tie.Need-returns-2 Inv-loop μ-loop
 returns-2 c = c .before .loop .inv
 
