@@ -1,0 +1,25 @@
+-- What the code's refusals and verdicts mean, in the words of the rules.
+use mathlib.Core.Option.{Option, none, some}
+use Rattle.rules.specs.Refusal.{Refusal as Rule, OFFSET, TOO-LONG, NOT-UTF-8, MARKUP, TYPE, SHAPE, VALUE, RULE, UNKNOWN-BOUND, TOO-MANY, NO-ROOM}
+use Rattle.refusal.specs.declared.Refusal.{Refusal}
+use Rattle.refusal.specs.declared.Refusal.the-variants.{Offset, TooLong, NotUtf8, Markup, «Type» as TypeFault, Shape, Value, Rule as RuleFault, UnknownBound, TooMany, NoRoom}
+use Rattle.refusal.specs.declared.Verdict.{Verdict}
+use Rattle.refusal.specs.declared.Verdict.the-variants.{Accepted, Refused}
+
+abbrev pub refusalOf : Refusal → Rule
+refusalOf Offset = OFFSET
+refusalOf TooLong = TOO-LONG
+refusalOf NotUtf8 = NOT-UTF-8
+refusalOf Markup = MARKUP
+refusalOf TypeFault = TYPE
+refusalOf Shape = SHAPE
+refusalOf Value = VALUE
+refusalOf RuleFault = RULE
+refusalOf UnknownBound = UNKNOWN-BOUND
+refusalOf TooMany = TOO-MANY
+refusalOf NoRoom = NO-ROOM
+
+-- accepted is no fault
+abbrev pub faultOf : Verdict → Option Rule
+faultOf Accepted = none
+faultOf (Refused r) = some (refusalOf r)

@@ -1,0 +1,77 @@
+// Refusals: their numbers, and which of two comes first on the ladder.
+ghost use mathlib.Core.Path.{_≡_};
+ghost use Rattle.rules.specs.Basics.{ifSome};
+ghost use Rattle.rules.specs.Refusal.{number as pageNumber, rank as pageRank, earlier};
+ghost use Rattle.refusal.specs.Meaning.{refusalOf, faultOf};
+
+// The page's refusals, in the order of its table.
+pub enum Refusal {
+    Offset,
+    TooLong,
+    NotUtf8,
+    Markup,
+    Type,
+    Shape,
+    Value,
+    Rule,
+    UnknownBound,
+    TooMany,
+    NoRoom,
+}
+
+// A refusal, or none: accepted.
+pub enum Verdict {
+    Accepted,
+    Refused(Refusal),
+}
+
+// The number that a caller is told.
+pub fn number(r: Refusal) -> u64
+    ensures { λ n. ⌜ n ≡ pageNumber (refusalOf r) ⌝ }
+{
+    match r {
+        Refusal::Offset => 1,
+        Refusal::TooLong => 2,
+        Refusal::NotUtf8 => 3,
+        Refusal::Markup => 4,
+        Refusal::Type => 5,
+        Refusal::Shape => 6,
+        Refusal::Value => 7,
+        Refusal::Rule => 8,
+        Refusal::UnknownBound => 9,
+        Refusal::TooMany => 10,
+        Refusal::NoRoom => 11,
+    }
+}
+
+// The place on the ladder, from 0. No order goes by the number.
+fn rank(r: Refusal) -> u64
+    ensures { λ n. ⌜ n ≡ pageRank (refusalOf r) ⌝ }
+{
+    match r {
+        Refusal::Offset => 0,
+        Refusal::TooLong => 1,
+        Refusal::NotUtf8 => 2,
+        Refusal::Markup => 3,
+        Refusal::Type => 4,
+        Refusal::Shape => 5,
+        Refusal::Value => 6,
+        Refusal::Rule => 7,
+        Refusal::UnknownBound => 8,
+        Refusal::TooMany => 9,
+        Refusal::NoRoom => 10,
+    }
+}
+
+// Of two verdicts the one that comes first on the ladder; an acceptance gives way.
+pub fn first(a: Verdict, b: Verdict) -> Verdict
+    ensures { λ v. ⌜ faultOf v ≡ earlier (faultOf a) (faultOf b) ⌝ }
+{
+    let Verdict::Refused(x) = a else {
+        return b;
+    };
+    let Verdict::Refused(y) = b else {
+        return a;
+    };
+    if rank(x) <= rank(y) { a } else { b }
+}

@@ -1,0 +1,3 @@
+pub mod Leads
+pub mod Following
+pub mod Cutting
