@@ -5,7 +5,7 @@ use mathlib.Core.List.{List, [], _∷_}
 use mathlib.Core.Option.{Option, none, some}
 use lib.IntN.{pos}
 use Rattle.rules.specs.Basics.{ifSome, exists}
-use Rattle.rules.specs.Sets.{Place, at, nextPlace, previousPlace, _isBefore_, Interval, IsStretch, isIn, ComesBefore, AllStretches, Lists}
+use Rattle.rules.specs.Sets.{Place, at, nextPlace, previousPlace, _isBefore_, Interval, IsStretch, isIn, ComesBefore, AllStretches, AreStretches}
 use Rattle.rules.proofs.Order.{places, next-number, previous-number}
 use Rattle.rules.proofs.Edges.{firstEdge, endEdge, since, until, past, inside, is-inside, not-until, after-end, passes}
 
@@ -99,17 +99,17 @@ module _ (p : Place → Bool) where
         after = after-end p (s .high) ∙ false-at p e (λ y u n. sym (h y (opens-since f e y (c .0) u)) ∙ rw (not-until s y u, not-past s ss c y n) refl);
       }
 
-  canonical-stretches : (s : Interval) (ss : List Interval) → Canonical (s ∷ ss) → Agrees s ss → AllStretches p (s ∷ ss)
+  all-stretches : (s : Interval) (ss : List Interval) → Canonical (s ∷ ss) → Agrees s ss → AllStretches p (s ∷ ss)
   unfolding exists
-  canonical-stretches s [] c h = (first-stretch s [] c h, comes-before s [] c, tt)
-  canonical-stretches s (r ∷ rs) c h = (
+  all-stretches s [] c h = (first-stretch s [] c h, comes-before s [] c, tt)
+  all-stretches s (r ∷ rs) c h = (
     first-stretch s (r ∷ rs) c h,
     comes-before s (r ∷ rs) c,
-    canonical-stretches r rs (c .2) (λ y n.
+    all-stretches r rs (c .2) (λ y n.
         let u : until (endEdge s) y ≡ false = parts-until (endEdge s) (firstEdge r) y (c .1) n in
         rw (not-until s y u) at (h y (opens-since (firstEdge s) (endEdge s) y (c .0) u))),
   )
 
-pub canonical-lists : {p : Place → Bool} {ss : List Interval} → Canonical ss → ((x : Place) → isIn ss x ≡ p x) → Lists p ss
-canonical-lists {ss = []} c h = record { stretches = tt; all = h }
-canonical-lists {p} {ss = s ∷ ss} c h = record { stretches = canonical-stretches p s ss c (λ y n. h y); all = h }
+pub canonical-stretches : {p : Place → Bool} {ss : List Interval} → Canonical ss → ((x : Place) → isIn ss x ≡ p x) → AreStretches p ss
+canonical-stretches {ss = []} c h = record { each = tt; all = h }
+canonical-stretches {p} {ss = s ∷ ss} c h = record { each = all-stretches p s ss c (λ y n. h y); all = h }

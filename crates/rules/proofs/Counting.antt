@@ -132,11 +132,14 @@ unfolding intervals
 interval-at-most (answered i) n = counted {s = interval i} (omega arith)
 interval-at-most (refused r) n = nothing
 
-operation-at-most : (o : Option Op) (null : Bool) {n : ℕ} {members : Op → Outcome Expression} → ((j : Op) → AtMost n (members j))
-    → AtMost (0 + n) (ifSome o (λ j. cond null (refused UNKNOWN-BOUND) (members j)) (refused TYPE))
-operation-at-most none null h = nothing
-operation-at-most (some o) true h = nothing
-operation-at-most (some o) false h = rw zero-add (h o)
+operation-at-most : (o : Option Op) {n : ℕ} {members : Op → Outcome Expression} → ((j : Op) → AtMost n (members j))
+    → AtMost (0 + n) (ifSome o members (refused TYPE))
+operation-at-most none h = nothing
+operation-at-most (some o) h = rw zero-add (h o)
+
+null-at-most : (b : Bool) {n : ℕ} {x : Outcome Expression} → AtMost n x → AtMost n (cond b (refused UNKNOWN-BOUND) x)
+null-at-most true h = nothing
+null-at-most false h = h
 
 cond-at-most : (b : Bool) (n : ℕ) {x y : Outcome Expression} → AtMost (1 + n) x → AtMost (0 + n) y → AtMost (cond b 1 0 + n) (cond b x y)
 cond-at-most true n h k = h
@@ -147,7 +150,8 @@ module _ (shift : ℕ) where
       → AtMost (cond (hasType attrs IVL-TS) 1 0 + intervalCount kids) (setFrom shift attrs kids (λ o. membersOf shift o kids))
   unfolding setFrom
   set-at-most attrs kids h =
-      cond-at-most (hasType attrs IVL-TS) (intervalCount kids) (interval-at-most (intervalOf shift attrs kids) (intervalCount kids)) (operation-at-most (operationOf attrs) (isNull attrs) h)
+      null-at-most (isNull attrs)
+      (cond-at-most (hasType attrs IVL-TS) (intervalCount kids) (interval-at-most (intervalOf shift attrs kids) (intervalCount kids)) (operation-at-most (operationOf attrs) h))
 
   mutual
     unfolding membersOf joined intervalCount

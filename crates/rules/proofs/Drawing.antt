@@ -5,13 +5,13 @@ use mathlib.Core.List.{List, [], _∷_, _++_}
 use mathlib.Core.Option.{Option, none, some}
 use lib.IntN.{pos}
 use Rattle.rules.specs.Basics.{ifSome, exists}
-use Rattle.rules.specs.Sets.{Place, previousPlace, _isBefore_, Bound, unbounded, closedAt, Interval, _upto_, firstPlace, fromLow, holds, isIn, Lists, union, Expression, interval, combine, meant}
+use Rattle.rules.specs.Sets.{Place, previousPlace, _isBefore_, Bound, unbounded, closedAt, Interval, _upto_, firstPlace, fromLow, holds, isIn, AreStretches, union, Expression, interval, combine, meant}
 use Rattle.rules.specs.Stretches.{lowAt, highAt, changes, drawn, placeBefore, stretches}
 use Rattle.rules.proofs.Opened.{opened}
 use Rattle.rules.proofs.Order.{places, before-irreflexive}
 use Rattle.rules.proofs.Edges.{since, half-open, first-low, end-high, since-up}
-use Rattle.rules.proofs.Canonical.{Opens, Follows, Canonical, canonical-lists}
-use Rattle.rules.proofs.Unique.{lists-unique}
+use Rattle.rules.proofs.Canonical.{Opens, Follows, Canonical, canonical-stretches}
+use Rattle.rules.proofs.Unique.{stretches-unique}
 use Rattle.rules.proofs.Changes.{Rising, SameSide, changes-rise, meant-steady}
 
 open-end : (f : Option Place) → Opens f none
@@ -132,7 +132,7 @@ module _ (p : Place → Bool) where
       go true e k = h c (before-irreflexive c) (r .0 ∙ sym e, sides-before c y x xs (r .0) e (r .1))
       go false e k = k e
 
-pub stretches-are : (e : Expression) → Lists (meant e) (stretches e)
+pub stretches-are : (e : Expression) → AreStretches (meant e) (stretches e)
 unfolding stretches
 stretches-are e =
     let p = meant e in
@@ -141,13 +141,13 @@ stretches-are e =
     let begun = cond (p c) (some unbounded) none in
     let begins = begun-at unbounded c (p c) refl in
     let rise = changes-rise e in
-    canonical-lists (drawn-canonical p c begun xs begins rise)
+    canonical-stretches (drawn-canonical p c begun xs begins rise)
     (λ y. drawn-said p c begun xs begins rise y
     ∙ ap (λ b. said p b y xs) (begun-reaches unbounded y (p c) ∙ and-true (p c))
     ∙ steady-said p c xs rise y (λ z k. meant-steady e z y))
 
-pub is-stretches : (e : Expression) {ss : List Interval} → Lists (meant e) ss → ss ≡ stretches e
-is-stretches e l = lists-unique l (stretches-are e)
+pub is-stretches : (e : Expression) {ss : List Interval} → AreStretches (meant e) ss → ss ≡ stretches e
+is-stretches e l = stretches-unique l (stretches-are e)
 
 pub same-list : (a b : Expression) → ((y : Place) → meant a y ≡ meant b y) → stretches a ≡ stretches b
 same-list a b h = is-stretches b (rw (fun-ext h) at (stretches-are a))

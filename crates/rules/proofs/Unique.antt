@@ -4,7 +4,7 @@ use mathlib.Core.Bool.{Bool, true, false, _||_, false≢true}
 use mathlib.Core.List.{List, [], _∷_}
 use mathlib.Core.Option.{Option, none, some}
 use Rattle.rules.specs.Basics.{ifSome, exists}
-use Rattle.rules.specs.Sets.{Place, previousPlace, _isBefore_, Interval, holds, IsStretch, isIn, ComesBefore, AllStretches, Lists}
+use Rattle.rules.specs.Sets.{Place, previousPlace, _isBefore_, Interval, holds, IsStretch, isIn, ComesBefore, AllStretches, AreStretches}
 use Rattle.rules.proofs.Order.{places, before-irreflexive, previous-number}
 use Rattle.rules.proofs.Edges.{firstEdge, endEdge, since, until, inside, is-inside, after-end, by-edges, since-up, until-down, fails}
 
@@ -93,5 +93,5 @@ unique p (s ∷ ss) (r ∷ rs) a b c =
     let d : Same (s ∷ ss) (s ∷ rs) = rw e at c in
     cc (e, unique p ss rs (a .2) (b .2) (rest-same s ss rs (a .1) (rw e at (b .1)) d))
 
-pub lists-unique : {p : Place → Bool} {ss rs : List Interval} → Lists p ss → Lists p rs → ss ≡ rs
-lists-unique {p} {ss} {rs} a b = unique p ss rs (a .stretches) (b .stretches) (λ y. a .all y ∙ sym (b .all y))
+pub stretches-unique : {p : Place → Bool} {ss rs : List Interval} → AreStretches p ss → AreStretches p rs → ss ≡ rs
+stretches-unique {p} {ss} {rs} a b = unique p ss rs (a .each) (b .each) (λ y. a .all y ∙ sym (b .all y))

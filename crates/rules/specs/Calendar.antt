@@ -14,7 +14,7 @@ yearLength y = cond (isLeap y) 366 365
 abbrev pub monthLengths : ℕ → List ℕ
 monthLengths y = 31 ∷ cond (isLeap y) 29 28 ∷ 31 ∷ 30 ∷ 31 ∷ 30 ∷ 31 ∷ 31 ∷ 30 ∷ 31 ∷ 30 ∷ 31 ∷ []
 
--- the length of a month of year y; months are counted from 1, and there is no day in a month past the twelfth
+-- the length of a month of year y, counted from 1; there is no day in a month past the twelfth, and `isDate` rules month 0 out
 unfoldable pub monthLength : (y month : ℕ) → ℕ
 monthLength y m = getD (monthLengths y) (m - 1) 0
 

@@ -17,7 +17,7 @@ abbrev pub isOffset : ℤ → Bool
 isOffset (pos n) = leb n 840
 isOffset (negsuc n) = ltb n 840
 
--- 840 less the agreed offset
+-- 840 less the agreed offset, where that is in range; another is OFFSET
 abbrev pub shiftBy : ℤ → ℕ
 shiftBy (pos n) = 840 - n
 shiftBy (negsuc n) = 840 + suc n

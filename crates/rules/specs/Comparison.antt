@@ -4,7 +4,7 @@ use Prim.Native.String.{String}
 use mathlib.Core.Bool.{Bool, true, false, _&&_, _||_, cond}
 use mathlib.Core.List.{List}
 use mathlib.Core.Option.{Option, none, some}
-use lib.Dec.{leb, eqb}
+use lib.Dec.{ltb, eqb}
 use lib.IntN.{ℤ}
 use lib.Signed.{leZ}
 use Rattle.rules.specs.Basics.{ifSome, bytes, same}
@@ -45,11 +45,13 @@ sameAttribute n as′ bs = sameOption same (lookup n as′) (lookup n bs)
 abbrev pub Comparer : Type 0
 Comparer = (shift : ℕ) → Element → Element → Answer
 
+-- two spans share a tick
+abbrev pub shareTick : Moment → Moment → Bool
+shareTick a b = ltb (a .start) (b .next) && ltb (b .start) (a .next)
+
 -- yes if precision and tick are the same; no if the spans share no tick; else unknown
 unfoldable pub compareMoments : Moment → Moment → Answer
-compareMoments a b =
-    cond (eqb (a .precision) (b .precision) && eqb (a .start) (b .start)) Yes
-    (cond (leb (a .next) (b .start) || leb (b .next) (a .start)) No Unknown)
+compareMoments a b = cond (eqb (a .precision) (b .precision) && eqb (a .start) (b .start)) Yes (cond (shareTick a b) Unknown No)
 
 -- unbounded equals unbounded and differs from a value; `flags` says whether the flags are the same
 abbrev pub compareEndpoints : (flags : Bool) → Endpoint → Endpoint → Answer

@@ -1,5 +1,5 @@
--- 01-scope.md, "Types, after decoding the five references" and "The refusal ladder": every fault of an element and of what is
--- inside it, by the table.
+-- 01-scope.md, "Types, after decoding the five references", the last paragraph of "Markup" and "The refusal ladder": every fault of an
+-- element and of what is inside it, by the table.
 use Prim.Native.Nat.{ℕ}
 use mathlib.Core.Bool.{Bool, true, false, not, _&&_, _||_, cond}
 use mathlib.Core.List.{List, [], _∷_, _++_, flatMap}
@@ -10,7 +10,7 @@ use Rattle.rules.specs.Refusal.{Refusal, TYPE, SHAPE, RULE, _when_}
 use Rattle.rules.specs.Markup.{Attribute, Nodes, end, node, Element, lookup}
 use Rattle.rules.specs.Forms.{anyText, flavor, formFaults}
 use Rattle.rules.specs.Invariants.{isNull, hasChildren}
-use Rattle.rules.specs.Types.{Kind, setTypes, allTypes, typeAmong, Column, _takes_, Holds, always, typed, Child, lineOf}
+use Rattle.rules.specs.Types.{Kind, memberTypes, allTypes, typeAmong, Column, _takes_, ChildKind, always, typed, Child, lineOf}
 
 -- where an element stands: at the top, as a member of a set, or inside another value
 pub data Standing : Type 0 where
@@ -57,11 +57,11 @@ elementFaults shift p (some k) attrs kids within =
     ++ within k
     ++ RULE when (lineOf k .invariant shift attrs kids || breaksNull k attrs kids)
 
-abbrev pub kindOf : Holds → List Attribute → Option Kind
+abbrev pub kindOf : ChildKind → List Attribute → Option Kind
 kindOf (always k) attrs = some k
-kindOf typed attrs = typeAmong setTypes attrs
+kindOf typed attrs = typeAmong memberTypes attrs
 
-abbrev pub standingOf : Holds → Standing
+abbrev pub standingOf : ChildKind → Standing
 standingOf (always k) = inside
 standingOf typed = member
 
@@ -75,7 +75,7 @@ unfoldable pub childFaults : (shift : ℕ) → Kind → (null : Bool) → (stage
 childFaults shift k null stage end = SHAPE when (not null && ltb stage (lineOf k .enough))
 childFaults shift k null stage (node n attrs kids rest) =
     ifSome (nextChild k stage n)
-    (λ c. elementFaults shift (standingOf (c .holds)) (kindOf (c .holds) attrs) attrs kids (λ j. childFaults shift j (isNull attrs) 0 kids))
+    (λ c. elementFaults shift (standingOf (c .kind)) (kindOf (c .kind) attrs) attrs kids (λ j. childFaults shift j (isNull attrs) 0 kids))
     (SHAPE ∷ [])
     ++ childFaults shift k null (ifSome (nextChild k stage n) (λ c. c .to) stage) rest
 

@@ -1,17 +1,17 @@
--- 01-scope.md, "Sets of times": the set that a record writes, and its list of stretches.
+-- 01-scope.md, "Sets of times" and 9 to 11 of "The refusal ladder": the set that a record writes, and its list of stretches.
 use Prim.Native.Nat.{ℕ, _+_}
-use mathlib.Core.Bool.{Bool, cond}
+use mathlib.Core.Bool.{Bool, not, cond}
 use mathlib.Core.List.{List, [], _∷_, _++_, flatMap}
 use mathlib.Core.Option.{Option}
 use lib.Dec.{ltb}
 use lib.ListN.{length}
 use lib.IntN.{ℤ, pos}
-use Rattle.rules.specs.Basics.{ifSome, find}
-use Rattle.rules.specs.Refusal.{TYPE, SHAPE, UNKNOWN-BOUND, TOO-MANY, NO-ROOM, Outcome, answered, refused, _unless_, _when_, _andThen_, both}
+use Rattle.rules.specs.Basics.{isSome, ifSome, find}
+use Rattle.rules.specs.Refusal.{Refusal, TYPE, SHAPE, UNKNOWN-BOUND, TOO-MANY, NO-ROOM, Outcome, answered, refused, _unless_, _when_, _andThen_, both}
 use Rattle.rules.specs.Markup.{Attribute, Nodes, end, node, Element}
 use Rattle.rules.specs.Timestamp.{Moment, tickOf}
 use Rattle.rules.specs.Invariants.{isNull, isClosed, Side, low, high, Endpoint, valued, infinite, unknown, endpointOf}
-use Rattle.rules.specs.Types.{Kind, IVL-TS, QSU-TS, QSI-TS, QSD-TS, hasType}
+use Rattle.rules.specs.Types.{Kind, IVL-TS, QSU-TS, QSI-TS, QSD-TS, memberTypes, hasType, typeAmong}
 use Rattle.rules.specs.Sets.{Bound, unbounded, openAt, closedAt, Interval, _upto_, Op, union, intersection, difference, Expression, interval, combine}
 use Rattle.rules.specs.Stretches.{stretches}
 
@@ -36,11 +36,11 @@ typeFor difference = QSD-TS
 abbrev pub operationOf : List Attribute → Option Op
 operationOf attrs = find (λ o. hasType attrs (typeFor o)) (union ∷ intersection ∷ difference ∷ [])
 
--- the set that an element writes; a null one is UNKNOWN BOUND; `members` are its members put together
+-- the set that an element writes, of an accepted record; a null one is UNKNOWN BOUND; `members` are its members put together
 unfoldable pub setFrom : (shift : ℕ) → List Attribute → Nodes → (members : Op → Outcome Expression) → Outcome Expression
 setFrom shift attrs kids members =
-    cond (hasType attrs IVL-TS) (intervalOf shift attrs kids andThen λ v. answered (interval v))
-    (ifSome (operationOf attrs) (λ o. cond (isNull attrs) (refused UNKNOWN-BOUND) (members o)) (refused TYPE))
+    cond (isNull attrs) (refused UNKNOWN-BOUND)
+    (cond (hasType attrs IVL-TS) (intervalOf shift attrs kids andThen λ v. answered (interval v)) (ifSome (operationOf attrs) members (refused TYPE)))
 
 unfoldable mutual
   -- the members of a set, one or more, put together from the first on
@@ -67,7 +67,11 @@ intervalCount (node n attrs kids rest) = cond (hasType attrs IVL-TS) 1 0 + inter
 abbrev pub intervalsWritten : Element → ℕ
 intervalsWritten e = intervalCount (node (e .name) (e .attrs) (e .kids) end)
 
--- the stretches of the set that an element writes; over 32 intervals are TOO MANY, more stretches than the room are NO ROOM
+-- listing a type other than IVL_TS or a set type is TYPE, also where the record has further faults
+abbrev pub unlisted : Element → List Refusal
+unlisted e = TYPE when not (isSome (typeAmong memberTypes (e .attrs)))
+
+-- the stretches of the set that an accepted record's element writes; over 32 intervals are TOO MANY, more stretches than the room are NO ROOM
 unfoldable pub listElement : (shift room : ℕ) → Element → Outcome (List Interval)
 listElement shift room e = setOf shift e andThen λ s.
     answered (stretches s) unless TOO-MANY when ltb 32 (intervalsWritten e) ++ NO-ROOM when ltb room (length (stretches s))

@@ -15,8 +15,8 @@ abbrev pub space : Parser (List ℕ)
 space = many isSpace
 
 -- at least one byte of white space
-unfoldable pub gap : Parser (List ℕ)
-gap = one isSpace >> space
+unfoldable pub someSpace : Parser (List ℕ)
+someSpace = one isSpace >> space
 
 -- an ASCII letter or underscore
 abbrev pub isNameStart : ℕ → Bool
@@ -79,12 +79,12 @@ attribute = do
   v ← value
   pure (record { name = n; value = v })
 
--- attributes, with white space before each
+-- attributes, with white space before each; `fuel` is at least the bytes left
 unfoldable pub attributes : (fuel : ℕ) → Parser (List Attribute)
 attributes zero = pure []
 attributes (suc f) =
     (do
-      gap
+      someSpace
       a ← attribute
       as′ ← attributes f
       pure (a ∷ as′))
@@ -131,7 +131,7 @@ body n p =
       pure kids)
 
 unfoldable mutual
-  -- an element, where `depth` more may be open at once
+  -- an element, where `depth` may be open at once; `fuel` is at least the bytes left
   pub element : (fuel depth : ℕ) → Parser Element
   element zero d = fail
   element (suc f) zero = fail
@@ -143,7 +143,7 @@ unfoldable mutual
     kids ← body n (content f d)
     pure (record { name = n; attrs = as′; kids = kids })
 
-  -- elements side by side, and nothing but white space around them
+  -- elements side by side, and nothing but white space around them; `fuel` is more than the bytes left
   pub content : (fuel depth : ℕ) → Parser Nodes
   content zero d = pure end
   content (suc f) d = do

@@ -1,4 +1,5 @@
--- 01-scope.md, "What the box reads": the five services, and their answers as they travel to C.
+-- 01-scope.md, "What the box reads" and the last sentences of "The refusal ladder": the five services, and their answers as they
+-- travel to C.
 use Prim.Native.Nat.{ℕ, zero, suc, _+_, _-_, _*_, _/_, _%_, _^_}
 use mathlib.Core.Bool.{Bool, not}
 use mathlib.Core.List.{List, [], _∷_, _++_, flatMap}
@@ -6,13 +7,13 @@ use mathlib.Core.Option.{Option}
 use lib.ListN.{length, drop}
 use lib.IntN.{ℤ, pos, negsuc}
 use Rattle.rules.specs.Basics.{ifSome}
-use Rattle.rules.specs.Refusal.{Refusal, OFFSET, TOO-LONG, NOT-UTF-8, TYPE, number, Outcome, answered, refused, _unless_, _when_, _andThen_}
+use Rattle.rules.specs.Refusal.{Refusal, OFFSET, TOO-LONG, NOT-UTF-8, TYPE, number, Outcome, answered, refused, faultsIn, _unless_, _when_, _andThen_}
 use Rattle.rules.specs.Utf8.{isUtf8, cutLength}
 use Rattle.rules.specs.Markup.{Element}
 use Rattle.rules.specs.Timestamp.{Moment, readTimestamp, tickOf}
-use Rattle.rules.specs.Check.{isOffset, shiftBy, isTooLong, elementOf, recordFaults, check}
+use Rattle.rules.specs.Check.{isOffset, shiftBy, isTooLong, elementOf, check}
 use Rattle.rules.specs.Sets.{Interval}
-use Rattle.rules.specs.Listing.{listElement, listNumbers}
+use Rattle.rules.specs.Listing.{unlisted, listElement, listNumbers}
 use Rattle.rules.specs.Comparison.{Answer, Yes, No, Unknown, comparerFor, orUnknown}
 
 -- bits 0 to 7 are the refusal's number, 0 for accepted; bits 8 and up are the result, 0 after a refusal
@@ -59,7 +60,7 @@ compareAnswer offset first second = comparedNumber (comparison offset first seco
 
 -- list a set of times: its stretches
 unfoldable pub listing : (offset : ℤ) → (room : ℕ) → List ℕ → Outcome (List Interval)
-listing offset room record′ = (elementOf record′ andThen listElement (shiftBy offset) room) unless recordFaults offset record′
+listing offset room record′ = (check offset record′ andThen listElement (shiftBy offset) room) unless faultsIn unlisted (elementOf record′)
 
 -- the n lowest bytes of a number, lowest first
 unfoldable pub lowBytes : (n : ℕ) → ℕ → List ℕ

@@ -81,6 +81,7 @@ unfoldable pub meant : Expression → Place → Bool
 meant (interval v) x = holds v x
 meant (combine o a b) x = apply o (meant a x) (meant b x)
 
+-- the intervals of a set as written, from left to right
 unfoldable pub intervals : Expression → List Interval
 intervals (interval v) = v ∷ []
 intervals (combine o a b) = intervals a ++ intervals b
@@ -106,6 +107,6 @@ AllStretches p [] = Unit {0}
 AllStretches p (s ∷ ss) = IsStretch p s × ComesBefore s ss × AllStretches p ss
 
 -- the list is the stretches of a set: each of them is one, earliest first, and a place is in some stretch exactly when it is in the set
-pub record Lists (p : Place → Bool) (ss : List Interval) : Type 0 where
-  pub stretches : AllStretches p ss
+pub record AreStretches (p : Place → Bool) (ss : List Interval) : Type 0 where
+  pub each : AllStretches p ss
   pub all : (x : Place) → isIn ss x ≡ p x

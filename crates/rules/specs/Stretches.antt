@@ -1,5 +1,5 @@
 -- 01-scope.md, "Sets of times": the stretches of a set, found by asking of each place where it may change whether it is meant.
--- `Sets.Lists` says what they are; the law `stretches-are` says that these are they.
+-- `Sets.AreStretches` says what they are; the law `stretches-are` says that these are they.
 use mathlib.Core.Bool.{Bool, cond}
 use mathlib.Core.List.{List, [], _∷_, _++_, flatMap}
 use mathlib.Core.Option.{Option, none, some}
@@ -45,5 +45,6 @@ abbrev pub placeBefore : List Place → Place
 placeBefore [] = at (pos 0)
 placeBefore (x ∷ xs) = previousPlace x
 
+-- the stretches of the set that e means, earliest first
 unfoldable pub stretches : Expression → List Interval
 stretches e = drawn (meant e) (cond (meant e (placeBefore (changes e))) (some unbounded) none) (changes e)

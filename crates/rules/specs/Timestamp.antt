@@ -87,7 +87,7 @@ secondOf w = getD (w .parts) 4 0
 abbrev pub tenThousandths : List ℕ → ℕ
 tenThousandths ds = decimal ds * 10 ^ (4 - length ds)
 
--- years 0001 to 9999
+-- a date of the calendar, in years 0001 to 9999
 abbrev pub isDate : Written → Bool
 isDate w = isFrom 1 9999 (w .year) && isFrom 1 12 (monthOf w) && isFrom 1 (monthLength (w .year) (monthOf w)) (dayOf w)
 
@@ -95,7 +95,7 @@ isDate w = isFrom 1 9999 (w .year) && isFrom 1 12 (monthOf w) && isFrom 1 (month
 abbrev pub isClock : Written → Bool
 isClock w = leb (hourOf w) 23 && leb (minuteOf w) 59 && leb (secondOf w) 59
 
--- up to 14:00
+-- minutes 00 to 59, and 14:00 at most
 abbrev pub isOffsetTime : (hours minutes : ℕ) → Bool
 isOffsetTime h m = leb m 59 && leb (60 * h + m) 840
 
@@ -132,7 +132,8 @@ unitLength y (m ∷ d ∷ h ∷ []) f = hour
 unitLength y (m ∷ d ∷ h ∷ i ∷ []) f = minute
 unitLength y (m ∷ d ∷ h ∷ i ∷ s ∷ more) f = 10 ^ (4 - length f)
 
--- a timestamp read: where it starts, its precision, and the next start of its smallest written unit; its span is from the one up to the other
+-- a timestamp read: its start and the next start of its smallest written unit, both counted from `beforeStart`, and its precision;
+-- its span (the page's term) is from its start up to, not including, the next; its tick is `tickOf`
 pub record Moment : Type 0 where
   pub start : ℕ
   pub precision : ℕ

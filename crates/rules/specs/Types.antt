@@ -1,4 +1,4 @@
--- 01-scope.md, "Types, after decoding the five references": the type lines as one table.
+-- 01-scope.md, "Types, after decoding the five references", and `xsi:type` of "Markup": the type lines as one table.
 use Prim.Native.Nat.{ℕ}
 use Prim.Native.String.{String}
 use mathlib.Core.Bool.{Bool, true, false}
@@ -13,6 +13,7 @@ use Rattle.rules.specs.Invariants.{hasSuch, Invariant, noInvariant, brea
 pub data Kind : Type 0 where
   TS IVL-TS QSU-TS QSI-TS QSD-TS MO II CD EN DisplayName Part : Kind
 
+-- the type as `xsi:type` names it; the last two are never asked for
 abbrev pub nameOf : Kind → List ℕ
 nameOf TS = bytes "TS"
 nameOf IVL-TS = bytes "IVL_TS"
@@ -26,12 +27,12 @@ nameOf EN = bytes "EN"
 nameOf DisplayName = bytes "displayName"
 nameOf Part = bytes "part"
 
--- the types of a member of a set, and all types
-abbrev pub setTypes : List Kind
-setTypes = IVL-TS ∷ QSU-TS ∷ QSI-TS ∷ QSD-TS ∷ []
+-- what a member of a set may be: an IVL_TS or a set type; and all types
+abbrev pub memberTypes : List Kind
+memberTypes = IVL-TS ∷ QSU-TS ∷ QSI-TS ∷ QSD-TS ∷ []
 
 abbrev pub allTypes : List Kind
-allTypes = TS ∷ MO ∷ II ∷ CD ∷ EN ∷ setTypes
+allTypes = TS ∷ MO ∷ II ∷ CD ∷ EN ∷ memberTypes
 
 -- the type is the value of `xsi:type`
 abbrev pub hasType : List Attribute → Kind → Bool
@@ -55,9 +56,9 @@ abbrev pub _needs_ : String → Form → Column
 n needs f = record { name = bytes n; form = f; required = true }
 
 -- a child's kind: always the same, or named by its `xsi:type`
-pub data Holds : Type 0 where
-  always : Kind → Holds
-  typed : Holds
+pub data ChildKind : Type 0 where
+  always : Kind → ChildKind
+  typed : ChildKind
 
 -- a child that may come while the row of children stands at a stage from .. upto, and brings it to the stage `to`; a row begins at stage 0
 pub record Child : Type 0 where
@@ -65,10 +66,10 @@ pub record Child : Type 0 where
   pub from : ℕ
   pub upto : ℕ
   pub to : ℕ
-  pub holds : Holds
+  pub kind : ChildKind
 
-abbrev pub child : String → (from upto to : ℕ) → Holds → Child
-child n a b c h = record { name = bytes n; from = a; upto = b; to = c; holds = h }
+abbrev pub child : String → (from upto to : ℕ) → ChildKind → Child
+child n a b c k = record { name = bytes n; from = a; upto = b; to = c; kind = k }
 
 -- a type line: attributes beside nullFlavor, children, the stage that the row reaches unless the element is null,
 -- the invariant, and whether the element may carry a nullFlavor

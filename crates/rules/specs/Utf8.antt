@@ -27,7 +27,7 @@ infix 20 _then_
 abbrev pub _then_ : Range → List Range → Lead
 r then l = record { lead = r; next = l }
 
--- a byte that leads nothing
+-- a byte that goes on with a character
 abbrev pub tail : Range
 tail = 0x80 to 0xBF
 
@@ -63,5 +63,6 @@ unfoldable pub longest : ℕ → List ℕ → ℕ
 longest zero text = zero
 longest (suc n) text = let shorter = longest n text in cond (isUtf8 (take (suc n) text)) (suc n) shorter
 
+-- the longest beginning that is whole characters and at most the room
 abbrev pub cutLength : (room : ℕ) → List ℕ → ℕ
 cutLength room text = longest (min room (length text)) text
