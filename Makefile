@@ -17,10 +17,12 @@ header = include/rigcactus.h
 program = target/host/rigcactus
 proved = $(shell find crates \( -name '*.rt' -o -name '*.antt' \) -not -path '*/must-fail/*') crates.txt
 tests = target/tests/header_c target/tests/c_api target/tests/services
+places = 0 16 32 48
 cxx = $(shell command -v $(CXX) 2> /dev/null)
 
 .PHONY: all run test bench clean
 .DELETE_ON_ERROR:
+.SECONDARY:
 
 all: $(archive) $(program)
 
@@ -61,13 +63,16 @@ target/tests/services: tests/services.rs tests/cut.rs tests/lent.rs tests/random
 	@mkdir -p $(@D)
 	$(RUSTC) $(RUSTFLAGS) -o $@ $< $(LINK_RUST)
 
-bench: target/bench/cut
-	target/bench/cut
-	bench/instructions
+# The bench is linked with the service at four places, since its speed depends on that.
+bench: $(places:%=target/bench/%/cut)
+	@bench/times
+	@bench/instructions
 
-target/bench/cut: bench/cut.rs $(archive)
-	@mkdir -p $(@D)
-	$(RUSTC) $(RUSTFLAGS) -o $@ $< $(LINK_RUST)
+target/bench/%/librigcactus.a: $(archive) bench/place
+	bench/place rigcactus_cut $* $@
+
+target/bench/%/cut: bench/cut.rs target/bench/%/librigcactus.a
+	$(RUSTC) $(RUSTFLAGS) -o $@ $< -L native=$(@D) -l static=rigcactus
 
 clean:
 	rm -rf target
