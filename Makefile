@@ -1,0 +1,78 @@
+# Rigcactus: the library, the program over it, and what tries them. All that is built lies below target/.
+#
+#     make          the library (proved first) and the program, target/host/rigcactus
+#     make run      cuts names in several scripts, for a reader to look at
+#     make test     tries the library, the header and the program
+#     make bench    compares speed with Rust's standard library
+#     make clean    removes target/
+
+RUSTC ?= rustc
+CFLAGS = -std=c11 -O2 -Wall -Wextra -Werror
+CXXFLAGS = -std=c++11 -O2 -Wall -Wextra -Werror
+RUSTFLAGS = --edition 2021 -O -D warnings
+LINK_RUST = -L native=target/staticlib -l static=rigcactus
+
+archive = target/staticlib/librigcactus.a
+header = include/rigcactus.h
+program = target/host/rigcactus
+proved = $(shell find crates \( -name '*.rt' -o -name '*.antt' \) -not -path '*/must-fail/*') crates.txt
+tests = target/tests/header_c target/tests/c_api target/tests/services
+places = 0 16 32 48
+cxx = $(shell command -v $(CXX) 2> /dev/null)
+
+.PHONY: all run test bench clean
+.DELETE_ON_ERROR:
+.SECONDARY:
+
+all: $(archive) $(program)
+
+# rt says a lot when it proves; it is shown only where it fails.
+$(archive): $(proved)
+	@mkdir -p target
+	@echo 'proving and building $@'
+	@rt staticlib rigcactus > target/staticlib.out 2>&1 || { cat target/staticlib.out; exit 1; }
+
+$(program): host/rigcactus.c $(header) $(archive)
+	@mkdir -p $(@D)
+	$(CC) $(CFLAGS) -Iinclude -o $@ $< $(archive)
+
+run: $(program)
+	@echo
+	@examples/cut.sh
+
+test: $(program) $(tests) $(if $(cxx),target/tests/header_cxx)
+	tests/run
+
+target/tests/header_c: tests/header.c $(header) $(archive)
+	@mkdir -p $(@D)
+	$(CC) $(CFLAGS) -Wpedantic -Iinclude -o $@ $< $(archive)
+
+target/tests/header_cxx: tests/header.c $(header) $(archive)
+	@mkdir -p $(@D)
+	$(CXX) $(CXXFLAGS) -Wpedantic -Iinclude -o $@ -x c++ $< -x none $(archive)
+
+# The program that docs/C-API.md shows.
+target/tests/c_api.c: docs/C-API.md
+	@mkdir -p $(@D)
+	awk '/^```c$$/ { inside = 1; next } /^```$$/ { inside = 0 } inside' $< > $@
+
+target/tests/c_api: target/tests/c_api.c $(header) $(archive)
+	$(CC) $(CFLAGS) -Wpedantic -Iinclude -o $@ $< $(archive)
+
+target/tests/services: tests/services.rs tests/cut.rs tests/lent.rs tests/random.rs $(archive)
+	@mkdir -p $(@D)
+	$(RUSTC) $(RUSTFLAGS) -o $@ $< $(LINK_RUST)
+
+# The bench is linked with the service at four places, since its speed depends on that.
+bench: $(places:%=target/bench/%/cut)
+	@bench/times
+	@bench/instructions
+
+target/bench/%/librigcactus.a: $(archive) bench/place
+	bench/place rigcactus_cut $* $@
+
+target/bench/%/cut: bench/cut.rs target/bench/%/librigcactus.a
+	$(RUSTC) $(RUSTFLAGS) -o $@ $< -L native=$(@D) -l static=rigcactus
+
+clean:
+	rm -rf target

@@ -1,0 +1,114 @@
+/*
+ * The header: its numbers, names and helpers, and the service through it. It is compiled as C11 and as C++. What is due is written
+ * here from the rules page.
+ */
+#include "rigcactus.h"
+#include "rigcactus.h" /* twice does no harm */
+
+#include <stdio.h>
+#include <string.h>
+
+static int failures = 0;
+
+static void check(int holds, int line, const char *what)
+{
+    if (!holds) {
+        fprintf(stderr, "tests/header.c:%d: does not hold: %s\n", line, what);
+        failures++;
+    }
+}
+
+#define CHECK(fact) check((fact), __LINE__, #fact)
+
+static int is_name(int refusal, const char *name)
+{
+    return strcmp(rigcactus_refusal_name(refusal), name) == 0;
+}
+
+/* The page's numbers, and the names that stand beside them. */
+static void check_refusals(void)
+{
+    CHECK(RIGCACTUS_ACCEPTED == 0 && is_name(0, "ACCEPTED"));
+    CHECK(RIGCACTUS_OFFSET == 1 && is_name(1, "OFFSET"));
+    CHECK(RIGCACTUS_TOO_LONG == 2 && is_name(2, "TOO LONG"));
+    CHECK(RIGCACTUS_NOT_UTF8 == 3 && is_name(3, "NOT UTF-8"));
+    CHECK(RIGCACTUS_MARKUP == 4 && is_name(4, "MARKUP"));
+    CHECK(RIGCACTUS_TYPE == 5 && is_name(5, "TYPE"));
+    CHECK(RIGCACTUS_SHAPE == 6 && is_name(6, "SHAPE"));
+    CHECK(RIGCACTUS_VALUE == 7 && is_name(7, "VALUE"));
+    CHECK(RIGCACTUS_RULE == 8 && is_name(8, "RULE"));
+    CHECK(RIGCACTUS_UNKNOWN_BOUND == 9 && is_name(9, "UNKNOWN BOUND"));
+    CHECK(RIGCACTUS_TOO_MANY == 10 && is_name(10, "TOO MANY"));
+    CHECK(RIGCACTUS_NO_ROOM == 11 && is_name(11, "NO ROOM"));
+    CHECK(is_name(12, "UNLISTED") && is_name(255, "UNLISTED") && is_name(-1, "UNLISTED"));
+}
+
+/* Bits 0 to 7 are the refusal, the other bits the length. */
+static void check_helpers(void)
+{
+    CHECK(rigcactus_refusal(0) == RIGCACTUS_ACCEPTED && rigcactus_length(0) == 0);
+    CHECK(rigcactus_refusal(3) == RIGCACTUS_NOT_UTF8 && rigcactus_length(3) == 0);
+    CHECK(rigcactus_refusal(0x400) == RIGCACTUS_ACCEPTED && rigcactus_length(0x400) == 4);
+    CHECK(rigcactus_refusal(0x4000FF) == 255 && rigcactus_length(0x4000FF) == 0x4000);
+    CHECK(rigcactus_refusal(UINT64_MAX) == 255 && rigcactus_length(UINT64_MAX) == (UINT64_MAX >> 8));
+}
+
+static int is_cut(const uint8_t *text, size_t text_len, uint64_t room, size_t length)
+{
+    uint64_t answer = rigcactus_cut(text, text_len, room);
+    return rigcactus_refusal(answer) == RIGCACTUS_ACCEPTED && rigcactus_length(answer) == length;
+}
+
+static int is_refused(const uint8_t *text, size_t text_len, uint64_t room, int refusal)
+{
+    uint64_t answer = rigcactus_cut(text, text_len, room);
+    return rigcactus_refusal(answer) == refusal && rigcactus_length(answer) == 0;
+}
+
+static void check_cut(void)
+{
+    static const uint8_t name[] = {0x5A, 0x6F, 0xC3, 0xAB};
+    CHECK(is_cut(name, 4, 0, 0));
+    CHECK(is_cut(name, 4, 3, 2));
+    CHECK(is_cut(name, 4, 4, 4));
+    CHECK(is_cut(name, 4, UINT64_MAX, 4));
+    CHECK(is_cut(name, 4, (uint64_t)1 << 32, 4));
+    CHECK(is_refused(name, 3, 3, RIGCACTUS_NOT_UTF8));
+    CHECK(is_refused(name, 3, 0, RIGCACTUS_NOT_UTF8));
+    CHECK(is_refused(name + 3, 1, 1, RIGCACTUS_NOT_UTF8));
+}
+
+/* Nothing to cut: no byte is read, so any pointer will do. */
+static void check_empty(void)
+{
+    static const uint8_t byte[] = {0xFF};
+    CHECK(is_cut(NULL, 0, 0, 0));
+    CHECK(is_cut(NULL, 0, 1, 0));
+    CHECK(is_cut(NULL, 0, UINT64_MAX, 0));
+    CHECK(is_cut(byte, 0, 1, 0));
+}
+
+/* Both sides of the limit, and that nothing lent is written. */
+static void check_limit(void)
+{
+    static uint8_t text[RIGCACTUS_MOST_BYTES + 1];
+    static uint8_t kept[RIGCACTUS_MOST_BYTES + 1];
+    CHECK(RIGCACTUS_MOST_BYTES == 16384);
+    memset(text, 'a', sizeof text);
+    memcpy(kept, text, sizeof text);
+    CHECK(is_cut(text, 16384, 16383, 16383));
+    CHECK(is_cut(text, 16384, UINT64_MAX, 16384));
+    CHECK(is_refused(text, 16385, 0, RIGCACTUS_TOO_LONG));
+    CHECK(is_refused(text, 16385, UINT64_MAX, RIGCACTUS_TOO_LONG));
+    CHECK(memcmp(text, kept, sizeof text) == 0);
+}
+
+int main(void)
+{
+    check_refusals();
+    check_helpers();
+    check_cut();
+    check_empty();
+    check_limit();
+    return failures == 0 ? 0 : 1;
+}
