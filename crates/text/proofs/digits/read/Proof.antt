@@ -23,7 +23,7 @@ value-requires c κs = let k = counted-all _ _ _ _ (c .before .count .ensures) (
 
 -- src/digits.rt:55:1
 returns-2 : tie.Need-returns-2
-returns-2 c = 
+returns-2 c =
     let k = counted-all _ _ _ _ (c .before .before .count .ensures) (c .before .if1 .left) in
     (k .0, rw (c .value .ensures) (decimal-first _ _ _ (k .0) (k .1) (c .before .before .before .before .args .n) (omega arith)), rw (c .value .ensures) (counted-number _ _ _ _ (c .before .before .count .ensures) (c .before .if1 .left)))
 
