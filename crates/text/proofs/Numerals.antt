@@ -1,19 +1,23 @@
 -- Digits at a position, as many as there are or a given count of them, and the number that they write.
 use Prim.Native.Nat.{ℕ, zero, suc, _+_, _-_, _*_, _^_, _≤_, _<_}
-use mathlib.Core.Path.{_≡_, refl, subst}
+use mathlib.Core.Path.{_≡_, refl, sym, subst}
 use mathlib.Core.Bool.{Bool, true, false, _&&_, cond}
 use mathlib.Core.List.{List, [], _∷_, _++_}
 use native.Mathlib.Nat.{pow-le-pow-right, lt-of-lt-of-le}
 use native.Mathlib.Numerals.{add-one}
 use native.Mathlib.Omega.{arith}
+use mathlib.Core.Logic.{inl, inr}
+use lib.Dec.{eqb}
+use borrow.Author.Tests.{eq-eqb, ne-eqb}
 use lib.ListN.{length, getD, take, drop, length-drop, drop-of-length-le}
 use lib.Seq.{drop-cons, drop-drop, take-suc, getD-drop, length-take-le}
 use Rattle.rules.specs.Basics.{every, isDigit, decimalFrom, decimal}
-use Rattle.rules.specs.Parsers.{Parsed, Parser, bad, ok, next, pure, _>>=_, one, times, upTo}
-use Rattle.rules.specs.Timestamp.{digits}
-use Rattle.rules.proofs.Tests.{isFrom-true, every-true}
+use Rattle.rules.specs.Parsers.{Parsed, Parser, bad, ok, next, pure, _>>=_, _or_, one, byte, times, upTo}
+use Rattle.rules.specs.Timestamp.{digits, point}
+use Rattle.rules.proofs.Tests.{clash, isFrom-true, every-true}
+use Rattle.rules.proofs.Parsers.{else-ok}
 use Rattle.rules.proofs.Digits.{decimalFrom-append, decimal-below}
-use Rattle.text.specs.Numbers.{Counted}
+use Rattle.text.specs.Numbers.{Counted, FractionAt}
 
 -- no byte that passes the test stands at the end, nor at a byte that does not
 pub none-at-end : (p : ℕ → Bool) (s : List ℕ) (i : ℕ) → length s ≤ i → one p (drop i s) ≡ bad
@@ -55,6 +59,9 @@ module _ (s : List ℕ) (at most n : ℕ) (c : Counted s at most n) where
 
   stops : n < most → one isDigit (drop n (drop at s)) ≡ bad
   stops l = rw (drop-drop n at s) (c .stop l)
+
+  pub no-digit-counted : n ≡ 0 → 0 < most → one isDigit (drop at s) ≡ bad
+  no-digit-counted e h = rw e at stops (omega arith)
 
   -- as many digits as there are, up to `most`
   pub counted-upTo : upTo most isDigit (drop at s) ≡ ok (take n (drop at s)) (drop (at + n) s)
@@ -112,3 +119,64 @@ module _ (s : List ℕ) (at n : ℕ) (high : at + n ≤ length s) (e : every isD
   -- eighteen digits fit
   pub decimal-fits : (k : ℕ) → k < n → n ≤ 18 → decimal (take k (drop at s)) < 10 ^ 17
   decimal-fits k h l = lt-of-lt-of-le (decimal-first k (omega arith)) (pow-le-pow-right {n = 10} (omega arith) {i = k} {j = 17} (omega arith))
+
+-- a byte at a position
+pub byte-at : (b : ℕ) (s : List ℕ) (i : ℕ) → i < length s → getD s i 0 ≡ b → byte b (drop i s) ≡ ok b (drop (i + 1) s)
+unfolding one
+byte-at b s i h e = rw (drop-cons s i 0 h, e, eq-eqb b b refl, add-one i) refl
+
+pub no-byte : (b : ℕ) (s : List ℕ) (i : ℕ) → i < length s → (getD s i 0 ≡ b → ⊥) → byte b (drop i s) ≡ bad
+no-byte b s i h e = none-at (λ c. eqb c b) s i h (ne-eqb (getD s i 0) b e)
+
+-- no point, or no digit after it: nothing is read
+pub no-point : (s : List ℕ) (at : ℕ) → byte 46 (drop at s) ≡ bad → (point or pure []) (drop at s) ≡ ok [] (drop at s)
+unfolding point
+no-point s at e = rw e refl
+
+pub no-digit : (s : List ℕ) (at : ℕ) → byte 46 (drop at s) ≡ ok 46 (drop (at + 1) s) → one isDigit (drop (at + 1) s) ≡ bad
+    → (point or pure []) (drop at s) ≡ ok [] (drop at s)
+unfolding point
+no-digit s at e f = rw (e, f) refl
+
+-- a point and its digits
+first-of : (n : ℕ) (p : ℕ → Bool) (s : List ℕ) (d : ℕ) (ds r : List ℕ) → upTo (suc n) p s ≡ ok (d ∷ ds) r
+    → next (one p s) (λ c. upTo n p >>= (λ cs. pure (c ∷ cs))) ≡ ok (d ∷ ds) r
+unfolding upTo
+first-of n p s d ds r e = elim (else-ok (next (one p s) (λ c. upTo n p >>= (λ cs. pure (c ∷ cs)))) (ok [] s) e) [
+  | inl f ↦ f
+  | inr f ↦ clash (cc)
+]
+
+point-run : (s u r : List ℕ) (n : ℕ) → byte 46 s ≡ ok 46 u → 1 ≤ n → 1 ≤ length u → upTo 4 isDigit u ≡ ok (take n u) r → (point or pure []) s ≡ ok (take n u) r
+unfolding point
+point-run s u r zero e h l f = absurd (omega arith)
+point-run s [] r (suc n) e h l f = absurd (omega arith)
+point-run s (c ∷ u) r (suc n) e h l f = rw (e, first-of 3 isDigit (c ∷ u) c (take n u) r f) refl
+
+pub point-digits : (s : List ℕ) (at n : ℕ) → byte 46 (drop at s) ≡ ok 46 (drop (at + 1) s) → Counted s (at + 1) 4 n → 1 ≤ n
+    → (point or pure []) (drop at s) ≡ ok (take n (drop (at + 1) s)) (drop (at + 1 + n) s)
+point-digits s at n e c h =
+    point-run (drop at s) (drop (at + 1) s) _ n e h (rw length-drop (omega (arith, c .high))) (counted-upTo s (at + 1) 4 n c)
+
+-- so many digits after a point, in ten-thousandths
+pub scaled : (value count k : ℕ) → count ≡ k → k ≤ 4 → value < 10 ^ count → (value * 10 ^ (4 - k) ≡ value * 10 ^ (4 - count)) × (value * 10 ^ (4 - k) < 10_000)
+scaled value count k e h l = (rw e refl, below k (subst (λ (n : ℕ). value < 10 ^ n) e l) h)
+  where
+    below : (k : ℕ) → value < 10 ^ k → k ≤ 4 → value * 10 ^ (4 - k) < 10_000
+    below zero l h = omega arith
+    below (suc zero) l h = omega arith
+    below (suc (suc zero)) l h = omega arith
+    below (suc (suc (suc zero))) l h = omega arith
+    below (suc (suc (suc (suc zero)))) l h = omega arith
+    below (suc (suc (suc (suc (suc k))))) l h = absurd (omega arith)
+
+pub fraction-none : (s : List ℕ) (at : ℕ) → at ≤ length s → (point or pure []) (drop at s) ≡ ok [] (drop at s)
+    → FractionAt s at (record { value = 0; count = 0; end = at })
+unfolding decimalFrom
+fraction-none s at h e = record { list = []; reads = e; value = refl; count = refl; few = omega arith; small = omega arith; high = h }
+
+pub fraction-digits : (s : List ℕ) (at n v : ℕ) → byte 46 (drop at s) ≡ ok 46 (drop (at + 1) s) → Counted s (at + 1) 4 n → 1 ≤ n
+    → v ≡ decimal (take n (drop (at + 1) s)) * 10 ^ (4 - n) → v < 10_000 → FractionAt s at (record { value = v; count = n; end = at + 1 + n })
+fraction-digits s at n v e c h q l =
+    let k : length (take n (drop (at + 1) s)) ≡ n = length-take-le n (drop (at + 1) s) (fits s (at + 1) 4 n c) in
+    record { list = take n (drop (at + 1) s); reads = point-digits s at n e c h; value = rw k q; count = sym k; few = c .few; small = l; high = c .high }

@@ -2,11 +2,12 @@
 use Prim.Native.Nat.{ℕ, _+_, _^_, _≤_, _<_}
 use mathlib.Core.Path.{_≡_}
 use mathlib.Core.Bool.{true}
-use mathlib.Core.List.{List}
+use mathlib.Core.List.{List, []}
 use lib.ListN.{length, take, drop}
 use Rattle.rules.specs.Basics.{every, isDigit}
-use Rattle.rules.specs.Parsers.{Parsed, bad, ok, one}
-use Rattle.rules.specs.Timestamp.{digits}
+use Rattle.rules.specs.Parsers.{Parsed, bad, ok, pure, _or_, one}
+use Rattle.rules.specs.Timestamp.{digits, point, tenThousandths}
+use Rattle.text.specs.declared.digits.Fraction.{Fraction}
 use Rattle.text.specs.declared.digits.Number.{Number}
 use Rattle.text.specs.declared.digits.Number.the-variants.{Is, Nothing}
 
@@ -21,3 +22,13 @@ pub record Counted (s : List ℕ) (at most n : ℕ) : Type 0 where
 abbrev pub NumberAt : List ℕ → (at n : ℕ) → Number → Type 0
 NumberAt s at n (Is v) = (at + n ≤ length s) × (v < 10 ^ n) × (digits n (drop at s) ≡ ok v (drop (at + n) s))
 NumberAt s at n Nothing = digits n (drop at s) ≡ bad
+
+-- a point with digits, or none, read at a position
+pub record FractionAt (s : List ℕ) (at : ℕ) (f : Fraction) : Type 0 where
+  pub list : List ℕ
+  pub reads : (point or pure []) (drop at s) ≡ ok list (drop (f .end) s)
+  pub value : f .value ≡ tenThousandths list
+  pub count : f .count ≡ length list
+  pub few : f .count ≤ 4
+  pub small : f .value < 10_000
+  pub high : f .end ≤ length s
