@@ -6,16 +6,18 @@ use mathlib.Core.List.{List, [], _∷_}
 use mathlib.Core.Option.{Option, none, some}
 use lib.Dec.{leb}
 use lib.ListN.{length, getD, drop}
-use Rattle.rules.specs.Parsers.{ok, pure, guard, _>>_, _or_, whole}
-use Rattle.rules.specs.Timestamp.{twoDigits, point, zone as zoneParser, timestamp, tenThousandths}
+use Rattle.rules.specs.Parsers.{bad, ok, pure, _or_, whole}
+use Rattle.rules.specs.Timestamp.{twoDigits, hours, zone as zoneParser, timestamp, tenThousandths}
 use Rattle.rules.specs.Timestamp.{Zone as RulesZone, noZone, plus, minus, Written as RulesWritten}
 use Rattle.timestamp.specs.declared.form.Parts.{Parts}
 use Rattle.timestamp.specs.declared.form.Zone.{Zone}
 use Rattle.timestamp.specs.declared.form.Zone.the-variants.{Agreed, Plus, Minus}
+use Rattle.timestamp.specs.declared.form.Hours.{Hours}
+use Rattle.timestamp.specs.declared.form.Hours.the-variants.{Is, Nothing}
 use Rattle.timestamp.specs.declared.form.Zoned.{Zoned}
 use Rattle.timestamp.specs.declared.form.Written.{Written}
 use Rattle.timestamp.specs.declared.form.Form.{Form}
-use Rattle.timestamp.specs.declared.form.Form.the-variants.{Is, Bad}
+use Rattle.timestamp.specs.declared.form.Form.the-variants.{Is as Form·Is, Bad}
 
 -- the code's parts of a list of two-digit numbers; missing ones take their first value
 abbrev pub partsOf : List ℕ → (end : ℕ) → Parts
@@ -41,9 +43,14 @@ SmallZone Agreed = Unit {0}
 SmallZone (Plus h m) = (h < 100) × (m < 100)
 SmallZone (Minus h m) = (h < 100) × (m < 100)
 
--- an offset, or none, read where one may stand if `may`
-pub record ZoneAt (may : Bool) (s : List ℕ) (at : ℕ) (z : Zoned) : Type 0 where
-  pub reads : ((guard may >> zoneParser) or pure noZone) (drop at s) ≡ ok (zoneOf (z .zone)) (drop (z .end) s)
+-- hours and minutes after any sign, read
+abbrev pub HoursAt : List ℕ → (at : ℕ) → Hours → Type 0
+HoursAt s at (Is h m e) = ((sign : ℕ → ℕ → RulesZone) → hours sign (drop at s) ≡ ok (sign h m) (drop e s)) × (h < 100) × (m < 100) × (e ≤ length s)
+HoursAt s at Nothing = (sign : ℕ → ℕ → RulesZone) → hours sign (drop at s) ≡ bad
+
+-- an offset, or none, read
+pub record ZoneAt (s : List ℕ) (at : ℕ) (z : Zoned) : Type 0 where
+  pub reads : (zoneParser or pure noZone) (drop at s) ≡ ok (zoneOf (z .zone)) (drop (z .end) s)
   pub small : SmallZone (z .zone)
   pub high : z .end ≤ length s
 
@@ -60,5 +67,5 @@ pub record Writes (w : RulesWritten) (c : Written) : Type 0 where
 
 -- a text of the form of a timestamp, or another
 abbrev pub FormOf : List ℕ → Form → Type 0
-FormOf s (Is c) = (w : RulesWritten) × (whole timestamp s ≡ some w) × Writes w c
+FormOf s (Form·Is c) = (w : RulesWritten) × (whole timestamp s ≡ some w) × Writes w c
 FormOf s Bad = whole timestamp s ≡ none

@@ -2,7 +2,7 @@
 ghost use mathlib.Core.Path.{_≡_};
 ghost use Prim.Native.Nat.{_≤_, _<_};
 ghost use lib.ListN.{length};
-ghost use Rattle.timestamp.specs.Written.{PartsAt};
+ghost use Rattle.timestamp.specs.Written.{PartsAt, HoursAt, ZoneAt};
 use text::digits;
 use text::digits::Fraction;
 use text::digits::Number;
@@ -23,6 +23,12 @@ pub enum Zone {
     Agreed,
     Plus(u64, u64),
     Minus(u64, u64),
+}
+
+// Hours and minutes of an offset and the position past them, or that none stand there.
+pub enum Hours {
+    Is(u64, u64, usize),
+    Nothing,
 }
 
 // An offset; `end` is past it.
@@ -90,4 +96,51 @@ fn read_parts(s: &[u8]) -> Parts
     p.second = second;
     p.end = 14;
     p
+}
+// Hours of two digits, and minutes of two more if they stand there.
+fn read_hours(s: &[u8], at: usize) -> Hours
+    requires { ⌜ at ≤ length (now s) ⌝ }
+    ensures { λ r. ⌜ HoursAt (now (s .entry)) at r ⌝ }
+{
+    let Number::Is(h) = digits::read(s, at, 2) else {
+        return Hours::Nothing;
+    };
+    let Number::Is(m) = digits::read(s, at + 2, 2) else {
+        return Hours::Is(h, 0, at + 2);
+    };
+    Hours::Is(h, m, at + 2 + 2)
+}
+
+// An offset, a sign with hours and minutes, or none.
+fn read_zone(s: &[u8], at: usize) -> Zoned
+    requires { ⌜ at ≤ length (now s) ⌝ }
+    ensures { λ r. ⌜ ZoneAt (now (s .entry)) at r ⌝ }
+{
+    let none = Zoned {
+        zone: Zone::Agreed,
+        end: at,
+    };
+    if s.len() <= at {
+        return none;
+    }
+    let sign = s[at];
+    if sign == 43 {
+        let Hours::Is(h, m, end) = read_hours(s, at + 1) else {
+            return none;
+        };
+        return Zoned {
+            zone: Zone::Plus(h, m),
+            end,
+        };
+    }
+    if sign == 45 {
+        let Hours::Is(h, m, end) = read_hours(s, at + 1) else {
+            return none;
+        };
+        return Zoned {
+            zone: Zone::Minus(h, m),
+            end,
+        };
+    }
+    none
 }
