@@ -5,7 +5,7 @@ use mathlib.Core.Bool.{true}
 use mathlib.Core.List.{List, []}
 use lib.ListN.{length, take, drop}
 use Rattle.rules.specs.Basics.{every, isDigit}
-use Rattle.rules.specs.Parsers.{Parsed, bad, ok, pure, _or_, one}
+use Rattle.rules.specs.Parsers.{Parsed, Parser, bad, ok, pure, _or_, one}
 use Rattle.rules.specs.Timestamp.{digits, point, tenThousandths}
 use Rattle.text.specs.declared.digits.Fraction.{Fraction}
 use Rattle.text.specs.declared.digits.Number.{Number}
@@ -23,12 +23,16 @@ abbrev pub NumberAt : List ℕ → (at n : ℕ) → Number → Type 0
 NumberAt s at n (Is v) = (at + n ≤ length s) × (v < 10 ^ n) × (digits n (drop at s) ≡ ok v (drop (at + n) s))
 NumberAt s at n Nothing = digits n (drop at s) ≡ bad
 
--- a point with digits, or none, read at a position
-pub record FractionAt (s : List ℕ) (at : ℕ) (f : Fraction) : Type 0 where
+-- what a parser of the digits after a point reads at a position
+pub record FractionBy (P : Parser (List ℕ)) (s : List ℕ) (at : ℕ) (f : Fraction) : Type 0 where
   pub list : List ℕ
-  pub reads : (point or pure []) (drop at s) ≡ ok list (drop (f .end) s)
+  pub reads : P (drop at s) ≡ ok list (drop (f .end) s)
   pub value : f .value ≡ tenThousandths list
   pub count : f .count ≡ length list
   pub few : f .count ≤ 4
   pub small : f .value < 10_000
   pub high : f .end ≤ length s
+
+-- a point with digits, or none
+abbrev pub FractionAt : List ℕ → (at : ℕ) → Fraction → Type 0
+FractionAt = FractionBy (point or pure [])

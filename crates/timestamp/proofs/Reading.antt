@@ -2,13 +2,20 @@
 use Prim.Native.Nat.{ℕ, zero, suc, _+_, _≤_, _<_}
 use mathlib.Core.Path.{_≡_, refl, subst}
 use mathlib.Core.List.{List, [], _∷_}
+use mathlib.Core.Option.{none, some}
+use native.Mathlib.Omega.{arith}
+use borrow.Author.Tests.{le-leb, lt-leb}
 use lib.ListN.{length, drop}
-use Rattle.rules.specs.Parsers.{Parsed, bad, ok, next, else, pure, _or_, byte}
-use Rattle.rules.specs.Timestamp.{Zone, noZone, plus, minus, digits, twoDigits, hours, zone}
-use Rattle.text.specs.Numbers.{NumberAt}
+use Rattle.rules.specs.Basics.{decimalFrom}
+use Rattle.rules.specs.Parsers.{Parsed, bad, ok, next, else, pure, _or_, byte, finish, whole}
+use Rattle.rules.specs.Timestamp.{Zone, noZone, plus, minus, digits, twoDigits, hours, zone, timestamp}
+use Rattle.text.specs.Numbers.{NumberAt, FractionBy, FractionAt}
+use Rattle.text.specs.declared.digits.Fraction.{Fraction}
 use Rattle.text.specs.declared.digits.Number.{Number}
 use Rattle.text.specs.declared.digits.Number.the-variants.{Is, Nothing}
-use Rattle.timestamp.specs.Written.{HoursAt}
+use Rattle.timestamp.specs.Written.{HoursAt, ZoneBy, ZoneAt, fractionAfter, zoneAfter}
+use Rattle.timestamp.specs.declared.form.Zone.the-variants.{Agreed}
+use Rattle.timestamp.specs.declared.form.Zoned.{Zoned}
 use Rattle.timestamp.specs.declared.form.Hours.{Hours}
 use Rattle.timestamp.specs.declared.form.Hours.the-variants.{Is as Hours·Is, Nothing as Hours·Nothing}
 
@@ -71,3 +78,41 @@ zone-plus-none s t e f d = rw (e, f, d) refl
 pub zone-minus-none : (s t : List ℕ) → byte 43 s ≡ bad → byte 45 s ≡ ok 45 t → hours minus t ≡ bad → (zone or pure noZone) s ≡ ok noZone s
 unfolding zone
 zone-minus-none s t d e f = rw (d, e, f) refl
+
+-- a fraction, where one may stand
+pub fraction-early : (count : ℕ) (s : List ℕ) (at : ℕ) → count < 5 → at ≤ length s → FractionBy (fractionAfter count) s at (record { value = 0; count = 0; end = at })
+unfolding decimalFrom
+fraction-early count s at l h =
+    record { list = []; reads = rw (lt-leb 5 count l) refl; value = refl; count = refl; few = omega arith; small = omega arith; high = h }
+
+pub fraction-late : (count : ℕ) (s : List ℕ) (at : ℕ) (f : Fraction) → 5 ≤ count → FractionAt s at f → FractionBy (fractionAfter count) s at f
+fraction-late count s at f l h = record {
+  list = h .list;
+  reads = rw (le-leb 5 count l) (h .reads);
+  value = h .value;
+  count = h .count;
+  few = h .few;
+  small = h .small;
+  high = h .high;
+}
+
+pub zone-early : (count : ℕ) (s : List ℕ) (at : ℕ) → count < 3 → at ≤ length s → ZoneBy (zoneAfter count) s at (record { zone = Agreed; end = at })
+zone-early count s at l h = record { reads = rw (lt-leb 3 count l) refl; small = tt; high = h }
+
+pub zone-late : (count : ℕ) (s : List ℕ) (at : ℕ) (z : Zoned) → 3 ≤ count → ZoneAt s at z → ZoneBy (zoneAfter count) s at z
+zone-late count s at z l h = record { reads = rw (le-leb 3 count l) (h .reads); small = h .small; high = h .high }
+
+-- the whole text
+pub no-year : (s : List ℕ) → digits 4 s ≡ bad → whole timestamp s ≡ none
+unfolding timestamp
+no-year s e = rw e refl
+
+module _ (s t u v r : List ℕ) (y : ℕ) (ps f : List ℕ) (z : Zone) (a : digits 4 s ≡ ok y t) (b : twoDigits 5 t ≡ ok ps u)
+    (c : fractionAfter (length ps) u ≡ ok f v) (d : zoneAfter (length ps) v ≡ ok z r) where
+  pub form-whole : r ≡ [] → whole timestamp s ≡ some (record { year = y; parts = ps; fraction = f; zone = z })
+  unfolding timestamp finish
+  form-whole e = rw (a, b, c, d, e) refl
+
+  pub form-more : (k : ℕ) (l : List ℕ) → r ≡ k ∷ l → whole timestamp s ≡ none
+  unfolding timestamp finish
+  form-more k l e = rw (a, b, c, d, e) refl

@@ -6,8 +6,8 @@ use mathlib.Core.List.{List, [], _∷_}
 use mathlib.Core.Option.{Option, none, some}
 use lib.Dec.{leb}
 use lib.ListN.{length, getD, drop}
-use Rattle.rules.specs.Parsers.{bad, ok, pure, _or_, whole}
-use Rattle.rules.specs.Timestamp.{twoDigits, hours, zone as zoneParser, timestamp, tenThousandths}
+use Rattle.rules.specs.Parsers.{Parser, bad, ok, pure, guard, _>>_, _or_, whole}
+use Rattle.rules.specs.Timestamp.{twoDigits, point, hours, zone as zoneParser, timestamp, tenThousandths}
 use Rattle.rules.specs.Timestamp.{Zone as RulesZone, noZone, plus, minus, Written as RulesWritten}
 use Rattle.timestamp.specs.declared.form.Parts.{Parts}
 use Rattle.timestamp.specs.declared.form.Zone.{Zone}
@@ -48,11 +48,22 @@ abbrev pub HoursAt : List ℕ → (at : ℕ) → Hours → Type 0
 HoursAt s at (Is h m e) = ((sign : ℕ → ℕ → RulesZone) → hours sign (drop at s) ≡ ok (sign h m) (drop e s)) × (h < 100) × (m < 100) × (e ≤ length s)
 HoursAt s at Nothing = (sign : ℕ → ℕ → RulesZone) → hours sign (drop at s) ≡ bad
 
--- an offset, or none, read
-pub record ZoneAt (s : List ℕ) (at : ℕ) (z : Zoned) : Type 0 where
-  pub reads : (zoneParser or pure noZone) (drop at s) ≡ ok (zoneOf (z .zone)) (drop (z .end) s)
+-- what a parser of offsets reads at a position
+pub record ZoneBy (P : Parser RulesZone) (s : List ℕ) (at : ℕ) (z : Zoned) : Type 0 where
+  pub reads : P (drop at s) ≡ ok (zoneOf (z .zone)) (drop (z .end) s)
   pub small : SmallZone (z .zone)
   pub high : z .end ≤ length s
+
+-- an offset, or none
+abbrev pub ZoneAt : List ℕ → (at : ℕ) → Zoned → Type 0
+ZoneAt = ZoneBy (zoneParser or pure noZone)
+
+-- a fraction only after ss, an offset only after hh or finer, where so many parts are written
+abbrev pub fractionAfter : (parts : ℕ) → Parser (List ℕ)
+fractionAfter n = (guard (leb 5 n) >> point) or pure []
+
+abbrev pub zoneAfter : (parts : ℕ) → Parser RulesZone
+zoneAfter n = (guard (leb 3 n) >> zoneParser) or pure noZone
 
 -- what is written, as the rules have it
 pub record Writes (w : RulesWritten) (c : Written) : Type 0 where

@@ -2,7 +2,8 @@
 ghost use mathlib.Core.Path.{_≡_};
 ghost use Prim.Native.Nat.{_≤_, _<_};
 ghost use lib.ListN.{length};
-ghost use Rattle.timestamp.specs.Written.{PartsAt, HoursAt, ZoneAt};
+ghost use Rattle.timestamp.specs.Written.{PartsAt, HoursAt, ZoneAt, ZoneBy, fractionAfter, zoneAfter, FormOf};
+ghost use Rattle.text.specs.Numbers.{FractionBy};
 use text::digits;
 use text::digits::Fraction;
 use text::digits::Number;
@@ -143,4 +144,56 @@ fn read_zone(s: &[u8], at: usize) -> Zoned
         };
     }
     none
+}
+
+// A fraction, where one may stand: after the seconds.
+fn read_fraction_after(s: &[u8], count: usize, at: usize) -> Fraction
+    requires { ⌜ at ≤ length (now s) ⌝ }
+    ensures { λ r. ⌜ FractionBy (fractionAfter count) (now (s .entry)) at r ⌝ }
+{
+    if count < 5 {
+        return Fraction {
+            value: 0,
+            count: 0,
+            end: at,
+        };
+    }
+    digits::read_fraction(s, at)
+}
+
+// An offset, where one may stand: after the hours or finer.
+fn read_zone_after(s: &[u8], count: usize, at: usize) -> Zoned
+    requires { ⌜ at ≤ length (now s) ⌝ }
+    ensures { λ r. ⌜ ZoneBy (zoneAfter count) (now (s .entry)) at r ⌝ }
+{
+    if count < 3 {
+        return Zoned {
+            zone: Zone::Agreed,
+            end: at,
+        };
+    }
+    read_zone(s, at)
+}
+
+// What is written in a text, if it has the form of a timestamp.
+pub fn read_form(s: &[u8]) -> Form
+    ensures { λ r. ⌜ FormOf (now (s .entry)) r ⌝ }
+{
+    let Number::Is(year) = digits::read(s, 0, 4) else {
+        return Form::Bad;
+    };
+    let parts = read_parts(s);
+    let count = parts.count;
+    let fraction = read_fraction_after(s, count, parts.end);
+    let zoned = read_zone_after(s, count, fraction.end);
+    if zoned.end != s.len() {
+        return Form::Bad;
+    }
+    let zone = zoned.zone;
+    Form::Is(Written {
+        year,
+        parts,
+        fraction,
+        zone,
+    })
 }
