@@ -1,3 +1,4 @@
 pub mod Months
 pub mod Reading
 pub mod Whole
+pub mod Ranges
