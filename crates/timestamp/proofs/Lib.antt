@@ -2,3 +2,4 @@ pub mod Months
 pub mod Reading
 pub mod Whole
 pub mod Ranges
+pub mod Answers

@@ -6,8 +6,10 @@ use lib.Dec.{leb}
 use Rattle.rules.specs.Basics.{isFrom}
 use Rattle.rules.specs.Refusal.{Outcome, answered, refused}
 use Rattle.rules.specs.Calendar.{yearLength, monthLength, daysBefore, second, minute, hour, day}
-use Rattle.rules.specs.Timestamp.{Zone, shiftOf, Moment as RulesMoment}
+use Rattle.rules.specs.Timestamp.{isZone, shiftOf, Moment as RulesMoment}
 use Rattle.refusal.specs.Meaning.{refusalOf}
+use Rattle.timestamp.specs.Written.{zoneOf, SmallZone}
+use Rattle.timestamp.specs.declared.form.Written.{Written}
 use Rattle.timestamp.specs.declared.Moment.{Moment}
 use Rattle.timestamp.specs.declared.Timestamp.{Timestamp}
 use Rattle.timestamp.specs.declared.Timestamp.the-variants.{At, Refused}
@@ -44,3 +46,27 @@ momentOf m = record { start = m .start; precision = m .precision; next = m .next
 abbrev pub outcomeOf : Timestamp → Outcome RulesMoment
 outcomeOf (At m) = answered (momentOf m)
 outcomeOf (Refused r) = refused (refusalOf r)
+
+-- what is written is possible, and the agreed offset is in range
+pub record Possible (shift : ℕ) (w : Written) : Type 0 where
+  pub date : isDateOf (w .year) (w .parts .month) (w .parts .day) ≡ true
+  pub clock : isClockOf (w .parts .hour) (w .parts .minute) (w .parts .second) ≡ true
+  pub zone : isZone (zoneOf (w .zone)) ≡ true
+  pub hours : SmallZone (w .zone)
+  pub parts : w .parts .count ≤ 5
+  pub digits : w .fraction .count ≤ 4
+  pub fraction : w .fraction .value < 10_000
+  pub agreed : shift ≤ 1680
+
+abbrev pub startWritten : (shift : ℕ) → Written → ℕ
+startWritten shift w =
+    daysBefore (w .year) (w .parts .month) (w .parts .day) * day + w .parts .hour * hour + w .parts .minute * minute + w .parts .second * second
+    + w .fraction .value + shiftOf shift (zoneOf (w .zone)) * minute
+
+-- the moment of what is written
+abbrev pub momentWritten : (shift : ℕ) → Written → Moment
+momentWritten shift w = record {
+  start = startWritten shift w;
+  precision = 4 + 2 * w .parts .count + w .fraction .count;
+  next = startWritten shift w + unitTicks (w .year) (w .parts .month) (w .parts .count) (w .fraction .count);
+}

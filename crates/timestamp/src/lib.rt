@@ -5,7 +5,7 @@ ghost use Prim.Native.Nat.{_+_, _-_, _*_, _^_, _≤_, _<_};
 ghost use Rattle.rules.specs.Basics.{isFrom};
 ghost use Rattle.rules.specs.Timestamp.{isOffsetTime, isZone, shiftOf, readTimestamp};
 ghost use Rattle.timestamp.specs.Written.{zoneOf, SmallZone};
-ghost use Rattle.timestamp.specs.Moments.{isDateOf, isClockOf, unitTicks, outcomeOf};
+ghost use Rattle.timestamp.specs.Moments.{isDateOf, isClockOf, unitTicks, Possible, momentWritten, outcomeOf};
 
 pub mod calendar;
 mod form;
@@ -114,4 +114,45 @@ fn unit_ticks(year: u64, month: u64, parts: usize, digits: usize) -> u64
         4 => Tick::MINUTE.0,
         _ => digit_ticks(digits),
     }
+}
+
+// The moment of what is written.
+fn make_moment(w: form::Written, shift: u64) -> Moment
+    requires { ⌜ Possible shift w ⌝ }
+    ensures { λ r. ⌜ r ≡ momentWritten shift w ⌝ }
+{
+    let p = w.parts;
+    let f = w.fraction;
+    let z = w.zone;
+    let date = Tick::of_date(w.year, p.month, p.day);
+    let clock = Tick::of_clock(p.hour, p.minute, p.second, f.value);
+    let start = date.0 + clock.0 + minutes_to_add(z, shift) * Tick::MINUTE.0;
+    Moment {
+        start,
+        precision: 4 + 2 * (p.count as u64) + (f.count as u64),
+        next: start + unit_ticks(w.year, p.month, p.count, f.count),
+    }
+}
+
+// Reads a text as a timestamp; `shift` is 840 less the agreed offset in minutes. A text of the wrong form, an impossible date, an
+// impossible clock and an impossible offset are VALUE.
+pub fn read(text: &[u8], shift: u64) -> Timestamp
+    requires { ⌜ shift ≤ 1680 ⌝ }
+    ensures { λ r. ⌜ outcomeOf r ≡ readTimestamp shift (now (text .entry)) ⌝ }
+{
+    let form::Form::Is(w) = form::read_form(text) else {
+        return Timestamp::Refused(Refusal::Value);
+    };
+    let p = w.parts;
+    if !is_date(w.year, p.month, p.day) {
+        return Timestamp::Refused(Refusal::Value);
+    }
+    if !is_clock(p.hour, p.minute, p.second) {
+        return Timestamp::Refused(Refusal::Value);
+    }
+    let z = w.zone;
+    if !is_zone(z) {
+        return Timestamp::Refused(Refusal::Value);
+    }
+    Timestamp::At(make_moment(w, shift))
 }
