@@ -1,3 +1,4 @@
 pub mod Leads
 pub mod Following
 pub mod Cutting
+pub mod Numerals

@@ -8,6 +8,8 @@ ghost use Rattle.rules.specs.Basics.{every, isFrom};
 ghost use Rattle.rules.specs.Utf8.{_to_, tail, inRange, isUtf8, cutLength};
 ghost use Rattle.text.specs.Characters.{followers, classFollowers, fill, charLength, isAscii, Skips, Passes};
 
+pub mod digits;
+
 // What a lead byte says of the bytes that follow it: none, one, two or three of them; the range of the second byte of a
 // character of three or four, from low to high; or that the byte leads nothing.
 pub enum Lead {

@@ -1,0 +1,91 @@
+-- The ways through the timestamp service.
+use Prim.Native.Nat.{ℕ, _*_, _≤_, _<_}
+use mathlib.Core.Path.{_≡_, refl, sym, _∙_}
+use mathlib.Core.Logic.{_⊎_, inl, inr}
+use mathlib.Core.Bool.{Bool, true, false, not}
+use mathlib.Core.List.{List, [], _∷_, _++_}
+use mathlib.Core.Option.{Option, none, some}
+use borrow.Author.Tests.{lt-ltb, le-ltb}
+use lib.ListN.{length}
+use lib.IntN.{ℤ}
+use Rattle.rules.specs.Basics.{ifSome}
+use Rattle.rules.specs.Refusal.{OFFSET, TOO-LONG, VALUE, number, Outcome, answered, refused, rankIn, firstOf, _unless_, _when_}
+use Rattle.rules.specs.Parsers.{whole}
+use Rattle.rules.specs.Timestamp.{Written, isDate, isClock, isZone, timestamp, writtenFaults, Moment, momentOf, tickOf, readTimestamp}
+use Rattle.rules.specs.Check.{isOffset, shiftBy, isTooLong}
+use Rattle.timestamp.specs.Moments.{momentOf as moment, outcomeOf}
+use Rattle.timestamp.specs.declared.Moment.{Moment as CodeMoment}
+use Rattle.timestamp.specs.declared.Timestamp.{Timestamp}
+use Rattle.timestamp.specs.declared.Timestamp.the-variants.{At, Refused}
+use Rattle.refusal.specs.declared.Refusal.{Refusal}
+use Rattle.rules.specs.Services.{packed, lentAfter, timing, tickAnswer, tickAfter}
+
+-- a text is read as a moment, or refused by VALUE
+read-or-value : (shift : ℕ) (text : List ℕ) → ((m : Moment) × (readTimestamp shift text ≡ answered m)) ⊎ (readTimestamp shift text ≡ refused VALUE)
+unfolding readTimestamp writtenFaults firstOf rankIn
+read-or-value shift text = by-form (whole timestamp text)
+  where
+    by-faults : (m : Moment) (a b c : Bool)
+        → ((n : Moment) × ((answered m unless VALUE when not a ++ VALUE when not b ++ VALUE when not c) ≡ answered n))
+        ⊎ ((answered m unless VALUE when not a ++ VALUE when not b ++ VALUE when not c) ≡ refused VALUE)
+    by-faults m true true true = inl (m, refl)
+    by-faults m true true false = inr refl
+    by-faults m true false true = inr refl
+    by-faults m true false false = inr refl
+    by-faults m false true true = inr refl
+    by-faults m false true false = inr refl
+    by-faults m false false true = inr refl
+    by-faults m false false false = inr refl
+
+    by-form : (o : Option Written)
+        → ((m : Moment) × (ifSome o (λ w. answered (momentOf shift w) unless writtenFaults w) (refused VALUE) ≡ answered m))
+        ⊎ (ifSome o (λ w. answered (momentOf shift w) unless writtenFaults w) (refused VALUE) ≡ refused VALUE)
+    by-form none = inr refl
+    by-form (some w) = by-faults (momentOf shift w) (isDate w) (isClock w) (isZone (w .zone))
+
+-- what the service answers, by the outcome
+abbrev pub Answers : (offset : ℤ) → List ℕ → Outcome Moment → Type 0
+Answers offset text o = timing offset text ≡ o
+
+pub timing-offset : (offset : ℤ) (text : List ℕ) → isOffset offset ≡ false → Answers offset text (refused OFFSET)
+unfolding timing firstOf rankIn
+timing-offset offset text e = rw e (go (isTooLong text) (read-or-value (shiftBy offset) text))
+  where
+    go : (b : Bool) → ((m : Moment) × (readTimestamp (shiftBy offset) text ≡ answered m)) ⊎ (readTimestamp (shiftBy offset) text ≡ refused VALUE)
+        → (readTimestamp (shiftBy offset) text unless (OFFSET ∷ []) ++ TOO-LONG when b) ≡ refused OFFSET
+    go true (inl m) = rw (m .1) refl
+    go false (inl m) = rw (m .1) refl
+    go true (inr h) = rw h refl
+    go false (inr h) = rw h refl
+
+pub timing-long : (offset : ℤ) (text : List ℕ) → isOffset offset ≡ true → 16_384 < length text → Answers offset text (refused TOO-LONG)
+unfolding timing firstOf rankIn
+timing-long offset text e h = rw (e, lt-ltb 16_384 (length text) h) (go (read-or-value (shiftBy offset) text))
+  where
+    go : ((m : Moment) × (readTimestamp (shiftBy offset) text ≡ answered m)) ⊎ (readTimestamp (shiftBy offset) text ≡ refused VALUE)
+        → (readTimestamp (shiftBy offset) text unless [] ++ (TOO-LONG ∷ [])) ≡ refused TOO-LONG
+    go (inl m) = rw (m .1) refl
+    go (inr h) = rw h refl
+
+pub timing-read : (offset : ℤ) (text : List ℕ) → isOffset offset ≡ true → length text ≤ 16_384 → Answers offset text (readTimestamp (shiftBy offset) text)
+unfolding timing firstOf rankIn
+timing-read offset text e h = rw (e, le-ltb 16_384 (length text) h) (go (read-or-value (shiftBy offset) text))
+  where
+    go : ((m : Moment) × (readTimestamp (shiftBy offset) text ≡ answered m)) ⊎ (readTimestamp (shiftBy offset) text ≡ refused VALUE)
+        → (readTimestamp (shiftBy offset) text unless [] ++ []) ≡ readTimestamp (shiftBy offset) text
+    go (inl m) = rw (m .1) refl
+    go (inr h) = rw h refl
+
+-- what the timestamp was read as
+pub timing-passed : (offset : ℤ) (text : List ℕ) (shift : ℕ) (o : Outcome Moment) → isOffset offset ≡ true → length text ≤ 16_384 → shift ≡ shiftBy offset
+    → o ≡ readTimestamp shift text → timing offset text ≡ o
+timing-passed offset text shift o e h s r = timing-read offset text e h ∙ rw (← s) (sym r)
+
+pub read-at : (shift : ℕ) (text : List ℕ) (t : Timestamp) (m : CodeMoment) → outcomeOf t ≡ readTimestamp shift text → t ≡ At m
+    → readTimestamp shift text ≡ answered (moment m)
+read-at shift text t m h e = sym h ∙ rw e refl
+
+-- a refusal is passed on, and nothing is written
+pub passed-on : (offset : ℤ) (text : List ℕ) (t : Timestamp) (x : Refusal) → t ≡ Refused x → timing offset text ≡ outcomeOf t → (n : ℕ) → n ≡ packed (λ m. 0) (outcomeOf t)
+    → {before : ℤ} → (n ≡ tickAnswer offset text) × (before ≡ tickAfter offset text before)
+passed-on offset text t x e h n q = (q ∙ rw (h, e) refl, rw (h, e) refl)

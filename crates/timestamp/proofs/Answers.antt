@@ -1,0 +1,92 @@
+-- From what is written in a text to the answer: a moment, or VALUE.
+use Prim.Native.Nat.{ℕ, _+_, _*_, _≤_, _<_}
+use mathlib.Core.Path.{_≡_, refl, sym, _∙_, ap, subst}
+use mathlib.Core.Bool.{Bool, true, false, not, _&&_, false≢true}
+use mathlib.Core.List.{List, _++_}
+use mathlib.Core.Option.{none, some}
+use lib.ListN.{length}
+use Rattle.rules.specs.Refusal.{VALUE, Outcome, answered, refused, rankIn, firstOf, _unless_, _when_}
+use Rattle.rules.specs.Parsers.{whole}
+use Rattle.rules.specs.Timestamp.{timestamp, Written as RulesWritten, isDate, isClock, isZone, writtenFaults, startOf, unitLength, Moment as RulesMoment, momentOf as rulesMoment, readTimestamp}
+use Rattle.timestamp.specs.Written.{FormOf, Writes, partsOf, zoneOf}
+use Rattle.timestamp.specs.Moments.{isDateOf, isClockOf, unitTicks, Possible, momentOf, momentWritten}
+use Rattle.timestamp.specs.declared.form.Parts.{Parts}
+use Rattle.timestamp.specs.declared.form.Form.{Form}
+use Rattle.timestamp.specs.declared.form.Form.the-variants.{Is, Bad}
+use Rattle.timestamp.specs.declared.form.Written.{Written}
+use Rattle.timestamp.proofs.Ranges.{unit-is}
+
+pub found-form : (s : List ℕ) (r : Form) (c : Written) → FormOf s r → r ≡ Is c → FormOf s (Is c)
+found-form s r c h e = subst (FormOf s) e h
+
+-- a text of the wrong form
+pub wrong-form : (shift : ℕ) (s : List ℕ) (r : Form) → FormOf s r → r ≡ Bad → refused VALUE ≡ readTimestamp shift s
+unfolding readTimestamp
+wrong-form shift s r h e = rw (subst (FormOf s) e h) refl
+
+-- every fault of what is written is VALUE
+faults : {A : Type 0} (m : A) (a b c : Bool) → (a && b && c) ≡ false
+    → refused VALUE ≡ (answered m unless VALUE when not a ++ VALUE when not b ++ VALUE when not c)
+unfolding firstOf rankIn
+faults m true true true e = absurd (false≢true (sym e))
+faults m true true false e = refl
+faults m true false true e = refl
+faults m true false false e = refl
+faults m false true true e = refl
+faults m false true false e = refl
+faults m false false true e = refl
+faults m false false false e = refl
+
+module _ (s : List ℕ) (c : Written) (f : FormOf s (Is c)) where
+  field : {A : Type 0} (get : Parts → A) → get (c .parts) ≡ get (partsOf (f .0 .parts) (c .parts .end))
+  field get = ap get (f .2 .parts)
+
+  date-is : isDateOf (c .year) (c .parts .month) (c .parts .day) ≡ isDate (f .0)
+  date-is = rw (f .2 .year, field (λ p. p .month), field (λ p. p .day)) refl
+
+  clock-is : isClockOf (c .parts .hour) (c .parts .minute) (c .parts .second) ≡ isClock (f .0)
+  clock-is = rw (field (λ p. p .hour), field (λ p. p .minute), field (λ p. p .second)) refl
+
+  zone-is : isZone (zoneOf (c .zone)) ≡ isZone (f .0 .zone)
+  zone-is = ap isZone (f .2 .zone)
+
+  start-is : (shift : ℕ) → momentWritten shift c .start ≡ startOf shift (f .0)
+  unfolding startOf
+  start-is shift =
+      rw (f .2 .year, field (λ p. p .month), field (λ p. p .day), field (λ p. p .hour), field (λ p. p .minute), field (λ p. p .second), f .2 .fraction, f .2 .zone) refl
+
+  precision-is : (shift : ℕ) → momentWritten shift c .precision ≡ rulesMoment shift (f .0) .precision
+  precision-is shift = rw (field (λ p. p .count), f .2 .count) refl
+
+  unit-same : unitTicks (c .year) (c .parts .month) (c .parts .count) (c .fraction .count) ≡ unitLength (f .0 .year) (f .0 .parts) (f .0 .fraction)
+  unit-same = rw (f .2 .year, field (λ p. p .month), field (λ p. p .count), f .2 .count) (sym (unit-is (f .0 .year) (f .0 .parts) (f .0 .fraction)))
+
+  same-moment : (shift : ℕ) → momentOf (momentWritten shift c) ≡ rulesMoment shift (f .0)
+  same-moment shift = λ i. record { start = start-is shift i; precision = precision-is shift i; next = start-is shift i + unit-same i }
+
+  -- something written is impossible
+  pub impossible : (shift : ℕ) (a b d : Bool) → isDateOf (c .year) (c .parts .month) (c .parts .day) ≡ a
+      → isClockOf (c .parts .hour) (c .parts .minute) (c .parts .second) ≡ b → isZone (zoneOf (c .zone)) ≡ d → (a && b && d) ≡ false
+      → refused VALUE ≡ readTimestamp shift s
+  unfolding readTimestamp writtenFaults
+  impossible shift a b d p q r e =
+      rw (f .1, sym date-is ∙ p, sym clock-is ∙ q, sym zone-is ∙ r) (faults (rulesMoment shift (f .0)) a b d e)
+
+  -- all of it is possible
+  pub moment-is : (shift : ℕ) → Possible shift c → answered (momentOf (momentWritten shift c)) ≡ readTimestamp shift s
+  unfolding readTimestamp writtenFaults firstOf
+  moment-is shift h =
+      rw (f .1, sym date-is ∙ h .date, sym clock-is ∙ h .clock, sym zone-is ∙ h .zone) (ap answered (same-moment shift))
+
+  pub possible : (shift : ℕ) → shift ≤ 1680 → isDateOf (c .year) (c .parts .month) (c .parts .day) ≡ true
+      → isClockOf (c .parts .hour) (c .parts .minute) (c .parts .second) ≡ true → isZone (zoneOf (c .zone)) ≡ true → Possible shift c
+  possible shift h p q r = record {
+    date = p;
+    clock = q;
+    zone = r;
+    hours = f .2 .small .1;
+    parts = subst (λ (n : ℕ). n ≤ 5) (sym (field (λ p. p .count))) (f .2 .few);
+    digits = f .2 .digits;
+    fraction = f .2 .small .0;
+    agreed = h;
+  }

@@ -1,0 +1,5 @@
+pub mod Months
+pub mod Reading
+pub mod Whole
+pub mod Ranges
+pub mod Answers
