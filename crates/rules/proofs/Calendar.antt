@@ -71,7 +71,7 @@ months-make-year y = go (isLeap y)
     go true = refl
     go false = refl
 
-daysOfMonths-rise : (y m n : ℕ) → m ≤ n → daysOfMonths y m ≤ daysOfMonths y n
+pub daysOfMonths-rise : (y m n : ℕ) → m ≤ n → daysOfMonths y m ≤ daysOfMonths y n
 unfolding daysOfMonths
 daysOfMonths-rise y m zero h = let z : m ≡ 0 = omega arith in rw z (omega arith)
 daysOfMonths-rise y m (suc n) h = go (decLe m n) (daysOfMonths-rise y m n)

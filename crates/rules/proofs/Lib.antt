@@ -8,6 +8,7 @@ pub mod References
 pub mod Digits
 pub mod Calendar
 pub mod Ticks
+pub mod Rising
 pub mod Utf8
 pub mod Order
 pub mod Edges

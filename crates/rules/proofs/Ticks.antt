@@ -36,11 +36,11 @@ read-answered shift text m = (go _ refl, λ (w, f, g, h). rw f (unless-answered 
     go (some w) f e = let (g, h) = unless-answered (answered (momentOf shift w)) (writtenFaults w) m .0 e in (w, f, h, cc)
 
 -- what the form of a timestamp gives
-record Form (w : Written) : Type 0 where
-  parts-most : length (w .parts) ≤ 5
-  fraction-most : length (w .fraction) ≤ 4
-  fraction-digits : every isDigit (w .fraction) ≡ true
-  fraction-last : length (w .parts) < 5 → w .fraction ≡ []
+pub record Form (w : Written) : Type 0 where
+  pub parts-most : length (w .parts) ≤ 5
+  pub fraction-most : length (w .fraction) ≤ 4
+  pub fraction-digits : every isDigit (w .fraction) ≡ true
+  pub fraction-last : length (w .parts) < 5 → w .fraction ≡ []
 
 point-ok : (s : List ℕ) {ds r : List ℕ} → point s ≡ ok ds r → (length ds ≤ 4) × (every isDigit ds ≡ true)
 unfolding point every
@@ -68,7 +68,7 @@ fraction-ok n s {f} e = elim (else-ok (next (guard (leb 5 n) s) (λ u. point)) _
   | inr e ↦ let z : f ≡ [] = cc in rw z (omega arith, refl, λ l. refl)
 ]
 
-form : (s : List ℕ) {w : Written} {r : List ℕ} → timestamp s ≡ ok w r → Form w
+pub form : (s : List ℕ) {w : Written} {r : List ℕ} → timestamp s ≡ ok w r → Form w
 unfolding timestamp
 form s {w} e =
     next-ok (digits 4 s) _ e λ y s₁ a e₁.
@@ -79,22 +79,22 @@ form s {w} e =
     rw (← q) (record { parts-most = twoDigits-ok 5 s₁ b; fraction-most = g; fraction-digits = h; fraction-last = k })
 
 -- what the checks give
-record Possible (w : Written) : Type 0 where
-  year-low : 1 ≤ w .year
-  year-high : w .year ≤ 9999
-  month-low : 1 ≤ monthOf w
-  month-high : monthOf w ≤ 12
-  day-low : 1 ≤ dayOf w
-  day-high : dayOf w ≤ monthLength (w .year) (monthOf w)
-  hour-high : hourOf w ≤ 23
-  minute-high : minuteOf w ≤ 59
-  second-high : secondOf w ≤ 59
-  zone-right : isZone (w .zone) ≡ true
+pub record Possible (w : Written) : Type 0 where
+  pub year-low : 1 ≤ w .year
+  pub year-high : w .year ≤ 9999
+  pub month-low : 1 ≤ monthOf w
+  pub month-high : monthOf w ≤ 12
+  pub day-low : 1 ≤ dayOf w
+  pub day-high : dayOf w ≤ monthLength (w .year) (monthOf w)
+  pub hour-high : hourOf w ≤ 23
+  pub minute-high : minuteOf w ≤ 59
+  pub second-high : secondOf w ≤ 59
+  pub zone-right : isZone (w .zone) ≡ true
 
 unless-not : (b : Bool) → (VALUE when not b) ≡ [] → b ≡ true
 unless-not b e = not-false b (when-none VALUE (not b) e)
 
-possible : (w : Written) → writtenFaults w ≡ [] → Possible w
+pub possible : (w : Written) → writtenFaults w ≡ [] → Possible w
 unfolding writtenFaults
 possible w e =
     let (e₂, zone) = append-eq-nil-iff .0 e in
@@ -117,7 +117,7 @@ possible w e =
     }
 
 -- the digits after the point, and one more of the last of them, are a second at most
-fraction-in-second : (ds : List ℕ) → length ds ≤ 4 → every isDigit ds ≡ true → tenThousandths ds + 10 ^ (4 - length ds) ≤ second
+pub fraction-in-second : (ds : List ℕ) → length ds ≤ 4 → every isDigit ds ≡ true → tenThousandths ds + 10 ^ (4 - length ds) ≤ second
 fraction-in-second ds l h =
     let rest = 4 - length ds in
     let all : length ds + rest ≡ 4 = omega arith in
@@ -129,7 +129,7 @@ shift-most shift noZone l e = l
 shift-most shift (plus h m) l e = omega arith
 shift-most shift (minus h m) l e = let (f, g) = both-true (leb m 59) _ e in omega (arith, leb-true (60 * h + m) 840 g)
 
-month-in-years : (w : Written) → Possible w → daysBeforeYear (w .year) + daysOfMonths (w .year) (monthOf w - 1) + monthLength (w .year) (monthOf w) ≤ daysOfYears (w .year)
+pub month-in-years : (w : Written) → Possible w → daysBeforeYear (w .year) + daysOfMonths (w .year) (monthOf w - 1) + monthLength (w .year) (monthOf w) ≤ daysOfYears (w .year)
 month-in-years w p = omega (arith, month-ends (w .year) (monthOf w) (p .month-low), months-in-year (w .year) (monthOf w) (p .year-low) (p .month-high))
 
 no-fraction : (w : Written) → Form w → length (w .parts) < 5 → tenThousandths (w .fraction) ≡ 0
