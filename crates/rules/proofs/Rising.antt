@@ -68,12 +68,12 @@ clock-rise w v p f (inl h) = omega (arith, p .minute-high, p .second-high)
 clock-rise w v p f (inr h) = elim (h .1) [
   | inl m ↦ omega (arith, h .0, m, p .second-high)
   | inr m ↦ elim (m .1) [
-      | inl s ↦ omega (arith, h .0, m .0, s)
-      | inr s ↦ elim (s .1) [
-          | inl k ↦ omega (arith, h .0, m .0, s .0, k)
-          | inr k ↦ absurd (k .1)
-        ]
+    | inl s ↦ omega (arith, h .0, m .0, s)
+    | inr s ↦ elim (s .1) [
+      | inl k ↦ omega (arith, h .0, m .0, s .0, k)
+      | inr k ↦ absurd (k .1)
     ]
+  ]
 ]
 
 -- dates first, then times of the day
@@ -84,9 +84,9 @@ date-or-clock w v (inl y) = inl (inl y)
 date-or-clock w v (inr h) = elim (h .1) [
   | inl m ↦ inl (inr (h .0, inl m))
   | inr m ↦ elim (m .1) [
-      | inl d ↦ inl (inr (h .0, inr (m .0, inl d)))
-      | inr d ↦ inr (h .0, m .0, d .0, d .1)
-    ]
+    | inl d ↦ inl (inr (h .0, inr (m .0, inl d)))
+    | inr d ↦ inr (h .0, m .0, d .0, d .1)
+  ]
 ]
 
 rise : (shift : ℕ) (w v : Written) → Form w → Possible w → w .zone ≡ v .zone → Less (numbersOf w) (numbersOf v) → startOf shift w < startOf shift v

@@ -13,7 +13,7 @@ use native.Mathlib.Omega.{arith}
 use borrow.Author.Tests.{lt-ltb, ltb-true}
 use Rattle.rules.specs.Basics.{ifSome, every, find, isFrom}
 use Rattle.rules.specs.Utf8.{Range, inRange, Lead, leadOf, follows, isUtf8}
-use Rattle.text.specs.Characters.{followers, fill, charLength, isAscii, Skips, Passes}
+use Rattle.text.specs.Characters.{followers, fill, charLength, isAscii, Skips}
 use Rattle.text.proofs.Leads.{leads-alone}
 
 -- bytes in ranges, and then whole characters
@@ -94,14 +94,22 @@ char-fits (c ∷ s) = by-followers (followers c)
     by-followers none = omega arith
     by-followers (some l) = by-fill l (fill l s) refl
 
-pub passes-char : (s : List ℕ) (at : ℕ) → at < length s → Passes s at (charLength (drop at s))
-passes-char s at h = record {
-  high = omega (arith, char-fits (drop at s), length-drop at s);
-  whole = first ∙ ap (λ (t : List ℕ). ltb 0 (charLength (drop at s)) && isUtf8 t) (drop-drop (charLength (drop at s)) at s);
-}
-  where
-    first : isUtf8 (drop at s) ≡ ltb 0 (charLength (drop at s)) && isUtf8 (drop (charLength (drop at s)) (drop at s))
-    first = rw (drop-cons s at 0 h) (char-first (getD s at 0) (drop (suc at) s))
+-- at a position: the text from there on is UTF-8 exactly if a character stands there and what follows it is UTF-8
+module _ (s : List ℕ) (at n : ℕ) (e : n ≡ charLength (drop at s)) (h : at < length s) where
+  pub char-high : at + n ≤ length s
+  char-high = omega (arith, char-fits (drop at s), length-drop at s)
+
+  first-char : isUtf8 (drop at s) ≡ ltb 0 (charLength (drop at s)) && isUtf8 (drop (charLength (drop at s)) (drop at s))
+  first-char = rw (drop-cons s at 0 h) (char-first (getD s at 0) (drop (suc at) s))
+
+  first : isUtf8 (drop at s) ≡ ltb 0 n && isUtf8 (drop (at + n) s)
+  first = rw e (first-char ∙ ap (λ (t : List ℕ). ltb 0 (charLength (drop at s)) && isUtf8 t) (drop-drop (charLength (drop at s)) at s))
+
+  pub no-char : n ≡ 0 → isUtf8 (drop at s) ≡ false
+  no-char z = first ∙ rw z refl
+
+  pub after-char : (n ≡ 0 → ⊥) → isUtf8 (drop at s) ≡ isUtf8 (drop (at + n) s)
+  after-char z = first ∙ rw (lt-ltb 0 n (omega arith)) refl
 
 -- the character at a position, by what its lead byte asks to follow
 char-led : (l : List Range) (s : List ℕ) (at : ℕ) (b : Bool) → at < length s → some l ≡ followers (getD s at 0) → b ≡ fill l (drop (at + 1) s)
@@ -160,16 +168,8 @@ skips-block s i j n k h a = record {
   whole = k .whole ∙ rw (← take-append-drop n (drop j s)) (ascii-all (take n (drop j s)) (drop n (drop j s)) a ∙ ap isUtf8 (drop-drop n j s));
 }
 
-pub passes-ascii : (s : List ℕ) (at j : ℕ) → at < length s → getD s at 0 < 128 → Skips s (at + 1) j → Passes s at (j - at)
-passes-ascii s at j h a k =
-    let e : at + (j - at) ≡ j = omega (arith, k .low) in
-    record { high = omega (arith, k .high); whole = first ∙ k .whole ∙ rw (lt-ltb 0 (j - at) (omega (arith, k .low)), e) refl }
+pub after-ascii : (s : List ℕ) (at j : ℕ) → at < length s → getD s at 0 < 128 → Skips s (at + 1) j → isUtf8 (drop at s) ≡ isUtf8 (drop j s)
+after-ascii s at j h a k = first ∙ k .whole
   where
     first : isUtf8 (drop at s) ≡ isUtf8 (drop (at + 1) s)
     first = rw (drop-cons s at 0 h, add-one at) (ascii-first (getD s at 0) (drop (suc at) s) a)
-
-pub passes-none : (s : List ℕ) (i n : ℕ) → Passes s i n → n ≡ 0 → isUtf8 (drop i s) ≡ false
-passes-none s i n k e = k .whole ∙ rw e refl
-
-pub passes-on : (s : List ℕ) (i n : ℕ) → Passes s i n → (n ≡ 0 → ⊥) → isUtf8 (drop i s) ≡ isUtf8 (drop (i + n) s)
-passes-on s i n k e = k .whole ∙ rw (lt-ltb 0 n (omega arith)) refl

@@ -1,5 +1,5 @@
 -- Whole characters at a position of a text, in the words of the rules ("Cutting a text").
-use Prim.Native.Nat.{ℕ, suc, _+_, _≤_}
+use Prim.Native.Nat.{ℕ, suc, _≤_}
 use mathlib.Core.Path.{_≡_}
 use mathlib.Core.Bool.{Bool, true, false, _&&_, cond}
 use mathlib.Core.List.{List, [], _∷_}
@@ -42,8 +42,3 @@ pub record Skips (s : List ℕ) (i j : ℕ) : Type 0 where
   pub low : i ≤ j
   pub high : j ≤ length s
   pub whole : isUtf8 (drop i s) ≡ isUtf8 (drop j s)
-
--- the n bytes at i are whole characters, or n is 0 and no character stands there
-pub record Passes (s : List ℕ) (i n : ℕ) : Type 0 where
-  pub high : i + n ≤ length s
-  pub whole : isUtf8 (drop i s) ≡ ltb 0 n && isUtf8 (drop (i + n) s)

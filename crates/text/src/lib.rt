@@ -6,7 +6,7 @@ ghost use lib.ListN.{length, take, drop};
 ghost use mathlib.Core.List.{[], _∷_};
 ghost use Rattle.rules.specs.Basics.{every, isFrom};
 ghost use Rattle.rules.specs.Utf8.{_to_, tail, inRange, isUtf8, cutLength};
-ghost use Rattle.text.specs.Characters.{followers, classFollowers, fill, charLength, isAscii, Skips, Passes};
+ghost use Rattle.text.specs.Characters.{followers, classFollowers, fill, charLength, isAscii, Skips};
 
 pub mod digits;
 
@@ -150,28 +150,21 @@ fn after_ascii(s: &[u8], at: usize) -> usize
     at + 1
 }
 
-// How many bytes of whole characters can be passed at a position, 0 if no character stands there.
-fn pass(s: &[u8], at: usize) -> usize
-    requires { ⌜ at < length (now s) ⌝ }
-    ensures { λ r. ⌜ Passes (now (s .entry)) at r ⌝ }
-{
-    if s[at] < 128 {
-        return after_ascii(s, at) - at;
-    }
-    char_length(s, at)
-}
-
 // Whether a text is UTF-8.
 pub fn is_utf8(s: &[u8]) -> bool
     ensures { λ r. ⌜ r ≡ isUtf8 (now (s .entry)) ⌝ }
 {
     let mut i = 0;
     while i < s.len() {
-        let n = pass(s, i);
-        if n == 0 {
-            return false;
+        if s[i] < 128 {
+            i = after_ascii(s, i);
+        } else {
+            let n = char_length(s, i);
+            if n == 0 {
+                return false;
+            }
+            i += n;
         }
-        i += n;
     }
     true
 }
