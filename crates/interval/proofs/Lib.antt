@@ -1,2 +1,5 @@
 pub mod Ranks
 pub mod Places
+pub mod Sweep
+pub mod Sets
+pub mod Unique

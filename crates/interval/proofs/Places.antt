@@ -7,7 +7,7 @@ use mathlib.Core.Bool.{Bool, true, false, not, _&&_, _||_}
 use mathlib.Core.Logic.{⊎-elim}
 use native.Mathlib.Omega.{arith}
 use lib.Dec.{leb, ltb}
-use lib.IntN.{pos, negsuc, sucℤ, sucℤ-+ℤ}
+use lib.IntN.{ℤ, pos, negsuc, sucℤ, sucℤ-+ℤ}
 use borrow.Author.Tests.{lt-ltb, le-ltb, le-leb, ltb-true}
 use Rattle.rules.specs.Basics.{ifSome, exists}
 use Rattle.rules.specs.Sets.{Place, at, gapAfter, _isBefore_, firstPlace, holds, isIn}
@@ -39,6 +39,9 @@ ticks-apart : (n : ℕ) → up (at (tickAt n)) + down origin ≡ 2 * n + (down (
 unfolding origin
 ticks-apart zero = omega arith
 ticks-apart (suc n) = rw (tick-next n) (omega (arith, ticks-apart n, next-number (at (tickAt n)), next-number (gapAfter (tickAt n))))
+
+pub tick-one : (m n : ℕ) → tickAt m ≡ tickAt n → m ≡ n
+tick-one m n e = omega (arith, ticks-apart m, ticks-apart n, ap (λ (t : ℤ). up (at t)) e, ap (λ (t : ℤ). down (at t)) e)
 
 tick-number : (n : ℕ) → n < 2 ^ 60 → Numbered (at (tickAt n)) (2 * n + 1)
 tick-number n h = record { number = omega (arith, ticks-apart n); low = omega arith; high = omega arith }

@@ -2,7 +2,7 @@
 use Prim.Native.Nat.{ℕ, zero, suc, _+_, _-_, _*_, _%_, _≤_, _<_, zero-le, suc-le-suc}
 use mathlib.Core.Path.{_≡_, refl, sym, ap, _∙_}
 use mathlib.Core.List.{List, [], _∷_, _++_}
-use mathlib.Core.Bool.{Bool, true, false, not, _&&_, _||_, Bool·not-not}
+use mathlib.Core.Bool.{Bool, true, false, not, _&&_, _||_, cond, Bool·not-not}
 use mathlib.Core.Logic.{_⊎_, inl, inr, ⊎-elim}
 use native.Mathlib.Omega.{arith}
 use lib.Dec.{leb, ltb, eqb}
@@ -171,3 +171,12 @@ pub odd-mod : (n : ℕ) → odd n ≡ eqb (n % 2) 1
 odd-mod zero = refl
 odd-mod (suc zero) = refl
 odd-mod (suc (suc n)) = Bool·not-not (odd n) ∙ odd-mod n ∙ sym (mod-two n)
+
+-- a state that changes exactly if the answer says so
+pub flips : (o : Bool) → true ≡ cond (not o) (not o) o
+flips true = refl
+flips false = refl
+
+pub stays : (o : Bool) → false ≡ cond o (not o) o
+stays true = refl
+stays false = refl

@@ -2,9 +2,9 @@
 -- out again: tick n has the number 2 n + 1, the gap after it the next one, and the places before all ticks share 0.
 use Prim.Native.Nat.{ℕ, zero, suc, _+_, _-_, _*_, _^_, _≤_, _<_}
 use mathlib.Core.Path.{_≡_}
-use mathlib.Core.Bool.{Bool, true, false, not, cond}
+use mathlib.Core.Bool.{Bool, true, false, not, _&&_, cond}
 use mathlib.Core.List.{List, [], _∷_, _++_}
-use lib.Dec.{ltb}
+use lib.Dec.{leb, ltb, eqb}
 use lib.ListN.{length, take, replicate}
 use Rattle.interval.specs.declared.Bound.{Bound}
 use Rattle.interval.specs.declared.Bound.the-variants.{Unbounded, Open, Closed}
@@ -41,6 +41,15 @@ abbrev pub edges : List Interval → List ℕ
 edges [] = []
 edges (v ∷ l) = lowEdge (v .low) ∷ highEdge (v .high) ∷ edges l
 
+-- the number of a tick or of the gap after it
+abbrev pub numberOf : (n : ℕ) → (gap : Bool) → ℕ
+numberOf n true = 2 * n + 2
+numberOf n false = 2 * n + 1
+
+-- whether the place with number x is in an interval
+abbrev pub isWithin : Interval → ℕ → Bool
+isWithin v x = leb (lowEdge (v .low)) x && ltb x (highEdge (v .high))
+
 -- strictly rising, from b on
 abbrev pub Rising : ℕ → List ℕ → Type 0
 Rising b [] = Unit {0}
@@ -64,6 +73,10 @@ abbrev pub odd : ℕ → Bool
 odd zero = false
 odd (suc n) = not (odd n)
 
+-- one if the next edge is at m, else none
+abbrev pub passedAt : (next m : ℕ) → ℕ
+passedAt e m = cond (eqb e m) 1 0
+
 -- whether the place with number x is in the set that has these edges
 abbrev pub within : List ℕ → ℕ → Bool
 within l x = odd (rank l (suc x))
@@ -71,6 +84,14 @@ within l x = odd (rank l (suc x))
 -- followed by `top`, 65 numbers in all
 abbrev pub padded : List ℕ → List ℕ
 padded l = l ++ replicate (65 - length l) top
+
+-- the edges of two sets, padded, few enough for the outcome's to be padded too
+pub record Inputs (a b : List ℕ) : Type 0 where
+  pub long-a : length a ≡ 65
+  pub long-b : length b ≡ 65
+  pub climbs-a : Climbs 0 a
+  pub climbs-b : Climbs 0 b
+  pub few : rank a top + rank b top ≤ 64
 
 -- l is n rising edges below `top`, and then `top` alone
 pub record Edged (n : ℕ) (l : List ℕ) : Type 0 where
@@ -92,3 +113,8 @@ pub record Drawn (n : ℕ) (l : List ℕ) (r : Stretches) : Type 0 where
   pub edges-are : edges (used r) ≡ take (2 * (r .count)) l
   pub fewest : n ≤ 2 * (r .count)
   pub most : 2 * (r .count) ≤ suc n
+
+-- the answer says whether two lists are equal
+pub record SaysEqual (l m : List ℕ) (r : Bool) : Type 0 where
+  pub equal : r ≡ true → l ≡ m
+  pub other : r ≡ false → l ≡ m → ⊥
