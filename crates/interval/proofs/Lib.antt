@@ -3,3 +3,4 @@ pub mod Places
 pub mod Sweep
 pub mod Sets
 pub mod Unique
+pub mod Writing

@@ -3,7 +3,7 @@
 use Prim.Native.Nat.{ℕ, zero, suc, _+_, _-_, _*_, _^_, _≤_, _<_, min, zero-le}
 use mathlib.Core.Path.{_≡_, refl, sym, ap, ap₂, _∙_}
 use mathlib.Core.List.{List, [], _∷_, map}
-use mathlib.Core.Bool.{Bool, true, false, not, _&&_, _||_}
+use mathlib.Core.Bool.{true, false, not, _&&_, _||_}
 use mathlib.Core.Logic.{⊎-elim}
 use native.Mathlib.Omega.{arith}
 use lib.Dec.{leb, ltb}
@@ -17,7 +17,7 @@ use Rattle.rules.proofs.Canonical.{Canonical as Rises}
 use Rattle.interval.specs.declared.Bound.{Bound}
 use Rattle.interval.specs.declared.Bound.the-variants.{Unbounded, Open, Closed}
 use Rattle.interval.specs.declared.Interval.{Interval}
-use Rattle.interval.specs.Meaning.{tickAt, boundOf, intervalOf, placeOf, Ticked, AllTicked}
+use Rattle.interval.specs.Meaning.{tickAt, boundOf, intervalOf, Ticked, AllTicked}
 use Rattle.interval.specs.Edges.{top, lowEdge, highEdge, edges, Rising, within}
 use Rattle.interval.proofs.Ranks.{le-or-lt, not-ltb, within-cons}
 

@@ -1,25 +1,24 @@
 -- Sets of the code as lists of edges: reading them, drawing them, and what they hold.
 use Prim.Native.Nat.{ℕ, zero, suc, _+_, _-_, _*_, _^_, _≤_, _<_, zero-le}
-use mathlib.Core.Path.{_≡_, refl, sym, ap, ap₂, _∙_}
+use mathlib.Core.Path.{_≡_, refl, sym, ap, _∙_}
 use mathlib.Core.List.{List, [], _∷_, _++_, map, append-assoc}
-use mathlib.Core.Bool.{Bool, true, false, not, _&&_, _||_, or-false}
+use mathlib.Core.Bool.{Bool, true, false, _&&_, _||_, or-false}
 use mathlib.Core.Logic.{⊎-elim}
 use native.Mathlib.Omega.{arith}
 use native.Mathlib.Numerals.{add-one}
 use lib.Dec.{leb, ltb}
-use lib.ListN.{length, getD, take, drop, set, replicate, length-map, length-take, length-append, drop-of-length-le, List·getD-append}
+use lib.ListN.{length, getD, take, drop, set, replicate, length-map, length-take, drop-of-length-le, List·getD-append}
 use lib.Seq.{take-suc, take-suc-set, drop-cons, getD-take, length-take-le, getD-at}
-use borrow.Author.Tests.{lt-ltb, le-ltb, le-leb, lt-leb}
+use borrow.Author.Tests.{le-ltb, le-leb, lt-leb}
 use Rattle.rules.specs.Basics.{exists}
 use Rattle.rules.specs.Sets.{Place, at, gapAfter, holds, isIn, apply}
-use Rattle.interval.specs.declared.Bound.{Bound}
-use Rattle.interval.specs.declared.Bound.the-variants.{Unbounded, Open, Closed}
+use Rattle.interval.specs.declared.Bound.the-variants.{Unbounded}
 use Rattle.interval.specs.declared.Interval.{Interval}
 use Rattle.interval.specs.declared.Stretches.{Stretches}
 use Rattle.interval.specs.declared.Op.{Op}
 use Rattle.interval.specs.declared.Op.the-variants.{Union, Intersection, Difference}
 use Rattle.interval.specs.Meaning.{intervalOf, opOf, placeOf, Ticked, AllTicked, used, stretchesOf, Canonical, Holds, applied}
-use Rattle.interval.specs.Edges.{top, lowEdge, highEdge, edges, numberOf, isWithin, Rising, Climbs, Below, rank, within, padded, Inputs, Edged, Merged, Drawn}
+use Rattle.interval.specs.Edges.{top, lowEdge, highEdge, edges, numberOf, isWithin, Rising, Climbs, rank, within, padded, Inputs, Edged, Merged, Drawn}
 use Rattle.interval.proofs.Ranks.{le-or-lt, rank-length, rank-more, rank-below, rank-append, rank-take, rising-climbs, climbs-rising, rising-next, below-at}
 use Rattle.interval.proofs.Places.{spot, spot-below, spot-tick, spot-gap, holds-edges, isIn-within, rising-canonical, canonical-rising}
 use Rattle.interval.proofs.Sweep.{length-snoc, store, padded-length}

@@ -8,7 +8,7 @@ use native.Mathlib.Omega.{arith}
 use lib.ListN.{length, getD, set, replicate, length-append, length-replicate}
 use lib.Seq.{set-append-seam}
 use borrow.Author.Tests.{eq-eqb, ne-eqb}
-use Rattle.interval.specs.Edges.{top, Rising, Climbs, Below, rank, odd, passedAt, within, padded, Inputs, Edged, Merged}
+use Rattle.interval.specs.Edges.{top, Rising, Climbs, Below, rank, odd, passedAt, within, padded, Inputs, Merged}
 use Rattle.interval.proofs.Ranks.{le-or-lt, rank-start, rank-keep, rank-step, next-from, rank-more, rank-below, rank-append, rank-snoc, below-more, below-snoc, rising-snoc}
 
 -- ---- storing at the end of padded edges

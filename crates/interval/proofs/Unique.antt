@@ -1,7 +1,7 @@
 -- The stretches of a canonical set are the ones that the rules mean, and the only ones.
-use Prim.Native.Nat.{ℕ, _+_, _≤_}
+use Prim.Native.Nat.{ℕ}
 use mathlib.Core.Path.{_≡_, refl, sym, ap, ap₂, _∙_}
-use mathlib.Core.Bool.{Bool, true, false}
+use mathlib.Core.Bool.{Bool}
 use mathlib.Core.List.{List, [], _∷_, map}
 use lib.IntN.{pos}
 use Rattle.rules.specs.Sets.{Place, Interval as PageInterval, _upto_, closedAt, union, Expression, interval, combine, meant, isIn, AreStretches}

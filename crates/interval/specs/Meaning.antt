@@ -1,12 +1,12 @@
 -- What the code's bounds, intervals and sets mean, in the words of the rules ("Sets of times").
-use Prim.Native.Nat.{ℕ, _+_, _^_, _≤_, _<_}
+use Prim.Native.Nat.{ℕ, _^_, _≤_, _<_}
 use mathlib.Core.Path.{_≡_}
 use mathlib.Core.Bool.{Bool, true, false}
 use mathlib.Core.List.{List, [], _∷_, map}
 use lib.ListN.{take}
 use lib.IntN.{ℤ, subℕ}
 use Rattle.rules.specs.Timestamp.{beforeStart}
-use Rattle.rules.specs.Sets.{Place, at, gapAfter, Bound as PageBound, unbounded, openAt, closedAt, Interval as PageInterval, _upto_, holds, Op as PageOp, union, intersection, difference, apply, isIn}
+use Rattle.rules.specs.Sets.{Place, at, gapAfter, Bound as PageBound, unbounded, openAt, closedAt, Interval as PageInterval, _upto_, Op as PageOp, union, intersection, difference, apply, isIn}
 use Rattle.rules.proofs.Canonical.{Canonical as Rises}
 use Rattle.interval.specs.declared.Bound.{Bound}
 use Rattle.interval.specs.declared.Bound.the-variants.{Unbounded, Open, Closed}

@@ -2,9 +2,9 @@
 -- m is the next edge of either set. The measure is how many of their edges are left.
 use Prim.Native.Nat.{_+_, _-_, min}
 use native.Mathlib.Omega.{arith}
-use mathlib.Core.Path.{_≡_, refl, ap, _∙_}
+use mathlib.Core.Path.{_≡_}
 use mathlib.Core.Logic.{⊎-elim}
-use lib.ListN.{length, getD}
+use lib.ListN.{getD}
 use Rattle.rules.specs.Sets.{apply}
 use Rattle.interval.specs.Meaning.{opOf}
 use Rattle.interval.specs.Edges.{top, rank}

@@ -1,7 +1,5 @@
 -- `interval::place_number` meets its contract.
 use borrow.Author.Needs.{needs}
-use mathlib.Core.Path.{sym, ap}
-use Rattle.interval.specs.Edges.{numberOf}
 use Rattle.interval.proofs.place_number.Statement.{statement}
 use Rattle.interval.proofs.place_number.Tie as tie
 
