@@ -131,10 +131,9 @@ pub fn single(v: Interval) -> Stretches
 pub fn all() -> Stretches
     ensures { λ r. ⌜ Holds (λ x. true) 1 r ⌝ }
 {
-    single(Interval {
-        low: Bound::Unbounded,
-        high: Bound::Unbounded,
-    })
+    let low = Bound::Unbounded;
+    let high = Bound::Unbounded;
+    single(Interval { low, high })
 }
 
 // The number of a tick, or of the gap after it.
