@@ -16,7 +16,7 @@ use Rattle.interval.specs.declared.Stretches.{Stretches}
 use Rattle.interval.specs.Meaning.{tickAt, boundOf, intervalOf, used, stretchesOf, Canonical, SaysSame}
 use Rattle.interval.specs.Edges.{edges, padded, within, SaysEqual}
 use Rattle.interval.proofs.Places.{spot, tick-one}
-use Rattle.interval.proofs.Sets.{isIn-edges}
+use Rattle.interval.proofs.Items.{isIn-edges}
 
 -- a canonical set's stretches are those of its places
 pub are-stretches : {p : Place → Bool} (s : Stretches) → Canonical s → ((x : Place) → isIn (stretchesOf s) x ≡ p x) → AreStretches p (stretchesOf s)

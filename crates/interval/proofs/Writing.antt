@@ -17,7 +17,7 @@ use Rattle.interval.specs.declared.Interval.{Interval}
 use Rattle.interval.specs.Meaning.{tickAt, boundOf, intervalOf, Ticked}
 use Rattle.interval.specs.Writing.{placed, kindOf, wrapped, bitsOf, boundBytes, intervalBytes}
 use Rattle.interval.proofs.Ranks.{le-or-lt}
-use Rattle.interval.proofs.Sets.{nowhere}
+use Rattle.interval.proofs.Items.{nowhere}
 
 -- ---- positions
 pub placed-none : (at : ℕ) (old : List ℕ) → placed at [] old ≡ old

@@ -2,7 +2,7 @@
 use borrow.Author.Needs.{needs}
 use native.Mathlib.Omega.{arith}
 use mathlib.Core.Path.{refl}
-use Rattle.interval.proofs.Sets.{inputs, drawn-holds}
+use Rattle.interval.proofs.Drawing.{inputs, drawn-holds}
 use Rattle.interval.proofs.combine.Statement.{statement}
 use Rattle.interval.proofs.combine.Tie as tie
 

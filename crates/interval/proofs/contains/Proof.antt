@@ -8,7 +8,8 @@ use lib.ListN.{length, drop}
 use Rattle.rules.specs.Sets.{isIn}
 use Rattle.interval.specs.Meaning.{intervalOf, placeOf, used, stretchesOf}
 use Rattle.interval.specs.Edges.{numberOf}
-use Rattle.interval.proofs.Sets.{length-mapped, used-ticked, contains-here, contains-next, isIn-past}
+use Rattle.interval.proofs.Items.{length-mapped, used-ticked, isIn-past}
+use Rattle.interval.proofs.Members.{contains-here, contains-next}
 use Rattle.interval.proofs.contains.Statement.{statement}
 use Rattle.interval.proofs.contains.Tie as tie
 

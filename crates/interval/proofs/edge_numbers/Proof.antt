@@ -5,7 +5,7 @@ use Prim.Native.Nat.{_-_, _≤_}
 use mathlib.Core.Path.{_≡_, refl}
 use lib.ListN.{length, take}
 use Rattle.interval.specs.Edges.{edges, padded}
-use Rattle.interval.proofs.Sets.{length-mapped, used-ticked, edges-stored}
+use Rattle.interval.proofs.Items.{length-mapped, used-ticked, edges-stored}
 use Rattle.interval.proofs.edge_numbers.Statement.{statement}
 use Rattle.interval.proofs.edge_numbers.Tie as tie
 

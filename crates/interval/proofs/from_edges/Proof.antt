@@ -7,7 +7,8 @@ use lib.ListN.{length, take, length-set}
 use Rattle.interval.specs.declared.Interval.{Interval}
 use Rattle.interval.specs.Meaning.{AllTicked}
 use Rattle.interval.specs.Edges.{edges}
-use Rattle.interval.proofs.Sets.{length-mapped, edged-length, edge-below, edge-next, ticked-more, edges-more}
+use Rattle.interval.proofs.Items.{length-mapped}
+use Rattle.interval.proofs.Drawing.{edged-length, edge-below, edge-next, ticked-more, edges-more}
 use Rattle.interval.proofs.from_edges.Statement.{statement}
 use Rattle.interval.proofs.from_edges.Tie as tie
 

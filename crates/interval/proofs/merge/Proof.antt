@@ -8,7 +8,7 @@ use lib.ListN.{getD}
 use Rattle.rules.specs.Sets.{apply}
 use Rattle.interval.specs.Meaning.{opOf}
 use Rattle.interval.specs.Edges.{top, rank}
-use Rattle.interval.proofs.Sets.{in-neither}
+use Rattle.interval.proofs.Drawing.{in-neither}
 use Rattle.interval.proofs.Sweep.{Merging, merging-start, i-few, j-few, n-few, merged, more, i-next, j-next, merging-keep, merging-emit}
 use Rattle.interval.proofs.merge.Statement.{statement}
 use Rattle.interval.proofs.merge.Tie as tie

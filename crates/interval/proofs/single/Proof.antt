@@ -3,7 +3,8 @@ use borrow.Author.Needs.{needs}
 use native.Mathlib.Omega.{arith}
 use mathlib.Core.Path.{_≡_}
 use lib.ListN.{length}
-use Rattle.interval.proofs.Sets.{length-mapped, single-one, single-none}
+use Rattle.interval.proofs.Items.{length-mapped}
+use Rattle.interval.proofs.Members.{single-one, single-none}
 use Rattle.interval.proofs.single.Statement.{statement}
 use Rattle.interval.proofs.single.Tie as tie
 

@@ -5,7 +5,7 @@ use Prim.Native.Nat.{_-_, _*_, _≤_}
 use mathlib.Core.Path.{_≡_, refl, _∙_}
 use lib.ListN.{length, take}
 use Rattle.rules.specs.Services.{overwrite}
-use Rattle.interval.proofs.Sets.{length-mapped, used-ticked}
+use Rattle.interval.proofs.Items.{length-mapped, used-ticked}
 use Rattle.interval.proofs.Writing.{listBytes, nothing-written, written-more, length-more}
 use Rattle.interval.proofs.write_list.Statement.{statement}
 use Rattle.interval.proofs.write_list.Tie as tie
