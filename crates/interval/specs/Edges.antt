@@ -16,17 +16,22 @@ use Rattle.interval.specs.Meaning.{Ticked, AllTicked, used}
 abbrev pub top : ℕ
 top = 2 ^ 61 + 1
 
+-- the number of a tick or of the gap after it
+abbrev pub numberOf : (n : ℕ) → (gap : Bool) → ℕ
+numberOf n true = 2 * n + 2
+numberOf n false = 2 * n + 1
+
 -- the first place from a low bound on
 abbrev pub lowEdge : Bound → ℕ
 lowEdge Unbounded = 0
-lowEdge (Open n) = 2 * n + 2
-lowEdge (Closed n) = 2 * n + 1
+lowEdge (Open n) = numberOf n true
+lowEdge (Closed n) = numberOf n false
 
 -- the first place past a high bound
 abbrev pub highEdge : Bound → ℕ
 highEdge Unbounded = top
-highEdge (Open n) = 2 * n + 1
-highEdge (Closed n) = 2 * n + 2
+highEdge (Open n) = numberOf n false
+highEdge (Closed n) = numberOf n true
 
 pub record LowAt (e : ℕ) (b : Bound) : Type 0 where
   pub edge : lowEdge b ≡ e
@@ -40,11 +45,6 @@ pub record HighAt (e : ℕ) (b : Bound) : Type 0 where
 abbrev pub edges : List Interval → List ℕ
 edges [] = []
 edges (v ∷ l) = lowEdge (v .low) ∷ highEdge (v .high) ∷ edges l
-
--- the number of a tick or of the gap after it
-abbrev pub numberOf : (n : ℕ) → (gap : Bool) → ℕ
-numberOf n true = 2 * n + 2
-numberOf n false = 2 * n + 1
 
 -- whether the place with number x is in an interval
 abbrev pub isWithin : Interval → ℕ → Bool

@@ -43,6 +43,14 @@ pub enum Op {
 // 2 n + 1, the gap after it the next one, and the places before all ticks share 0. TOP is above every place.
 const TOP: u64 = 2305843009213693953;
 
+// The number of a tick, or of the gap after it.
+fn place_number(n: u64, gap: bool) -> u64
+    requires { ⌜ n < 2 ^ 60 ⌝ }
+    ensures { λ r. ⌜ r ≡ numberOf n gap ⌝ }
+{
+    if gap { 2 * n + 2 } else { 2 * n + 1 }
+}
+
 // The number of the first place from a low bound on.
 fn low_edge(b: Bound) -> u64
     requires { ⌜ Ticked b ⌝ }
@@ -50,8 +58,8 @@ fn low_edge(b: Bound) -> u64
 {
     match b {
         Bound::Unbounded => 0,
-        Bound::Open(t) => 2 * t + 2,
-        Bound::Closed(t) => 2 * t + 1,
+        Bound::Open(t) => place_number(t, true),
+        Bound::Closed(t) => place_number(t, false),
     }
 }
 
@@ -62,8 +70,8 @@ fn high_edge(b: Bound) -> u64
 {
     match b {
         Bound::Unbounded => TOP,
-        Bound::Open(t) => 2 * t + 1,
-        Bound::Closed(t) => 2 * t + 2,
+        Bound::Open(t) => place_number(t, false),
+        Bound::Closed(t) => place_number(t, true),
     }
 }
 
@@ -134,14 +142,6 @@ pub fn all() -> Stretches
     let low = Bound::Unbounded;
     let high = Bound::Unbounded;
     single(Interval { low, high })
-}
-
-// The number of a tick, or of the gap after it.
-fn place_number(n: u64, gap: bool) -> u64
-    requires { ⌜ n < 2 ^ 60 ⌝ }
-    ensures { λ r. ⌜ r ≡ numberOf n gap ⌝ }
-{
-    if gap { 2 * n + 2 } else { 2 * n + 1 }
 }
 
 // Whether the place with a number is in an interval.
