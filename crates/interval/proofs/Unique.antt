@@ -1,0 +1,69 @@
+-- The stretches of a canonical set are the ones that the rules mean, and the only ones.
+use Prim.Native.Nat.{ℕ}
+use mathlib.Core.Path.{_≡_, refl, sym, ap, ap₂, _∙_}
+use mathlib.Core.Bool.{Bool}
+use mathlib.Core.List.{List, [], _∷_, map}
+use lib.IntN.{pos}
+use Rattle.rules.specs.Sets.{Place, Interval as PageInterval, _upto_, closedAt, union, Expression, interval, combine, meant, isIn, AreStretches}
+use Rattle.rules.specs.Stretches.{stretches}
+use Rattle.rules.proofs.Canonical.{canonical-stretches}
+use Rattle.rules.proofs.Unique.{stretches-unique}
+use Rattle.rules.proofs.Drawing.{is-stretches, apart}
+use Rattle.interval.specs.declared.Bound.{Bound}
+use Rattle.interval.specs.declared.Bound.the-variants.{Unbounded, Open, Closed}
+use Rattle.interval.specs.declared.Interval.{Interval}
+use Rattle.interval.specs.declared.Stretches.{Stretches}
+use Rattle.interval.specs.Meaning.{tickAt, boundOf, intervalOf, used, stretchesOf, Canonical, SaysSame}
+use Rattle.interval.specs.Edges.{edges, padded, within, SaysEqual}
+use Rattle.interval.proofs.Places.{spot, tick-one}
+use Rattle.interval.proofs.Items.{isIn-edges}
+
+-- a canonical set's stretches are those of its places
+pub are-stretches : {p : Place → Bool} (s : Stretches) → Canonical s → ((x : Place) → isIn (stretchesOf s) x ≡ p x) → AreStretches p (stretchesOf s)
+are-stretches s c h = canonical-stretches (c .rises) h
+
+-- canonical sets with the same places have the same stretches
+pub same-stretches : (s t : Stretches) → Canonical s → Canonical t → ((x : Place) → isIn (stretchesOf s) x ≡ isIn (stretchesOf t) x) → stretchesOf s ≡ stretchesOf t
+same-stretches s t c d h = stretches-unique (are-stretches s c h) (are-stretches t d (λ x. refl))
+
+-- a canonical set that has the places that an expression means has the stretches that the rules list
+pub stretches-meant : (e : Expression) (s : Stretches) → Canonical s → ((x : Place) → isIn (stretchesOf s) x ≡ meant e x) → stretchesOf s ≡ stretches e
+stretches-meant e s c h = is-stretches e (are-stretches s c h)
+
+-- [1, 2] and [3, 4] stay apart, because the gap between 2 and 3 is out
+pub stays-apart :
+    let first = closedAt (pos 1) upto closedAt (pos 2) in
+    let second = closedAt (pos 3) upto closedAt (pos 4) in
+    (s : Stretches) → Canonical s → ((x : Place) → isIn (stretchesOf s) x ≡ meant (combine union (interval first) (interval second)) x)
+    → stretchesOf s ≡ first ∷ second ∷ []
+stays-apart s c h = stretches-meant _ s c h ∙ apart
+
+-- ---- the code's items, from what they mean
+bound-one : (a b : Bound) → boundOf a ≡ boundOf b → a ≡ b
+bound-one Unbounded Unbounded e = refl
+bound-one Unbounded (Open n) e = cc
+bound-one Unbounded (Closed n) e = cc
+bound-one (Open m) Unbounded e = cc
+bound-one (Open m) (Open n) e = let d : tickAt m ≡ tickAt n = cc in ap Open (tick-one m n d)
+bound-one (Open m) (Closed n) e = cc
+bound-one (Closed m) Unbounded e = cc
+bound-one (Closed m) (Open n) e = cc
+bound-one (Closed m) (Closed n) e = let d : tickAt m ≡ tickAt n = cc in ap Closed (tick-one m n d)
+
+items-one : (l k : List Interval) → map intervalOf l ≡ map intervalOf k → l ≡ k
+items-one [] [] e = refl
+items-one [] (w ∷ k) e = cc
+items-one (v ∷ l) [] e = cc
+items-one (v ∷ l) (w ∷ k) e =
+    let d : intervalOf v ≡ intervalOf w = cc in
+    let p : v .low ≡ w .low = bound-one (v .low) (w .low) (ap (λ (i : PageInterval). i .low) d) in
+    let q : v .high ≡ w .high = bound-one (v .high) (w .high) (ap (λ (i : PageInterval). i .high) d) in
+    let i : v ≡ w = λ i. record { low = p i; high = q i } in
+    ap₂ _∷_ i (items-one l k (cc))
+
+-- sets have the same places exactly if their edges are equal
+pub says-same : (a b : Stretches) (r : Bool) → Canonical a → Canonical b → SaysEqual (padded (edges (used a))) (padded (edges (used b))) r → SaysSame a b r
+says-same a b r c d s = record {
+  same = λ e x. isIn-edges a c x ∙ ap (λ (l : List ℕ). within l (spot x)) (s .equal e) ∙ sym (isIn-edges b d x);
+  other = λ e h. s .other e (ap (λ (l : List Interval). padded (edges l)) (items-one (used a) (used b) (same-stretches a b c d h)));
+}
