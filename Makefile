@@ -59,7 +59,7 @@ target/tests/c_api.c: docs/C-API.md
 target/tests/c_api: target/tests/c_api.c $(header) $(archive)
 	$(CC) $(CFLAGS) -Wpedantic -Iinclude -o $@ $< $(archive)
 
-target/tests/services: tests/services.rs tests/cut.rs tests/lent.rs tests/random.rs $(archive)
+target/tests/services: tests/services.rs tests/cut.rs tests/tick.rs tests/lent.rs tests/random.rs $(archive)
 	@mkdir -p $(@D)
 	$(RUSTC) $(RUSTFLAGS) -o $@ $< $(LINK_RUST)
 
