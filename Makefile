@@ -1,9 +1,9 @@
 # Rigcactus: the library, the program over it, and what tries them. All that is built lies below target/.
 #
 #     make          the library (proved first) and the program, target/host/rigcactus
-#     make run      cuts names in several scripts, for a reader to look at
+#     make run      cuts names in several scripts and reads timestamps, for a reader to look at
 #     make test     tries the library, the header and the program
-#     make bench    compares speed with Rust's standard library
+#     make bench    compares speed with Rust's standard library and with glibc
 #     make clean    removes target/
 
 RUSTC ?= rustc
@@ -16,7 +16,9 @@ archive = target/staticlib/librigcactus.a
 header = include/rigcactus.h
 program = target/host/rigcactus
 proved = $(shell find crates \( -name '*.rt' -o -name '*.antt' \) -not -path '*/must-fail/*') crates.txt
-tests = target/tests/header_c target/tests/c_api target/tests/services
+services = rigcactus_cut rigcactus_tick
+c_api = target/tests/c_api_1 target/tests/c_api_2
+tests = target/tests/header_c $(c_api) target/tests/services
 places = 0 16 32 48
 cxx = $(shell command -v $(CXX) 2> /dev/null)
 
@@ -39,6 +41,8 @@ $(program): host/rigcactus.c $(header) $(archive)
 run: $(program)
 	@echo
 	@examples/cut.sh
+	@echo
+	@examples/tick.sh
 
 test: $(program) $(tests) $(if $(cxx),target/tests/header_cxx)
 	tests/run
@@ -51,28 +55,31 @@ target/tests/header_cxx: tests/header.c $(header) $(archive)
 	@mkdir -p $(@D)
 	$(CXX) $(CXXFLAGS) -Wpedantic -Iinclude -o $@ -x c++ $< -x none $(archive)
 
-# The program that docs/C-API.md shows.
-target/tests/c_api.c: docs/C-API.md
+# The programs that docs/C-API.md shows, by their order there.
+target/tests/c_api_%.c: docs/C-API.md
 	@mkdir -p $(@D)
-	awk '/^```c$$/ { inside = 1; next } /^```$$/ { inside = 0 } inside' $< > $@
+	awk '/^```c$$/ { n++; inside = n == $*; next } /^```$$/ { inside = 0 } inside' $< > $@
 
-target/tests/c_api: target/tests/c_api.c $(header) $(archive)
+$(c_api): %: %.c $(header) $(archive)
 	$(CC) $(CFLAGS) -Wpedantic -Iinclude -o $@ $< $(archive)
 
-target/tests/services: tests/services.rs tests/cut.rs tests/lent.rs tests/random.rs $(archive)
+target/tests/services: tests/services.rs tests/cut.rs tests/tick.rs tests/lent.rs tests/random.rs $(archive)
 	@mkdir -p $(@D)
 	$(RUSTC) $(RUSTFLAGS) -o $@ $< $(LINK_RUST)
 
-# The bench is linked with the service at four places, since its speed depends on that.
-bench: $(places:%=target/bench/%/cut)
+# The bench is linked with the services at four places, since their speed depends on that.
+bench: $(places:%=target/bench/%/cut) $(places:%=target/bench/%/tick)
 	@bench/times
 	@bench/instructions
 
 target/bench/%/librigcactus.a: $(archive) bench/place
-	bench/place rigcactus_cut $* $@
+	bench/place $* $@ $(services)
 
 target/bench/%/cut: bench/cut.rs target/bench/%/librigcactus.a
 	$(RUSTC) $(RUSTFLAGS) -o $@ $< -L native=$(@D) -l static=rigcactus
+
+target/bench/%/tick: bench/tick.c $(header) target/bench/%/librigcactus.a
+	$(CC) $(CFLAGS) -Iinclude -o $@ $< $(@D)/librigcactus.a
 
 clean:
 	rm -rf target

@@ -6,7 +6,9 @@
 #include "rigcactus.h"
 
 #include <errno.h>
+#include <inttypes.h>
 #include <stdarg.h>
+#include <stdbool.h>
 #include <stdio.h>
 #include <string.h>
 
@@ -18,7 +20,8 @@ struct command {
     const char *arguments;    /* as the usage text has them */
     const char *summary;      /* one line of the usage text */
     int argument_count;
-    int (*run)(char **arguments);
+    bool takes_offset;        /* whether --offset MINUTES may follow the arguments */
+    int (*run)(char **arguments, int64_t offset);
 };
 
 /* An input. One byte over the limit is enough to be refused, so no more than that is ever held. */
@@ -58,36 +61,105 @@ static int read_input(struct input *input)
     return ACCEPTED;
 }
 
-/* Writes bytes and a line feed to standard output. */
-static int write_line(const uint8_t *bytes, size_t length)
+/* Sees that all that was written to standard output is out. */
+static int finish_output(void)
 {
-    if (fwrite(bytes, 1, length, stdout) != length || putchar('\n') == EOF || fflush(stdout) == EOF)
+    if (fflush(stdout) == EOF || ferror(stdout))
         return say(FAILED, "cannot write standard output: %s", strerror(errno));
     return ACCEPTED;
 }
 
-/* Reads a number that is written in decimal digits alone. Gives 0 back, and no number, if it is not one or does not fit. */
-static int read_number(const char *text, uint64_t *number)
+/* Reads a number that is written in decimal digits alone. Gives false back, and no number, if it is not one or does not fit. */
+static bool read_number(const char *text, uint64_t *number)
 {
     uint64_t n = 0;
     if (*text == '\0')
-        return 0;
+        return false;
     for (; *text != '\0'; text++) {
         if (*text < '0' || *text > '9')
-            return 0;
+            return false;
         uint64_t digit = (uint64_t)(*text - '0');
         if (n > (UINT64_MAX - digit) / 10)
-            return 0;
+            return false;
         n = n * 10 + digit;
     }
     *number = n;
-    return 1;
+    return true;
+}
+
+/* Reads a number as read_number does, with a sign before it or none. */
+static bool read_signed_number(const char *text, int64_t *number)
+{
+    bool negative = *text == '-';
+    if (*text == '-' || *text == '+')
+        text++;
+    uint64_t magnitude;
+    if (!read_number(text, &magnitude) || magnitude > INT64_MAX)
+        return false;
+    *number = negative ? -(int64_t)magnitude : (int64_t)magnitude;
+    return true;
+}
+
+/* ---- Instants ----------------------------------------------------------------------------------------------------- */
+
+static bool is_leap_year(int year)
+{
+    return year % 4 == 0 && (year % 100 != 0 || year % 400 == 0);
+}
+
+static int year_length(int year)
+{
+    return is_leap_year(year) ? 366 : 365;
+}
+
+static int month_length(int year, int month)
+{
+    static const int lengths[] = {31, 28, 31, 30, 31, 30, 31, 31, 30, 31, 30, 31};
+    return month == 2 && is_leap_year(year) ? 29 : lengths[month - 1];
+}
+
+/*
+ * Writes a tick as a date and a time in UTC. An offset can move it into the year before 0001, which is written 0000, or into the
+ * year 10000.
+ */
+static void write_instant(int64_t tick)
+{
+    int year = 0, month = 1;
+    int64_t since = tick + year_length(0) * RIGCACTUS_TICKS_PER_DAY; /* from 0000-01-01 on: not below zero */
+    int day = (int)(since / RIGCACTUS_TICKS_PER_DAY) + 1;
+    int clock = (int)(since % RIGCACTUS_TICKS_PER_DAY);
+
+    for (; day > year_length(year); year++)
+        day -= year_length(year);
+    for (; day > month_length(year, month); month++)
+        day -= month_length(year, month);
+    int seconds = clock / (int)RIGCACTUS_TICKS_PER_SECOND;
+    printf("%04d-%02d-%02d %02d:%02d:%02d.%04d UTC", year, month, day, seconds / 3600, seconds / 60 % 60, seconds % 60,
+           clock % (int)RIGCACTUS_TICKS_PER_SECOND);
+}
+
+/* The smallest unit that a timestamp of a precision writes. */
+static const char *unit_name(int precision)
+{
+    switch (precision) {
+    case 4: return "year";
+    case 6: return "month";
+    case 8: return "day";
+    case 10: return "hour";
+    case 12: return "minute";
+    case 14: return "second";
+    case 15: return "tenth of a second";
+    case 16: return "hundredth of a second";
+    case 17: return "thousandth of a second";
+    default: return "ten-thousandth of a second";
+    }
 }
 
 /* ---- Commands ----------------------------------------------------------------------------------------------------- */
 
-static int run_cut(char **arguments)
+static int run_cut(char **arguments, int64_t offset)
 {
+    (void)offset;
     uint64_t room;
     if (!read_number(arguments[0], &room))
         return say(BAD_USAGE, "ROOM is a number of bytes from 0 to 18446744073709551615, and not '%s'", arguments[0]);
@@ -100,11 +172,30 @@ static int run_cut(char **arguments)
     uint64_t answer = rigcactus_cut(input.bytes, input.length, room);
     if (rigcactus_refusal(answer) != RIGCACTUS_ACCEPTED)
         return say_refused(answer);
-    return write_line(input.bytes, rigcactus_length(answer));
+    fwrite(input.bytes, 1, rigcactus_length(answer), stdout);
+    putchar('\n');
+    return finish_output();
+}
+
+static int run_tick(char **arguments, int64_t offset)
+{
+    int64_t tick;
+    uint64_t answer = rigcactus_tick((const uint8_t *)arguments[0], strlen(arguments[0]), offset, &tick);
+    if (rigcactus_refusal(answer) != RIGCACTUS_ACCEPTED)
+        return say_refused(answer);
+
+    int precision = rigcactus_precision(answer);
+    printf("tick       %" PRId64 "\n", tick);
+    printf("precision  %d digits, to the %s\n", precision, unit_name(precision));
+    printf("instant    ");
+    write_instant(tick);
+    putchar('\n');
+    return finish_output();
 }
 
 static const struct command commands[] = {
-    {"cut", "ROOM < FILE", "print the longest beginning of FILE that is whole characters and fits ROOM bytes", 1, run_cut},
+    {"cut", "ROOM < FILE", "print the longest beginning of FILE that is whole characters and fits ROOM bytes", 1, false, run_cut},
+    {"tick", "TEXT [--offset MINUTES]", "print the tick of the timestamp TEXT, its precision, and its instant in UTC", 1, true, run_tick},
 };
 
 static const size_t command_count = sizeof commands / sizeof commands[0];
@@ -121,11 +212,12 @@ static void write_usage(FILE *to)
         fprintf(to, "  %s %s\n      %s\n", commands[i].name, commands[i].arguments, commands[i].summary);
     fprintf(to,
             "\n"
-            "FILE is read as it is, a line feed at its end included, up to %d bytes. What is refused is named on\n"
-            "standard error, with its number.\n"
+            "FILE is read as it is, a line feed at its end included, up to %d bytes. TEXT is the argument's bytes.\n"
+            "MINUTES is the agreed offset from UTC, -%d to %d, for timestamps that carry none; it is 0 if not given.\n"
+            "What is refused is named on standard error, with its number.\n"
             "\n"
             "Exit status: 0 accepted, 1 refused, 2 bad usage, 3 reading or writing failed.\n",
-            RIGCACTUS_MOST_BYTES);
+            RIGCACTUS_MOST_BYTES, RIGCACTUS_MOST_OFFSET, RIGCACTUS_MOST_OFFSET);
 }
 
 static const struct command *find_command(const char *name)
@@ -134,6 +226,21 @@ static const struct command *find_command(const char *name)
         if (strcmp(commands[i].name, name) == 0)
             return &commands[i];
     return NULL;
+}
+
+/* Runs a command on the words that follow its name. */
+static int run(const struct command *command, int word_count, char **words)
+{
+    int64_t offset = 0;
+    if (command->takes_offset && word_count == command->argument_count + 2 && strcmp(words[word_count - 2], "--offset") == 0) {
+        const char *minutes = words[word_count - 1];
+        if (!read_signed_number(minutes, &offset))
+            return say(BAD_USAGE, "MINUTES is a number, as 120 or -210, and not '%s'", minutes);
+        word_count -= 2;
+    }
+    if (word_count != command->argument_count)
+        return say(BAD_USAGE, "usage: rigcactus %s %s", command->name, command->arguments);
+    return command->run(words, offset);
 }
 
 int main(int argc, char **argv)
@@ -149,7 +256,5 @@ int main(int argc, char **argv)
     const struct command *command = find_command(argv[1]);
     if (command == NULL)
         return say(BAD_USAGE, "no command '%s'; rigcactus --help lists them", argv[1]);
-    if (argc - 2 != command->argument_count)
-        return say(BAD_USAGE, "usage: rigcactus %s %s", command->name, command->arguments);
-    return command->run(argv + 2);
+    return run(command, argc - 2, argv + 2);
 }

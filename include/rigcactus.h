@@ -18,7 +18,8 @@
  * - Lent memory. A pointer comes with its length in bytes and must lead to that many readable bytes, which nobody changes
  *   during the call. They may start at any address and end without a zero byte. A null pointer is allowed with length 0.
  *   The service keeps no pointer.
- * - Writing. What is lent through a pointer to const is never written, so such memory may overlap any other.
+ * - Writing. What is lent through a pointer to const is never written. Memory that a service may write is written only where
+ *   the input is accepted, and must overlap no other memory that is lent to the same call; const memory may overlap const.
  * - Threads. There is no state, no allocation, no lock and no errno: any number of threads may call at the same time, and
  *   the same arguments always give the same answer.
  * - Time. A call ends, after work that grows with the length of the input and stops at RIGCACTUS_MOST_BYTES.
@@ -39,6 +40,18 @@ extern "C" {
 
 /* The longest input that is read, in bytes. One byte more is refused, as RIGCACTUS_TOO_LONG. */
 #define RIGCACTUS_MOST_BYTES 16384
+
+/* The largest agreed offset, in minutes; the smallest is its negative. Those beyond are refused, as RIGCACTUS_OFFSET. */
+#define RIGCACTUS_MOST_OFFSET 840
+
+/* ---- Ticks -------------------------------------------------------------------------------------------------------- */
+
+/*
+ * A tick is a ten-thousandth of a second, counted from 0001-01-01 00:00 UTC: Gregorian in all years, without leap seconds.
+ * The tick of 1970-01-01 00:00 UTC is 621355968000000.
+ */
+#define RIGCACTUS_TICKS_PER_SECOND INT64_C(10000)
+#define RIGCACTUS_TICKS_PER_DAY INT64_C(864000000)
 
 /* ---- Refusals ----------------------------------------------------------------------------------------------------- */
 
@@ -99,6 +112,12 @@ static inline size_t rigcactus_length(uint64_t answer)
     return answer >> 8;
 }
 
+/* The precision that an answer of rigcactus_tick holds, from 4 to 18 digits; 0 after a refusal. */
+static inline int rigcactus_precision(uint64_t answer)
+{
+    return (answer >> 8) & 0xFF;
+}
+
 /* ---- Services ----------------------------------------------------------------------------------------------------- */
 
 /*
@@ -113,6 +132,27 @@ static inline size_t rigcactus_length(uint64_t answer)
  * The bytes 5A 6F C3 AB are a name of three letters, the last of two bytes: a room of 3 keeps 2 bytes, a room of 4 keeps 4.
  */
 uint64_t rigcactus_cut(const uint8_t *text, size_t text_len, uint64_t room);
+
+/*
+ * Turns a timestamp into a tick. The text is YYYY, then MM, DD, hh, mm, ss, each only after the one before; after ss
+ * optionally `.` and 1 to 4 digits; after hh or finer optionally an offset from UTC, `+` or `-` with hh or hhmm, 14:00 at
+ * most. Nothing may stand before it or after it. Parts that are missing take their first value. Years are 0001 to 9999.
+ *
+ * text, text_len    the text. It need not end in a zero byte, and one inside it makes it no timestamp.
+ * offset            the agreed offset, in minutes east of UTC, -RIGCACTUS_MOST_OFFSET to RIGCACTUS_MOST_OFFSET. It stands for
+ *                   the offset of a text that has none, a bare date too. Another one is refused also where it is not needed.
+ * tick              where the tick goes: an int64_t, not null and aligned as the type asks, that does not overlap the text.
+ *                   It is written only if the text is accepted, and is unchanged after a refusal.
+ *
+ * rigcactus_precision of the answer is the count of digits written before any offset, those of a fraction included and the
+ * point not: 4, 6, 8, 10, 12 or 14 to 18. The offset is subtracted, so that a tick is a time in UTC, and the tick of a text
+ * in the year 0001 can be below zero: ticks are from -504000000 to 3155379479999999.
+ *
+ * Refusals: RIGCACTUS_OFFSET; RIGCACTUS_TOO_LONG; RIGCACTUS_VALUE for a text that is no timestamp, whatever its bytes.
+ *
+ * 19700101 with agreed offset 0 has precision 8 and tick 621355968000000, with agreed offset 60 an hour less.
+ */
+uint64_t rigcactus_tick(const uint8_t *text, size_t text_len, int64_t offset, int64_t *tick);
 
 #ifdef __cplusplus
 }

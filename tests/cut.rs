@@ -338,7 +338,7 @@ pub fn run(options: &Options) -> bool {
             }
         }
     }
-    if options.short {
+    if !options.only_made {
         let short = short_texts();
         short.print("every text of 0 to 3 bytes, and texts of 4");
         alike &= short.differences == 0;

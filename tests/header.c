@@ -1,5 +1,5 @@
 /*
- * The header: its numbers, names and helpers, and the service through it. It is compiled as C11 and as C++. What is due is written
+ * The header: its numbers, names and helpers, and the services through it. It is compiled as C11 and as C++. What is due is written
  * here from the rules page.
  */
 #include "rigcactus.h"
@@ -43,7 +43,7 @@ static void check_refusals(void)
     CHECK(is_name(12, "UNLISTED") && is_name(255, "UNLISTED") && is_name(-1, "UNLISTED"));
 }
 
-/* Bits 0 to 7 are the refusal, the other bits the length. */
+/* Bits 0 to 7 are the refusal; the other bits are the length, or bits 8 to 15 the precision. */
 static void check_helpers(void)
 {
     CHECK(rigcactus_refusal(0) == RIGCACTUS_ACCEPTED && rigcactus_length(0) == 0);
@@ -51,6 +51,9 @@ static void check_helpers(void)
     CHECK(rigcactus_refusal(0x400) == RIGCACTUS_ACCEPTED && rigcactus_length(0x400) == 4);
     CHECK(rigcactus_refusal(0x4000FF) == 255 && rigcactus_length(0x4000FF) == 0x4000);
     CHECK(rigcactus_refusal(UINT64_MAX) == 255 && rigcactus_length(UINT64_MAX) == (UINT64_MAX >> 8));
+    CHECK(rigcactus_precision(0) == 0 && rigcactus_precision(7) == 0);
+    CHECK(rigcactus_precision(0x400) == 4 && rigcactus_precision(0x1200) == 18);
+    CHECK(rigcactus_precision(0x3412FF) == 0x12 && rigcactus_precision(UINT64_MAX) == 255);
 }
 
 static int is_cut(const uint8_t *text, size_t text_len, uint64_t room, size_t length)
@@ -103,6 +106,68 @@ static void check_limit(void)
     CHECK(memcmp(text, kept, sizeof text) == 0);
 }
 
+/* What *tick is before each call: no timestamp has this tick. */
+static const int64_t before = INT64_MIN + 7;
+
+static int is_tick(const char *text, int64_t offset, int precision, int64_t due)
+{
+    int64_t tick = before;
+    uint64_t answer = rigcactus_tick((const uint8_t *)text, strlen(text), offset, &tick);
+    return rigcactus_refusal(answer) == RIGCACTUS_ACCEPTED && rigcactus_precision(answer) == precision && answer >> 16 == 0 && tick == due;
+}
+
+/* Refused, with no precision, and *tick as it was. */
+static int is_refused_tick(const char *text, size_t text_len, int64_t offset, int refusal)
+{
+    int64_t tick = before;
+    uint64_t answer = rigcactus_tick((const uint8_t *)text, text_len, offset, &tick);
+    return rigcactus_refusal(answer) == refusal && rigcactus_precision(answer) == 0 && answer >> 8 == 0 && tick == before;
+}
+
+static void check_tick(void)
+{
+    CHECK(is_tick("0001", 0, 4, 0));
+    CHECK(is_tick("19700101", 0, 8, INT64_C(621355968000000)));
+    CHECK(is_tick("20000101000000.0001+0000", 0, 18, INT64_C(630822816000001)));
+    CHECK(is_tick("0001010100+01", 0, 10, -36000000));
+    CHECK(is_refused_tick("19000229", 8, 0, RIGCACTUS_VALUE));
+    CHECK(is_tick("20240501", 0, 8, INT64_C(638501184000000)));
+    CHECK(is_tick("2024050212", 0, 10, INT64_C(638502480000000)));
+    CHECK(is_tick("20240504", 0, 8, INT64_C(638503776000000)));
+    CHECK(is_refused_tick("2024\0", 5, 0, RIGCACTUS_VALUE));
+    CHECK(is_refused_tick("2024\xFF", 5, 0, RIGCACTUS_VALUE));
+    CHECK(is_refused_tick(NULL, 0, 0, RIGCACTUS_VALUE));
+}
+
+/* The constants beside it: a day after and a second after. */
+static void check_tick_units(void)
+{
+    CHECK(RIGCACTUS_TICKS_PER_SECOND == 10000 && RIGCACTUS_TICKS_PER_DAY == 864000000);
+    CHECK(RIGCACTUS_TICKS_PER_DAY == 24 * 60 * 60 * RIGCACTUS_TICKS_PER_SECOND);
+    CHECK(sizeof RIGCACTUS_TICKS_PER_SECOND == 8 && sizeof RIGCACTUS_TICKS_PER_DAY == 8);
+    CHECK(is_tick("00010102", 0, 8, RIGCACTUS_TICKS_PER_DAY));
+    CHECK(is_tick("00010101000001", 0, 14, RIGCACTUS_TICKS_PER_SECOND));
+}
+
+/* Both sides of the limits, and the order of the refusals. */
+static void check_tick_limits(void)
+{
+    static char digits[RIGCACTUS_MOST_BYTES + 1];
+    CHECK(RIGCACTUS_MOST_OFFSET == 840);
+    CHECK(is_tick("0001", RIGCACTUS_MOST_OFFSET, 4, -504000000));
+    CHECK(is_tick("0001", -RIGCACTUS_MOST_OFFSET, 4, 504000000));
+    CHECK(is_tick("99991231235959.9999", -840, 18, INT64_C(3155379479999999)));
+    CHECK(is_refused_tick("0001", 4, 841, RIGCACTUS_OFFSET));
+    CHECK(is_refused_tick("0001", 4, -841, RIGCACTUS_OFFSET));
+    CHECK(is_refused_tick("0001", 4, INT64_MAX, RIGCACTUS_OFFSET));
+    CHECK(is_refused_tick("0001", 4, INT64_MIN, RIGCACTUS_OFFSET));
+    CHECK(is_refused_tick("0001", 4, INT64_C(1) << 32, RIGCACTUS_OFFSET));
+    memset(digits, '1', sizeof digits);
+    CHECK(is_refused_tick(digits, 16384, 840, RIGCACTUS_VALUE));
+    CHECK(is_refused_tick(digits, 16385, 840, RIGCACTUS_TOO_LONG));
+    CHECK(is_refused_tick(digits, 16385, 841, RIGCACTUS_OFFSET));
+}
+
 int main(void)
 {
     check_refusals();
@@ -110,5 +175,8 @@ int main(void)
     check_cut();
     check_empty();
     check_limit();
+    check_tick();
+    check_tick_units();
+    check_tick_limits();
     return failures == 0 ? 0 : 1;
 }

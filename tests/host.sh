@@ -78,6 +78,47 @@ ln -sf /dev/zero in
 expect 1 '' 'rigcactus: refused: TOO LONG (2)' cut 2
 rm in
 
+# Ticks: the tick, the precision in words and the instant.
+: > in
+expect_tick() { expect 0 "tick       $1\nprecision  $2\ninstant    $3 UTC\n" '' tick "${@:4}"; }
+expect_tick 0 '4 digits, to the year' '0001-01-01 00:00:00.0000' 0001
+expect_tick 621355968000000 '8 digits, to the day' '1970-01-01 00:00:00.0000' 19700101
+expect_tick 630822816000001 '18 digits, to the ten-thousandth of a second' '2000-01-01 00:00:00.0001' 20000101000000.0001+0000
+expect_tick -36000000 '10 digits, to the hour' '0000-12-31 23:00:00.0000' 0001010100+01
+expect_tick 638501184000000 '6 digits, to the month' '2024-05-01 00:00:00.0000' 202405
+expect_tick 638502480000000 '10 digits, to the hour' '2024-05-02 12:00:00.0000' 2024050212
+expect_tick 638502480600000 '12 digits, to the minute' '2024-05-02 12:01:00.0000' 202405021201
+expect_tick 638502480610000 '14 digits, to the second' '2024-05-02 12:01:01.0000' 20240502120101
+expect_tick 638502480611000 '15 digits, to the tenth of a second' '2024-05-02 12:01:01.1000' 20240502120101.1
+expect_tick 638502480611200 '16 digits, to the hundredth of a second' '2024-05-02 12:01:01.1200' 20240502120101.12
+expect_tick 638502480611230 '17 digits, to the thousandth of a second' '2024-05-02 12:01:01.1230' 20240502120101.123
+
+# The agreed offset, which a text with its own does not take; the first and the last instant there are.
+expect_tick 638501112000000 '8 digits, to the day' '2024-04-30 22:00:00.0000' 20240501 --offset 120
+expect_tick 638501112000000 '8 digits, to the day' '2024-04-30 22:00:00.0000' 20240501 --offset +120
+expect_tick 638501256000000 '8 digits, to the day' '2024-05-01 02:00:00.0000' 20240501 --offset -120
+expect_tick 638501184000000 '10 digits, to the hour' '2024-05-01 00:00:00.0000' 2024050102+02 --offset -120
+expect_tick -504000000 '4 digits, to the year' '0000-12-31 10:00:00.0000' 0001 --offset 840
+expect_tick 3155379479999999 '18 digits, to the ten-thousandth of a second' '10000-01-01 13:59:59.9999' 99991231235959.9999 --offset -840
+
+# Every month's end, from both sides, and leap days: the instant is what is written.
+for date in 0001-12-31 1900-02-28 1900-03-01 1999-12-31 2000-02-29 2000-03-01 2000-12-31 2023-02-28 2024-01-31 2024-02-01 2024-02-29 \
+  2024-03-31 2024-04-30 2024-05-31 2024-06-30 2024-07-31 2024-08-31 2024-09-30 2024-10-31 2024-11-30 2024-12-31 2100-03-01 9999-12-31; do
+  "$program" tick "${date//-/}235958" > out 2> err || fail "tick of $date was refused"
+  grep -qx "instant    $date 23:59:58.0000 UTC" out || fail "tick of $date wrote another instant"
+done
+
+# Timestamps that are refused.
+for text in '' 19000229 2024050112Z 2024050124 20240501+01 ' 2024' 2024-05-01 "$(printf '202\xD9\xA4')"; do
+  expect 1 '' 'rigcactus: refused: VALUE (7)' tick "$text"
+done
+expect 1 '' 'rigcactus: refused: OFFSET (1)' tick 2024 --offset 841
+expect 1 '' 'rigcactus: refused: OFFSET (1)' tick 2024 --offset -841
+expect 1 '' 'rigcactus: refused: OFFSET (1)' tick 2024 --offset 9223372036854775807
+expect 1 '' 'rigcactus: refused: VALUE (7)' tick "$(head -c 16384 /dev/zero | tr '\0' 1)"
+expect 1 '' 'rigcactus: refused: TOO LONG (2)' tick "$(head -c 16385 /dev/zero | tr '\0' 1)"
+expect 1 '' 'rigcactus: refused: OFFSET (1)' tick "$(head -c 16385 /dev/zero | tr '\0' 1)" --offset 841
+
 # Bad usage.
 printf 'abc' > in
 expect 2 '' '*'
@@ -88,10 +129,22 @@ expect 2 '' '*' cut 3 4
 for room in '' ' 3' '3 ' -1 +1 0x3 3x 1e3 18446744073709551616 99999999999999999999 184467440737095516150; do
   expect 2 '' '*' cut "$room"
 done
+expect 2 '' '*' cut 3 --offset 0
+expect 2 '' '*' tick
+expect 2 '' '*' tick 2024 2025
+expect 2 '' '*' tick --offset 0
+expect 2 '' '*' tick --offset 0 2024
+expect 2 '' '*' tick 2024 --offset
+expect 2 '' '*' tick 2024 --offset 0 0
+expect 2 '' '*' tick 2024 --offset 0 --offset 0
+for minutes in '' ' 3' '3 ' - + -- --3 +-3 3- 0x3 1.5 9223372036854775808 -9223372036854775808 18446744073709551616; do
+  expect 2 '' '*' tick 2024 --offset "$minutes"
+done
 
 # Help, which is not an error.
 "$program" --help > out 2> err || fail '--help ended with an error'
 grep -q '^  cut ROOM < FILE$' out || fail '--help does not name the command cut'
+grep -q '^  tick TEXT \[--offset MINUTES\]$' out || fail '--help does not name the command tick'
 [ ! -s err ] || fail '--help wrote to standard error'
 
 # Reading and writing that fail.
@@ -99,5 +152,7 @@ grep -q '^  cut ROOM < FILE$' out || fail '--help does not name the command cut'
 [ $? -eq 3 ] || fail 'cut 3 of a folder did not end with 3'
 printf 'abc' | "$program" cut 3 > /dev/full 2> err
 [ $? -eq 3 ] || fail 'cut 3 to a full device did not end with 3'
+"$program" tick 2024 > /dev/full 2> err
+[ $? -eq 3 ] || fail 'tick 2024 to a full device did not end with 3'
 
 [ "$failures" -eq 0 ]

@@ -74,14 +74,14 @@ impl Fenced {
     }
 
     /// Copies bytes to the first place, just after a fence.
-    pub fn place_first(&mut self, bytes: &[u8]) -> &[u8] {
+    pub fn place_first(&mut self, bytes: &[u8]) -> &mut [u8] {
         let place = &mut self.inside[..bytes.len()];
         place.copy_from_slice(bytes);
         place
     }
 
     /// Copies bytes to the last place, just before a fence.
-    pub fn place_last(&mut self, bytes: &[u8]) -> &[u8] {
+    pub fn place_last(&mut self, bytes: &[u8]) -> &mut [u8] {
         let start = self.inside.len() - bytes.len();
         let place = &mut self.inside[start..];
         place.copy_from_slice(bytes);

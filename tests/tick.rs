@@ -1,0 +1,530 @@
+//! `rigcactus_tick` against a second reader of timestamps, which counts the days of the calendar one by one.
+
+use crate::lent::{Fenced, Guarded};
+use crate::random::Random;
+use crate::Options;
+
+extern "C" {
+    fn rigcactus_tick(text: *const u8, text_len: usize, offset: i64, tick: *mut i64) -> u64;
+}
+
+const MOST_BYTES: usize = 16_384;
+const OFFSET: u64 = 1;
+const TOO_LONG: u64 = 2;
+const VALUE: u64 = 7;
+
+/// The longest text that is made, in bytes.
+const LONGEST: usize = MOST_BYTES + 8;
+
+/// Differences that are printed, at most.
+const PRINTED: u64 = 10;
+
+fn tick(text: &[u8], offset: i64, tick: &mut i64) -> u64 {
+    // SAFETY: the pointer and the length are those of a slice, and the tick is no part of it.
+    unsafe { rigcactus_tick(text.as_ptr(), text.len(), offset, tick) }
+}
+
+// ---- The second reader ---------------------------------------------------------------------------------------------
+
+/// A day of the calendar, and how many days come before it from 0001-01-01 on.
+#[derive(Clone, Copy)]
+struct Day {
+    year: usize,
+    month: usize,
+    day: usize,
+    before: i64,
+}
+
+const FIRST_DAY: Day = Day { year: 1, month: 1, day: 1, before: 0 };
+
+fn month_length(year: usize, month: usize) -> usize {
+    match month {
+        2 if year % 400 == 0 => 29,
+        2 if year % 100 == 0 => 28,
+        2 if year % 4 == 0 => 29,
+        2 => 28,
+        4 | 6 | 9 | 11 => 30,
+        _ => 31,
+    }
+}
+
+impl Day {
+    fn next(self) -> Day {
+        let before = self.before + 1;
+        if self.day < month_length(self.year, self.month) {
+            Day { day: self.day + 1, before, ..self }
+        } else if self.month < 12 {
+            Day { month: self.month + 1, day: 1, before, ..self }
+        } else {
+            Day { year: self.year + 1, month: 1, day: 1, before }
+        }
+    }
+}
+
+/// How many days come before each day of years 1 to 9999.
+struct Calendar(Vec<Option<i64>>);
+
+impl Calendar {
+    fn new() -> Calendar {
+        let mut before = vec![None; 10_000 * 12 * 31];
+        let mut day = FIRST_DAY;
+        while day.year <= 9999 {
+            before[Calendar::place(day.year, day.month, day.day)] = Some(day.before);
+            day = day.next();
+        }
+        Calendar(before)
+    }
+
+    fn place(year: usize, month: usize, day: usize) -> usize {
+        (year * 12 + month - 1) * 31 + day - 1
+    }
+
+    /// None where there is no such day.
+    fn days_before(&self, year: i64, month: i64, day: i64) -> Option<i64> {
+        if !(1..=12).contains(&month) || !(1..=31).contains(&day) {
+            return None;
+        }
+        self.0[Calendar::place(year as usize, month as usize, day as usize)]
+    }
+}
+
+/// What is due: a tick and a precision, or a refusal.
+#[derive(Clone, Copy, PartialEq)]
+enum Due {
+    At { tick: i64, precision: u64 },
+    Refused(u64),
+}
+
+fn is_digits(text: &str) -> bool {
+    text.bytes().all(|b| b.is_ascii_digit())
+}
+
+/// The number that digits write, of which there are at most 18.
+fn number(digits: &str) -> i64 {
+    digits.parse().unwrap()
+}
+
+/// The minutes of a written offset.
+fn zone_minutes(zone: &str) -> Option<i64> {
+    let digits = &zone[1..];
+    if !is_digits(digits) || ![2, 4].contains(&digits.len()) {
+        return None;
+    }
+    let minutes = if digits.len() == 4 { number(&digits[2..]) } else { 0 };
+    let all = number(&digits[..2]) * 60 + minutes;
+    let possible = minutes < 60 && all <= 14 * 60;
+    possible.then_some(if zone.starts_with('-') { -all } else { all })
+}
+
+/// The tick and the precision of a text: it is taken apart at its sign and at its point, and missing digits are filled up.
+fn read(text: &str, agreed: i64, calendar: &Calendar) -> Option<(i64, u64)> {
+    let (local, zone) = text.split_at(text.find(['+', '-']).unwrap_or(text.len()));
+    let (whole, fraction) = match local.split_once('.') {
+        Some((whole, fraction)) => (whole, Some(fraction)),
+        None => (local, None),
+    };
+    if !is_digits(whole) || ![4, 6, 8, 10, 12, 14].contains(&whole.len()) {
+        return None;
+    }
+    if fraction.is_some_and(|f| !is_digits(f) || f.is_empty() || f.len() > 4 || whole.len() < 14) {
+        return None;
+    }
+    if !zone.is_empty() && whole.len() < 10 {
+        return None;
+    }
+    let offset = if zone.is_empty() { agreed } else { zone_minutes(zone)? };
+
+    let filled = format!("{whole}{}", &"00000101000000"[whole.len()..]);
+    let days = calendar.days_before(number(&filled[..4]), number(&filled[4..6]), number(&filled[6..8]))?;
+    let (hours, minutes, seconds) = (number(&filled[8..10]), number(&filled[10..12]), number(&filled[12..]));
+    if hours > 23 || minutes > 59 || seconds > 59 {
+        return None;
+    }
+    let fraction = fraction.unwrap_or("");
+    let in_seconds = days * 86_400 + hours * 3_600 + minutes * 60 + seconds - offset * 60;
+    let tick = in_seconds * 10_000 + number(&format!("{fraction:0<4}"));
+    Some((tick, (whole.len() + fraction.len()) as u64))
+}
+
+fn due(text: &[u8], agreed: i64, calendar: &Calendar) -> Due {
+    if !(-840..=840).contains(&agreed) {
+        return Due::Refused(OFFSET);
+    }
+    if text.len() > MOST_BYTES {
+        return Due::Refused(TOO_LONG);
+    }
+    match std::str::from_utf8(text).ok().filter(|t| t.is_ascii()).and_then(|t| read(t, agreed, calendar)) {
+        Some((tick, precision)) => Due::At { tick, precision },
+        None => Due::Refused(VALUE),
+    }
+}
+
+// ---- Counting and comparing ----------------------------------------------------------------------------------------
+
+/// Counts of answers, by kind. Only answers that were due are counted here.
+#[derive(Default)]
+struct Counts {
+    texts: u64,
+    by_precision: [u64; 19],
+    below_zero: u64,
+    refused: [u64; 12],
+    differences: u64,
+}
+
+impl Counts {
+    fn add(&mut self, due: Due) {
+        match due {
+            Due::At { tick, precision } => {
+                self.by_precision[precision as usize] += 1;
+                self.below_zero += u64::from(tick < 0);
+            }
+            Due::Refused(refusal) => self.refused[refusal as usize] += 1,
+        }
+    }
+
+    fn kinds(&self) -> Vec<(String, u64)> {
+        let mut kinds: Vec<(String, u64)> = [4, 6, 8, 10, 12, 14, 15, 16, 17, 18]
+            .map(|p| (format!("accepted, precision {p}"), self.by_precision[p as usize]))
+            .to_vec();
+        for (refusal, name) in [(OFFSET, "OFFSET"), (TOO_LONG, "TOO LONG"), (VALUE, "VALUE")] {
+            kinds.push((format!("refused, {name} ({refusal})"), self.refused[refusal as usize]));
+        }
+        kinds
+    }
+
+    fn print(&self, what: &str) {
+        println!("tick: {what}");
+        println!("  {:<32}{:>12}", "texts", self.texts);
+        let mut calls = self.differences;
+        for (kind, count) in self.kinds() {
+            println!("  {kind:<32}{count:>12}");
+            calls += count;
+        }
+        println!("  {:<32}{calls:>12}", "calls");
+        println!("  {:<32}{:>12}", "of these with a tick below 0", self.below_zero);
+        println!("  {:<32}{:>12}", "differences", self.differences);
+    }
+}
+
+/// A text, an agreed offset, what the lent number is before, and what is due.
+#[derive(Clone, Copy)]
+struct Case<'a> {
+    text: &'a [u8],
+    offset: i64,
+    before: i64,
+    due: Due,
+}
+
+/// How many numbers stand on each side of a lent one.
+const BESIDE: usize = 8;
+
+/// Where texts are tried, and what came of it.
+struct Trial {
+    guarded: Guarded,
+    fenced: Fenced,
+    fenced_tick: Fenced,
+    counts: Counts,
+}
+
+/// Eight bytes at a page's edge as the number that they are.
+fn as_tick(bytes: &mut [u8]) -> &mut i64 {
+    // SAFETY: any eight bytes are a number.
+    let (_, ticks, _) = unsafe { bytes.align_to_mut::<i64>() };
+    &mut ticks[0]
+}
+
+impl Trial {
+    fn new() -> Trial {
+        Trial { guarded: Guarded::new(LONGEST), fenced: Fenced::new(LONGEST), fenced_tick: Fenced::new(8), counts: Counts::default() }
+    }
+
+    fn differ(&mut self, case: Case, what: &str) {
+        self.counts.differences += 1;
+        if self.counts.differences <= PRINTED {
+            let Case { text, offset, .. } = case;
+            let more = if text.len() > 64 { " .." } else { "" };
+            let shown = text[..text.len().min(64)].escape_ascii();
+            eprintln!("tick: {} bytes [{shown}{more}], offset {offset}: {what}", text.len());
+        }
+    }
+
+    /// Compares an answer, and the lent number after it, with those that are due.
+    fn compare(&mut self, case: Case, answer: u64, after: i64) {
+        let (due_answer, due_after) = match case.due {
+            Due::At { tick, precision } => (precision * 256, tick),
+            Due::Refused(refusal) => (refusal, case.before),
+        };
+        if (answer, after) == (due_answer, due_after) {
+            self.counts.add(case.due);
+        } else {
+            self.differ(case, &format!("answered {answer} with the number {after}, due are {due_answer} and {due_after}"));
+        }
+    }
+
+    /// Tries a text between guards, with numbers on both sides of the lent one.
+    fn guard(&mut self, case: Case, shift: usize, guard: u8) {
+        self.guarded.place(case.text, shift, guard);
+        self.counts.texts += 1;
+        let mut numbers = [case.before; 2 * BESIDE + 1];
+        let answer = tick(self.guarded.bytes(), case.offset, &mut numbers[BESIDE]);
+        self.compare(case, answer, numbers[BESIDE]);
+        numbers[BESIDE] = case.before;
+        if numbers != [case.before; 2 * BESIDE + 1] {
+            self.differ(case, "a number beside the lent one was changed");
+        }
+        if !self.guarded.is_unchanged(case.text) {
+            self.differ(case, "the text or a guard byte was changed");
+        }
+    }
+
+    /// Tries a text once at each fence, with the number at a fence too, and in memory of just its size, where a memory checker sees a
+    /// read beside it.
+    fn fence(&mut self, case: Case) {
+        let lent = as_tick(self.fenced_tick.place_first(&case.before.to_ne_bytes()));
+        let first = (tick(self.fenced.place_first(case.text), case.offset, lent), *lent);
+        let lent = as_tick(self.fenced_tick.place_last(&case.before.to_ne_bytes()));
+        let last = (tick(self.fenced.place_last(case.text), case.offset, lent), *lent);
+        let mut lent = Box::new(case.before);
+        let alone = (tick(&Box::<[u8]>::from(case.text), case.offset, &mut lent), *lent);
+        for (answer, after) in [first, last, alone] {
+            self.compare(case, answer, after);
+        }
+    }
+}
+
+// ---- Texts ---------------------------------------------------------------------------------------------------------
+
+/// Bytes that stand in timestamps, or beside what does in ASCII, or in other ways to write a time.
+const BYTES: &[u8] = b"0123456789+-./:,ZTz \0\n\x7F\x80\xB0\xFF";
+
+/// An agreed offset: one that may be, mostly; else one at a limit, or one of all there are.
+fn agreed_offset(random: &mut Random) -> i64 {
+    const EDGES: [i64; 14] = [-842, -841, -840, -839, 839, 840, 841, 842, i64::MIN, i64::MAX, 1 << 32, (1 << 32) + 60, -(1 << 32), 0];
+    match random.below(16) {
+        0 => random.one_of(&EDGES),
+        1 => random.next() as i64,
+        _ => random.from(0, 1680) as i64 - 840,
+    }
+}
+
+fn year(random: &mut Random) -> usize {
+    match random.below(8) {
+        0 => 1,
+        1 => 9999,
+        2 => random.from(1, 99) * 100,
+        3 => random.from(1990, 2030),
+        _ => random.from(1, 9999),
+    }
+}
+
+/// A written offset that may be.
+fn zone(random: &mut Random) -> String {
+    let sign = random.one_of(&['+', '-']);
+    let minutes = if random.once_in(8) { 840 } else { random.from(0, 840) };
+    if random.once_in(2) {
+        format!("{sign}{:02}{:02}", minutes / 60, minutes % 60)
+    } else {
+        format!("{sign}{:02}", minutes / 60)
+    }
+}
+
+/// A written offset that no place has, or that is barely one.
+fn far_zone(random: &mut Random) -> String {
+    let sign = random.one_of(&['+', '-']);
+    let digits = random.one_of(&["1400", "1401", "1359", "1360", "0059", "0060", "0090", "14", "15", "99", "9959", "0", "000", "00000", ""]);
+    format!("{sign}{digits}")
+}
+
+/// The numbers MM, DD, hh, mm, ss of a time in a year.
+fn parts(random: &mut Random, year: usize) -> [usize; 5] {
+    let month = random.from(1, 12);
+    let last = month_length(year, month);
+    let day = if random.once_in(4) { last } else { random.from(1, last) };
+    [month, day, random.from(0, 23), random.from(0, 59), random.from(0, 59)]
+}
+
+/// A timestamp as it should be, or with a number in it at a limit or past it.
+fn timestamp(random: &mut Random) -> Vec<u8> {
+    let mut year = year(random);
+    let mut parts = parts(random, year);
+    let count = random.from(0, 5);
+    let mut zone = if count >= 3 && random.once_in(2) { zone(random) } else { String::new() };
+    if random.once_in(4) {
+        match random.below(7) {
+            0 => parts[0] = random.one_of(&[0, 1, 12, 13, 99]),
+            1 => parts[1] = random.one_of(&[0, 1, 28, 29, 30, 31, 32, 99]),
+            2 => parts[2] = random.one_of(&[0, 23, 24, 99]),
+            3 => parts[3] = random.one_of(&[0, 59, 60, 99]),
+            4 => parts[4] = random.one_of(&[0, 59, 60, 99]),
+            5 => year = 0,
+            _ => zone = far_zone(random),
+        }
+    }
+    let mut text = format!("{year:04}");
+    for part in &parts[..count] {
+        text += &format!("{part:02}");
+    }
+    if count == 5 && !random.once_in(4) || random.once_in(50) {
+        let digits = if random.once_in(8) { random.from(0, 6) } else { random.from(1, 4) };
+        text.push('.');
+        text.extend((0..digits).map(|_| (b'0' + random.below(10) as u8) as char));
+    }
+    (text + &zone).into_bytes()
+}
+
+/// Changes a text in one place.
+fn damage(random: &mut Random, text: &mut Vec<u8>) {
+    if text.is_empty() {
+        return;
+    }
+    let at = random.below(text.len());
+    match random.below(9) {
+        0 => text[at] = random.byte(),
+        1 => text[at] = random.one_of(BYTES),
+        2 => text[at] ^= 1 << random.below(8),
+        3 => text.swap(at, 0),
+        4 => text.insert(at, random.one_of(BYTES)),
+        5 => drop(text.remove(at)),
+        6 => text.push(random.one_of(BYTES)),
+        7 => text.extend_from_within(at..),
+        _ => text.truncate(at),
+    }
+}
+
+/// Makes a text about as long as the limit.
+fn lengthen(random: &mut Random, text: &mut Vec<u8>) {
+    let byte = random.one_of(BYTES);
+    text.resize(random.from(MOST_BYTES - 4, MOST_BYTES + 4), byte);
+}
+
+/// A text: a timestamp, a damaged one, a long one, or bytes without a plan.
+fn text(random: &mut Random) -> Vec<u8> {
+    let mut text = timestamp(random);
+    match random.below(1000) {
+        0..=9 => lengthen(random, &mut text),
+        10..=59 => return (0..random.from(0, 24)).map(|_| random.one_of(BYTES)).collect(),
+        60..=79 => return (0..random.from(0, 24)).map(|_| random.byte()).collect(),
+        80..=299 => {
+            damage(random, &mut text);
+            while random.once_in(4) {
+                damage(random, &mut text);
+            }
+        }
+        _ => {}
+    }
+    text
+}
+
+// ---- The trials ----------------------------------------------------------------------------------------------------
+
+/// What guards are made of: bytes that would go on with a timestamp, and one that stands in none.
+const GUARDS: [u8; 5] = [b'0', b'1', b'+', b'.', 0xFF];
+
+/// Texts made from a seed.
+fn made_texts(options: &Options, calendar: &Calendar) -> Counts {
+    let mut random = Random::new(options.seed);
+    let mut trial = Trial::new();
+    for _ in 0..options.cases {
+        let text = text(&mut random);
+        let offset = agreed_offset(&mut random);
+        let case = Case { text: &text, offset, before: random.next() as i64, due: due(&text, offset, calendar) };
+        trial.guard(case, random.below(64), random.one_of(&GUARDS));
+        trial.fence(case);
+    }
+    trial.counts
+}
+
+/// Every day of years 1 to 9999, alone and with a time and a written offset, and every date beside them: year 0, months 0 and 13, and
+/// days from 0 to 32 that a month does not have. What is due goes by a day that is moved on one by one.
+fn every_day() -> Counts {
+    let mut random = Random::new(1);
+    let mut trial = Trial::new();
+    let mut day = FIRST_DAY;
+    for (year, month) in (0..=9999).flat_map(|year| (0..=13).map(move |month| (year, month))) {
+        for number in 0..=32 {
+            let offset = random.from(0, 1680) as i64 - 840;
+            let before = random.next() as i64;
+            let shift = random.below(64);
+            let date = format!("{year:04}{month:02}{number:02}");
+            if (day.year, day.month, day.day) != (year, month, number) {
+                trial.guard(Case { text: date.as_bytes(), offset, before, due: Due::Refused(VALUE) }, shift, b'0');
+                continue;
+            }
+            let start = day.before * 864_000_000;
+            let due = Due::At { tick: start - offset * 600_000, precision: 8 };
+            trial.guard(Case { text: date.as_bytes(), offset, before, due }, shift, b'0');
+
+            let [_, _, hour, minute, second] = parts(&mut random, year);
+            let fraction = random.below(10_000);
+            let east = offset >= 0;
+            let (hours, minutes) = (offset.abs() / 60, offset.abs() % 60);
+            let sign = if east { '+' } else { '-' };
+            let text = format!("{date}{hour:02}{minute:02}{second:02}.{fraction:04}{sign}{hours:02}{minutes:02}");
+            let clock = ((hour * 60 + minute) * 60 + second) * 10_000 + fraction;
+            let due = Due::At { tick: start + clock as i64 - offset * 600_000, precision: 18 };
+            trial.guard(Case { text: text.as_bytes(), offset: -offset, before, due }, shift, b'0');
+            day = day.next();
+        }
+    }
+    if day.before != 3_652_059 {
+        println!("tick: {} days were tried, and years 1 to 9999 have 3652059", day.before);
+        trial.counts.differences += 1;
+    }
+    trial.counts
+}
+
+/// Every clock of six digits, fraction, written offset and agreed offset, each by itself.
+fn every_part(calendar: &Calendar) -> Counts {
+    let mut random = Random::new(2);
+    let mut trial = Trial::new();
+    let mut attempt = |text: String, offset: i64| {
+        let case = Case { text: text.as_bytes(), offset, before: random.next() as i64, due: due(text.as_bytes(), offset, calendar) };
+        trial.guard(case, random.below(64), b'0');
+    };
+    for clock in 0..1_000_000 {
+        attempt(format!("20240229{clock:06}"), 0);
+    }
+    for width in 1..=5 {
+        for fraction in 0..10_usize.pow(width as u32) {
+            attempt(format!("20240229235959.{fraction:0width$}"), 0);
+        }
+    }
+    for sign in ['+', '-'] {
+        for width in 1..=5 {
+            for zone in 0..10_usize.pow(width as u32) {
+                attempt(format!("2024022923{sign}{zone:0width$}"), 60);
+            }
+        }
+    }
+    for offset in -2_000..=2_000 {
+        attempt("20240229".to_string(), offset);
+        attempt("2024022923+01".to_string(), offset);
+    }
+    trial.counts
+}
+
+/// Whether the service and the second reader agree.
+pub fn run(options: &Options) -> bool {
+    let calendar = Calendar::new();
+    let made = made_texts(options, &calendar);
+    made.print(&format!("{} texts made from seed {}", options.cases, options.seed));
+    let mut alike = made.differences == 0;
+    // A run of some size that never gave one of the answers has not tried what it should.
+    if options.cases >= 100_000 {
+        let below_zero = ("accepted, a tick below 0".to_string(), made.below_zero);
+        for (kind, count) in made.kinds().into_iter().chain([below_zero]) {
+            if count == 0 {
+                println!("tick: no answer was '{kind}'");
+                alike = false;
+            }
+        }
+    }
+    if !options.only_made {
+        let days = every_day();
+        days.print("every day of years 1 to 9999, alone and with a time, and dates that there are not");
+        let parts = every_part(&calendar);
+        parts.print("every clock, fraction, written offset and agreed offset about the limits");
+        alike &= days.differences == 0 && parts.differences == 0;
+    }
+    alike
+}
