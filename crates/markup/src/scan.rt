@@ -34,12 +34,8 @@ pub fn read_some_space(s: &[u8], at: usize) -> Read
     requires { ⌜ at ≤ length (now s) ⌝ }
     ensures { λ r. ⌜ Reads 1 someSpace (now (s .entry)) at r ⌝ }
 {
-    if at < s.len() {
-        if is_space(s[at]) {
-            return Read::At(skip_space(s, at + 1));
-        }
-    }
-    Read::Bad
+    let end = skip_space(s, at);
+    if at < end { Read::At(end) } else { Read::Bad }
 }
 
 // Whether a name may begin with a byte.

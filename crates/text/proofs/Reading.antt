@@ -1,12 +1,12 @@
 -- A law for each combinator of grammars: what the answers of readers that are called one after the other say together.
 use Prim.Native.Nat.{ℕ, zero, suc, _+_, _-_, _≤_, _<_}
 use mathlib.Core.Path.{_≡_, refl, sym, _∙_, ap, subst}
-use mathlib.Core.Bool.{Bool, true, false}
+use mathlib.Core.Bool.{Bool, true, false, cond}
 use mathlib.Core.List.{List, [], _∷_}
 use native.Mathlib.Numerals.{add-one}
 use native.Mathlib.Omega.{arith}
-use borrow.Author.Tests.{eq-eqb, ne-eqb, eqb-true, eqb-false}
-use lib.Dec.{eqb}
+use borrow.Author.Tests.{ltb-true, ltb-false, eqb-true, eqb-false}
+use lib.Dec.{ltb, eqb}
 use lib.ListN.{length, drop, getD, drop-of-length-le, length-drop}
 use lib.Seq.{drop-cons}
 use Rattle.rules.specs.Basics.{isSome}
@@ -127,6 +127,47 @@ module _ (p : ℕ → Bool) (s : List ℕ) (at : ℕ) where
   pub many-end : length s ≤ at → at ≤ length s → Good 0 (many p) s at at
   unfolding many front after
   many-end h l = record { low = omega arith; high = l; value = []; reads = rw (drop-of-length-le s h) }
+
+after-shorter : (p : ℕ → Bool) (s : List ℕ) → length (after p s) ≤ length s
+unfolding after
+after-shorter p [] = omega arith
+after-shorter p (c ∷ s) = go (p c) (after-shorter p s)
+  where
+    go : (b : Bool) → length (after p s) ≤ length s → length (cond b (after p s) (c ∷ s)) ≤ suc (length s)
+    go true h = omega arith
+    go false h = omega arith
+
+-- `one`, and `many` of the same: what `many` reads, if it is anything
+module _ (p : ℕ → Bool) (s : List ℕ) {at e : ℕ} (g : Good 0 (many p) s at e) where
+  pub some-yes : at < e → Reads 1 (one p >> many p) s at (At e)
+  unfolding many front after
+  some-yes l = go (p (getD s at 0)) refl
+    where
+      go : (b : Bool) → p (getD s at 0) ≡ b → Reads 1 (one p >> many p) s at (At e)
+      go true q =
+          let h : at < length s = omega (arith, g .high) in
+          let r = rw (here s at h, q) at (g .reads) in
+          let z : after p (drop (at + 1) s) ≡ drop e s = cc in
+          let t : Good 0 (many p) s (at + 1) e = record { low = omega arith; high = g .high; value = front p (drop (at + 1) s); reads = rw z } in
+          then (one p) (λ c. many p) (good (one-yes p s at h q)) (λ c k. upto e t)
+      go false q =
+          let h : at < length s = omega (arith, g .high) in
+          let r = rw (here s at h, q) at (g .reads) in
+          let z : getD s at 0 ∷ drop (at + 1) s ≡ drop e s = cc in
+          absurd (omega (arith, ap length z, length-drop (at + 1) s, length-drop e s, g .high))
+
+  pub some-no : e ≤ at → Reads 1 (one p >> many p) s at Bad
+  unfolding many front after
+  some-no l = then-not (one p) (λ c. many p) (go (p (getD s at 0)) refl (ltb at (length s)) refl)
+    where
+      go : (b : Bool) → p (getD s at 0) ≡ b → (d : Bool) → ltb at (length s) ≡ d → Reads 1 (one p) s at Bad
+      go b q false f = one-end p s at (ltb-false at (length s) f)
+      go false q true f = one-no p s at (ltb-true at (length s) f) q
+      go true q true f =
+          let h : at < length s = ltb-true at (length s) f in
+          let r = rw (here s at h, q) at (g .reads) in
+          let z : after p (drop (at + 1) s) ≡ drop e s = cc in
+          absurd (omega (arith, ap length z, after-shorter p (drop (at + 1) s), length-drop (at + 1) s, length-drop e s, g .low))
 
 -- `literal`: its byte i at j, and what follows it
 pub literal-more : (t s : List ℕ) (i j e k : ℕ) {r : Read} → i < length t → Good 1 (byte (getD t i 0)) s j e → Reads k (literal (drop (i + 1) t)) s e r → Reads (1 + k) (literal (drop i t)) s j r
