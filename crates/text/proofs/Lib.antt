@@ -2,3 +2,5 @@ pub mod Leads
 pub mod Following
 pub mod Cutting
 pub mod Numerals
+pub mod Reading
+pub mod Sameness

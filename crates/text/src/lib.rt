@@ -4,11 +4,17 @@ ghost use mathlib.Core.Bool.{true};
 ghost use Prim.Native.Nat.{_+_, _≤_, _<_};
 ghost use lib.ListN.{length, take, drop};
 ghost use mathlib.Core.List.{[], _∷_};
-ghost use Rattle.rules.specs.Basics.{every, isFrom};
+ghost use Rattle.rules.specs.Basics.{every, same, isFrom};
 ghost use Rattle.rules.specs.Utf8.{_to_, tail, inRange, isUtf8, cutLength};
 ghost use Rattle.text.specs.Characters.{followers, classFollowers, fill, charLength, isAscii, Skips};
 
 pub mod digits;
+
+// What a reader finds at a position: where what it reads ends, or that nothing of the kind stands there.
+pub enum Read {
+    At(usize),
+    Bad,
+}
 
 // What a lead byte says of the bytes that follow it: none, one, two or three of them; the range of the second byte of a
 // character of three or four, from low to high; or that the byte leads nothing.
@@ -165,6 +171,23 @@ pub fn is_utf8(s: &[u8]) -> bool
             }
             i += n;
         }
+    }
+    true
+}
+
+// Whether two texts are the same, byte for byte.
+pub fn is_same(a: &[u8], b: &[u8]) -> bool
+    ensures { λ r. ⌜ r ≡ same (now (a .entry)) (now (b .entry)) ⌝ }
+{
+    if a.len() != b.len() {
+        return false;
+    }
+    let mut i = 0;
+    while i < a.len() {
+        if a[i] != b[i] {
+            return false;
+        }
+        i += 1;
     }
     true
 }

@@ -1,0 +1,4 @@
+pub mod Values
+pub mod Attributes
+pub mod Tags
+pub mod Elements

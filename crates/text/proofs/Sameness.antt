@@ -1,0 +1,34 @@
+-- Two texts compared byte for byte, from the front.
+use Prim.Native.Nat.{ℕ, suc, _+_, _≤_, _<_}
+use mathlib.Core.Path.{_≡_, refl, ap}
+use mathlib.Core.Bool.{Bool, true, false, _&&_}
+use mathlib.Core.List.{List, [], _∷_}
+use borrow.Author.Tests.{eq-eqb, ne-eqb}
+use lib.Dec.{eqb}
+use lib.ListN.{length, drop, getD, drop-of-length-le}
+use Rattle.rules.specs.Basics.{same}
+use Rattle.text.proofs.Reading.{here}
+
+pub same-lengths : (a b : List ℕ) → (length a ≡ length b → ⊥) → false ≡ same a b
+unfolding same
+same-lengths [] [] h = absurd (h refl)
+same-lengths [] (d ∷ b) h = refl
+same-lengths (c ∷ a) [] h = refl
+same-lengths (c ∷ a) (d ∷ b) h = go (eqb c d) (same-lengths a b (λ e. h (ap suc e)))
+  where
+    go : (x : Bool) → false ≡ same a b → false ≡ (x && same a b)
+    go true e = e
+    go false e = refl
+
+module _ (a b : List ℕ) (i : ℕ) (h : i < length a) (k : i < length b) where
+  pub same-more : getD a i 0 ≡ getD b i 0 → same (drop i a) (drop i b) ≡ same (drop (i + 1) a) (drop (i + 1) b)
+  unfolding same
+  same-more e = rw (here a i h, here b i k, eq-eqb (getD a i 0) (getD b i 0) e)
+
+  pub same-differs : (getD a i 0 ≡ getD b i 0 → ⊥) → same (drop i a) (drop i b) ≡ false
+  unfolding same
+  same-differs e = rw (here a i h, here b i k, ne-eqb (getD a i 0) (getD b i 0) e)
+
+pub same-end : (a b : List ℕ) (i : ℕ) → length a ≤ i → length b ≤ i → same (drop i a) (drop i b) ≡ true
+unfolding same
+same-end a b i h k = rw (drop-of-length-le a h, drop-of-length-le b k)
