@@ -11,6 +11,7 @@ use Rattle.text.specs.declared.Read.the-variants.{At, Bad}
 use Rattle.text.proofs.Reading.{good, none-of}
 use Rattle.markup.specs.Elements.{ReadsElement}
 use Rattle.element.specs.Places.{ElementAt, NodesAt, Steps, no-step, step, StepsOn, goes}
+use Rattle.element.specs.declared.Step.{Step}
 use Rattle.element.specs.declared.Step.the-variants.{One, End}
 
 abbrev joined : Element → Nodes → Nodes
@@ -55,3 +56,10 @@ module _ {s : List ℕ} {at i : ℕ} (depth : ℕ) (g : Good 0 space s at i) whe
 
   pub steps-on : {e : ℕ} → ReadsElement s i depth (At e) → StepsOn s at (One i e)
   steps-on {e} b = let y = good (b (length s) (omega arith)) in goes i e (omega (arith, g .low)) (omega (arith, y .low)) (y .high)
+
+-- where the answer lies, once its case is known
+pub step-bounds : {s : List ℕ} {at i e : ℕ} {r : Step} → r ≡ One i e → StepsOn s at r → (at ≤ i) × (i < e) × (e ≤ length s)
+step-bounds {s} {at} z h = go (subst (λ (y : Step). StepsOn s at y) z h)
+  where
+    go : {i e : ℕ} → StepsOn s at (One i e) → (at ≤ i) × (i < e) × (e ≤ length s)
+    go (goes i e a b c) = (a, b, c)

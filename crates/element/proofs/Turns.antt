@@ -12,6 +12,7 @@ use Rattle.markup.specs.declared.tag.Found.{Found}
 use Rattle.markup.specs.declared.tag.Found.the-variants.{Quoted, Absent}
 use Rattle.markup.proofs.Attributes.{Stops, total, passed}
 use Rattle.element.specs.Places.{Nexts, no-next, next-one, NextOn, more-on, FoundOn, not-found, found-on}
+use Rattle.element.specs.declared.attribute.Turn.{Turn}
 use Rattle.element.specs.declared.attribute.Turn.the-variants.{One, End}
 
 pub next-end : {s : List ℕ} {at : ℕ} → Stops s at → (l : List Attribute) → AttributesAt s at l → Nexts s l End
@@ -39,3 +40,10 @@ answer-on s key at r h =
     go : {o : _} {r : Found} → Finds s o r → FoundOn s r
     go absent = not-found
     go (present q e v l h w) = found-on q e l h
+
+-- where the answer lies, once its case is known
+pub turn-bounds : {s : List ℕ} {at n m q e : ℕ} {r : Turn} → r ≡ One n m q e → NextOn s at r → (at < n) × (n < m) × (m ≤ q) × (q < e) × (e ≤ length s)
+turn-bounds {s} {at} z h = go (subst (λ (y : Turn). NextOn s at y) z h)
+  where
+    go : {n m q e : ℕ} → NextOn s at (One n m q e) → (at < n) × (n < m) × (m ≤ q) × (q < e) × (e ≤ length s)
+    go (more-on n m q e a b c d f) = (a, b, c, d, f)

@@ -139,3 +139,10 @@ root-at {s} {i} g v q =
     next-ok (space t) (λ w. pure a) r (λ w u y r₁.
     let z : a ≡ v = cc in
     record { fuel = length (drop i s); enough = rw length-drop (omega arith); after = t; reads = x ∙ ap (λ (p : Element). ok p t) z }))
+
+-- where the content lies, once there is some
+pub child-bounds : {s : List ℕ} {at e : ℕ} {r : Read} → r ≡ At e → ReadsOn s at r → (at < e) × (e ≤ length s)
+child-bounds {s} {at} z h = go (subst (λ (y : Read). ReadsOn s at y) z h)
+  where
+    go : {e : ℕ} → ReadsOn s at (At e) → (at < e) × (e ≤ length s)
+    go (moves e a b) = (a, b)
