@@ -14,7 +14,7 @@ use Rattle.text.specs.Reads.{Good, Reads, upto, none as not-read}
 use Rattle.text.specs.declared.Read.{Read}
 use Rattle.text.specs.declared.Read.the-variants.{At, Bad}
 use Rattle.text.proofs.Reading.{none-of}
-use Rattle.markup.specs.Attributes.{AttributeTo, PartsAt, parts, no-parts, AttributesAt, Finds, absent, present, Answers, distinctAttributes, DistinctAt}
+use Rattle.markup.specs.Attributes.{AttributeTo, PartsAt, parts, no-parts, AttributesAt, Finds, absent, present, Answers, distinctAttributes, ReadsDistinct}
 use Rattle.markup.specs.declared.tag.Parts.{Parts}
 use Rattle.markup.specs.declared.tag.Parts.the-variants.{Attribute, Nothing}
 use Rattle.markup.specs.declared.tag.Found.{Found}
@@ -49,7 +49,7 @@ parts-good s at n i j q e g₁ g₂ g₃ g₄ g₅ = parts n q e (record {
     put x = ok (record { name = x; value = g₅ .value }) (drop e s)
 
 -- the reader of attributes never fails
-total : (f : ℕ) (x : List ℕ) → (l : List RulesAttribute) × (r : List ℕ) × (attributes f x ≡ ok l r)
+pub total : (f : ℕ) (x : List ℕ) → (l : List RulesAttribute) × (r : List ℕ) × (attributes f x ≡ ok l r)
 unfolding attributes
 total zero x = ([], x, refl)
 total (suc f) x = go (next (someSpace x) (λ u. attribute >>= (λ a. attributes f >>= (λ l. pure (a ∷ l)))))
@@ -59,7 +59,7 @@ total (suc f) x = go (next (someSpace x) (λ u. attribute >>= (λ a. attributes 
     go (ok l r) = (l, r, refl)
 
 -- no attribute from a position on
-abbrev Stops : List ℕ → ℕ → Type 0
+abbrev pub Stops : List ℕ → ℕ → Type 0
 Stops s i = (f : ℕ) → attributes f (drop i s) ≡ ok [] (drop i s)
 
 pub stops-space : {s : List ℕ} {i : ℕ} → Reads 1 someSpace s i Bad → Stops s i
@@ -79,7 +79,7 @@ find-end {s} key {i} h l a =
     let z : [] ≡ l = cc in
     subst (λ (x : List RulesAttribute). Finds s (lookup key x) Absent) z absent
 
-pub distinct-end : {s : List ℕ} {i : ℕ} → i ≤ length s → Stops s i → DistinctAt s i (At i)
+pub distinct-end : {s : List ℕ} {i : ℕ} → i ≤ length s → Stops s i → ReadsDistinct s i (At i)
 unfolding isDistinct
 distinct-end {s} {i} l h f m = upto i (record { low = omega arith; high = l; value = []; reads = rw (h f) })
 
@@ -123,7 +123,7 @@ module _ {s : List ℕ} {i j n q e : ℕ} (g : Good 1 someSpace s i j) (a : Attr
   others : (f : ℕ) → length s ≤ i + suc f → (l : List RulesAttribute) × AttributesAt s e l × (r : List ℕ) × (attributes f (drop e s) ≡ ok l r)
   others f h = let (l, r, t) = total f (drop e s) in (l, record { fuel = f; enough = omega (arith, bounds .0); after = r; reads = t }, r, t)
 
-  passed : (l : List RulesAttribute) → AttributesAt s i l → (m : List RulesAttribute) × AttributesAt s e m × (l ≡ this ∷ m)
+  pub passed : (l : List RulesAttribute) → AttributesAt s i l → (m : List RulesAttribute) × AttributesAt s e m × (l ≡ this ∷ m)
   passed l b = go (b .fuel) (b .enough) (b .reads)
     where
       go : (f : ℕ) → length s ≤ i + f → attributes f (drop i s) ≡ ok l (b .after) → (m : List RulesAttribute) × AttributesAt s e m × (l ≡ this ∷ m)
@@ -144,7 +144,7 @@ module _ {s : List ℕ} {i j n q e : ℕ} (g : Good 1 someSpace s i j) (a : Attr
   subst-found : {w x : Found} → w ≡ x → Answers s (this .name) e w → (m : List RulesAttribute) → AttributesAt s e m → Finds s (lookup (this .name) m) x
   subst-found z h m at = subst (λ (y : Found). Finds s (lookup (this .name) m) y) z (h m at)
 
-  pub distinct-again : {x y : ℕ} {w : Found} → w ≡ Quoted x y → Answers s (take (n - j) (drop j s)) e w → DistinctAt s i Bad
+  pub distinct-again : {x y : ℕ} {w : Found} → w ≡ Quoted x y → Answers s (take (n - j) (drop j s)) e w → ReadsDistinct s i Bad
   distinct-again z h zero k = absurd (omega (arith, bounds .0, bounds .1))
   distinct-again z h (suc f) k =
       let (m, at, r, t) = others f k in
@@ -160,7 +160,7 @@ module _ {s : List ℕ} {i j n q e : ℕ} (g : Good 1 someSpace s i j) (a : Attr
   })
   distinct-on f m x t u (not-read b) = not-read (rw (steps f m x t, u) (lost (isDistinct m) (this ∷ m) m x (rw t at b)))
 
-  pub distinct-more : {w : Found} → w ≡ Absent → Answers s (take (n - j) (drop j s)) e w → (r : Read) → DistinctAt s e r → DistinctAt s i r
+  pub distinct-more : {w : Found} → w ≡ Absent → Answers s (take (n - j) (drop j s)) e w → (r : Read) → ReadsDistinct s e r → ReadsDistinct s i r
   distinct-more z h r d zero k = absurd (omega (arith, bounds .0, bounds .1))
   distinct-more z h r d (suc f) k =
       let (m, at, x, t) = others f k in

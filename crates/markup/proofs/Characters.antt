@@ -14,7 +14,7 @@ use Rattle.text.specs.Reads.{Good, Reads, upto, none}
 use Rattle.text.specs.declared.Read.{Read}
 use Rattle.text.specs.declared.Read.the-variants.{At, Bad}
 use Rattle.text.proofs.Reading.{here, none-of, then, then-not, last, first, second, one-no}
-use Rattle.markup.specs.Values.{CharBy, char-is, no-char, standsFor, isSimple, TextAt, TextOn}
+use Rattle.markup.specs.Values.{CharBy, char-is, no-char, standsFor, isSimple, ReadsText, TextOn}
 use Rattle.markup.specs.declared.value.Char.{Char}
 use Rattle.markup.specs.declared.value.Char.the-variants.{Is, Nothing}
 
@@ -65,18 +65,18 @@ module _ {k : ℕ} {s : List ℕ} {at : ℕ} where
   char-inside (none b) (no-char h) = no-char (rw b h)
 
 -- the quote, a character and others after it, or neither
-pub text-end : {s : List ℕ} {i e : ℕ} → Good 1 (byte 34) s i e → TextAt s i (At e)
+pub text-end : {s : List ℕ} {i e : ℕ} → Good 1 (byte 34) s i e → ReadsText s i (At e)
 unfolding text
 text-end q zero h = absurd (omega (arith, q .low, q .high))
 text-end {e = e} q (suc f) h = first _ _ (last _ _ (upto e q))
 
 module _ {s : List ℕ} {i : ℕ} (q : Reads 1 (byte 34) s i Bad) where
-  pub text-more : {e : ℕ} → Good 1 char s i e → (r : Read) → TextAt s e r → TextAt s i r
+  pub text-more : {e : ℕ} → Good 1 char s i e → (r : Read) → ReadsText s e r → ReadsText s i r
   unfolding text
   text-more g r t zero h = absurd (omega (arith, g .low, g .high))
   text-more g r t (suc f) h = second _ _ (last _ _ q) (then _ _ g (λ a p. last _ _ (t f (omega (arith, g .low)))))
 
-  pub text-not : Reads 1 char s i Bad → TextAt s i Bad
+  pub text-not : Reads 1 char s i Bad → ReadsText s i Bad
   unfolding text
   text-not b zero h = none refl
   text-not b (suc f) h = second _ _ (last _ _ q) (then-not _ _ b)

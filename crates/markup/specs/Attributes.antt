@@ -48,5 +48,5 @@ abbrev pub distinctAttributes : (fuel : ℕ) → Parser (List RulesAttribute)
 distinctAttributes f = attributes f >>= (λ l. guard (isDistinct l) >> pure l)
 
 -- the answer on them from a position on, with any fuel that is enough
-abbrev pub DistinctAt : List ℕ → (at : ℕ) → Read → Type 0
-DistinctAt s at r = (f : ℕ) → length s ≤ at + f → Reads 0 (distinctAttributes f) s at r
+abbrev pub ReadsDistinct : List ℕ → (at : ℕ) → Read → Type 0
+ReadsDistinct s at r = (f : ℕ) → length s ≤ at + f → Reads 0 (distinctAttributes f) s at r

@@ -26,11 +26,11 @@ abbrev pub isSimple : ℕ → Bool
 isSimple c = isPlain c && not (eqb c 34) && not (eqb c 0xEF)
 
 -- the answer on the characters from a position on, with any fuel that is enough
-abbrev pub TextAt : List ℕ → (at : ℕ) → Read → Type 0
-TextAt s at r = (f : ℕ) → length s ≤ at + f → Reads 1 (text f) s at r
+abbrev pub ReadsText : List ℕ → (at : ℕ) → Read → Type 0
+ReadsText s at r = (f : ℕ) → length s ≤ at + f → Reads 1 (text f) s at r
 
 -- between a position and i there are characters only: an answer on those from i on is one on those from the position on
 pub record TextOn (s : List ℕ) (at i : ℕ) : Type 0 where
   pub low : at ≤ i
   pub high : i ≤ length s
-  pub on : (r : Read) → TextAt s i r → TextAt s at r
+  pub on : (r : Read) → ReadsText s i r → ReadsText s at r

@@ -4,7 +4,7 @@ ghost use Prim.Native.Nat.{_≤_};
 ghost use lib.ListN.{length};
 ghost use Rattle.rules.specs.Basics.{isSome};
 ghost use Rattle.rules.specs.Markup.{document};
-ghost use Rattle.markup.specs.Elements.{ElementAt, ContentAt};
+ghost use Rattle.markup.specs.Elements.{ReadsElement, ReadsContent};
 
 pub mod scan;
 pub mod tag;
@@ -23,7 +23,7 @@ const DEPTH: usize = 8;
 // there are fewer bytes left, and so the two end; `depth` falls from an element to those inside it, and so the stack is bounded.
 pub fn read_element(s: &[u8], at: usize, depth: usize) -> Read
     requires { ⌜ at ≤ length (now s) ⌝ }
-    ensures { λ r. ⌜ ElementAt (now (s .entry)) at depth r ⌝ }
+    ensures { λ r. ⌜ ReadsElement (now (s .entry)) at depth r ⌝ }
 {
     if depth == 0 {
         return Read::Bad;
@@ -51,7 +51,7 @@ pub fn read_element(s: &[u8], at: usize, depth: usize) -> Read
 // an element inside an element takes more of the stack.
 pub fn read_content(s: &[u8], at: usize, depth: usize) -> usize
     requires { ⌜ at ≤ length (now s) ⌝ }
-    ensures { λ r. ⌜ ContentAt (now (s .entry)) at depth r ⌝ }
+    ensures { λ r. ⌜ ReadsContent (now (s .entry)) at depth r ⌝ }
 {
     let mut i = at;
     loop {

@@ -5,7 +5,7 @@ ghost use lib.ListN.{length, take, drop};
 ghost use Rattle.rules.specs.Markup.{tagAttributes, endTag};
 ghost use Rattle.text.specs.Reads.{Reads};
 ghost use Rattle.markup.specs.Attributes.{PartsAt, Answers};
-ghost use Rattle.markup.specs.Tags.{TagAt};
+ghost use Rattle.markup.specs.Tags.{HeadAt, TagAt};
 use crate::scan::read_byte;
 use crate::scan::read_literal;
 use crate::scan::read_name;
@@ -111,8 +111,32 @@ pub fn read_attributes(s: &[u8], at: usize) -> Read
     }
 }
 
-// The tag with which an element begins, `<name ../>` or `<name ..>`: where its name stands and where the tag ends. The attributes stand
-// from the end of the name on.
+// The beginning of a tag, `<` and a name: where the name stands and where it ends. The attributes stand from the end of the name on.
+pub enum Head {
+    Named { name: usize, name_end: usize },
+    Bad,
+}
+
+// The beginning, at a position, of the tag with which an element begins.
+pub fn read_head(s: &[u8], at: usize) -> Head
+    requires { ⌜ at ≤ length (now s) ⌝ }
+    ensures { λ r. ⌜ HeadAt (now (s .entry)) at r ⌝ }
+{
+    let less = read_byte(s, at, b'<');
+    let Read::At(name) = less else {
+        return Head::Bad;
+    };
+    let named = read_name(s, name);
+    let Read::At(name_end) = named else {
+        return Head::Bad;
+    };
+    Head::Named {
+        name: name,
+        name_end: name_end,
+    }
+}
+
+// The tag with which an element begins, `<name ../>` or `<name ..>`: where its name stands and where the tag ends.
 pub enum Tag {
     Empty {
         name: usize,
@@ -132,12 +156,8 @@ pub fn read_tag(s: &[u8], at: usize) -> Tag
     requires { ⌜ at ≤ length (now s) ⌝ }
     ensures { λ r. ⌜ TagAt (now (s .entry)) at r ⌝ }
 {
-    let less = read_byte(s, at, b'<');
-    let Read::At(name) = less else {
-        return Tag::Bad;
-    };
-    let named = read_name(s, name);
-    let Read::At(name_end) = named else {
+    let head = read_head(s, at);
+    let Head::Named { name, name_end } = head else {
         return Tag::Bad;
     };
     let attributes = read_attributes(s, name_end);

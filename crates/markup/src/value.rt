@@ -5,7 +5,7 @@ ghost use lib.ListN.{length};
 ghost use Rattle.rules.specs.Parsers.{one};
 ghost use Rattle.rules.specs.Markup.{reference, noncharacter, isPlain, char, value};
 ghost use Rattle.text.specs.Reads.{Reads};
-ghost use Rattle.markup.specs.Values.{isSimple, standsFor, CharBy, TextAt, TextOn};
+ghost use Rattle.markup.specs.Values.{isSimple, standsFor, CharBy, ReadsText, TextOn};
 use crate::scan::read_byte;
 use crate::scan::read_literal;
 use text::Read;
@@ -126,7 +126,7 @@ fn skip_simple(s: &[u8], at: usize) -> usize
 // The end of the characters from a position on, past the quote that ends them.
 fn read_text(s: &[u8], at: usize) -> Read
     requires { ⌜ at ≤ length (now s) ⌝ }
-    ensures { λ r. ⌜ TextAt (now (s .entry)) at r ⌝ }
+    ensures { λ r. ⌜ ReadsText (now (s .entry)) at r ⌝ }
 {
     let mut i = at;
     loop {

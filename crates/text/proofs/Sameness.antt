@@ -1,12 +1,13 @@
--- Two texts compared byte for byte, from the front.
+-- Two texts compared byte for byte, from the front: whether they are the same, and whether one begins with the other.
 use Prim.Native.Nat.{ℕ, suc, _+_, _≤_, _<_}
 use mathlib.Core.Path.{_≡_, refl, ap}
 use mathlib.Core.Bool.{Bool, true, false, _&&_}
 use mathlib.Core.List.{List, [], _∷_}
+use native.Mathlib.Omega.{arith}
 use borrow.Author.Tests.{eq-eqb, ne-eqb}
 use lib.Dec.{eqb}
 use lib.ListN.{length, drop, getD, drop-of-length-le}
-use Rattle.rules.specs.Basics.{same}
+use Rattle.rules.specs.Basics.{same, begins}
 use Rattle.text.proofs.Reading.{here}
 
 pub same-lengths : (a b : List ℕ) → (length a ≡ length b → ⊥) → false ≡ same a b
@@ -32,3 +33,26 @@ module _ (a b : List ℕ) (i : ℕ) (h : i < length a) (k : i < length b) where
 pub same-end : (a b : List ℕ) (i : ℕ) → length a ≤ i → length b ≤ i → same (drop i a) (drop i b) ≡ true
 unfolding same
 same-end a b i h k = rw (drop-of-length-le a h, drop-of-length-le b k)
+
+pub begins-shorter : (a b : List ℕ) → length b < length a → false ≡ begins a b
+unfolding begins
+begins-shorter [] b h = absurd (omega arith)
+begins-shorter (c ∷ a) [] h = refl
+begins-shorter (c ∷ a) (d ∷ b) h = go (eqb c d) (begins-shorter a b (omega arith))
+  where
+    go : (x : Bool) → false ≡ begins a b → false ≡ (x && begins a b)
+    go true e = e
+    go false e = refl
+
+module _ (a b : List ℕ) (i : ℕ) (h : i < length a) (k : i < length b) where
+  pub begins-more : getD a i 0 ≡ getD b i 0 → begins (drop i a) (drop i b) ≡ begins (drop (i + 1) a) (drop (i + 1) b)
+  unfolding begins
+  begins-more e = rw (here a i h, here b i k, eq-eqb (getD a i 0) (getD b i 0) e)
+
+  pub begins-differs : (getD a i 0 ≡ getD b i 0 → ⊥) → begins (drop i a) (drop i b) ≡ false
+  unfolding begins
+  begins-differs e = rw (here a i h, here b i k, ne-eqb (getD a i 0) (getD b i 0) e)
+
+pub begins-end : (a b : List ℕ) (i : ℕ) → length a ≤ i → begins (drop i a) (drop i b) ≡ true
+unfolding begins
+begins-end a b i h = rw (drop-of-length-le a h)

@@ -4,7 +4,7 @@ ghost use mathlib.Core.Bool.{true};
 ghost use Prim.Native.Nat.{_+_, _≤_, _<_};
 ghost use lib.ListN.{length, take, drop};
 ghost use mathlib.Core.List.{[], _∷_};
-ghost use Rattle.rules.specs.Basics.{every, same, isFrom};
+ghost use Rattle.rules.specs.Basics.{every, same, begins, isFrom};
 ghost use Rattle.rules.specs.Utf8.{_to_, tail, inRange, isUtf8, cutLength};
 ghost use Rattle.text.specs.Characters.{followers, classFollowers, fill, charLength, isAscii, Skips};
 
@@ -185,6 +185,23 @@ pub fn is_same(a: &[u8], b: &[u8]) -> bool
     let mut i = 0;
     while i < a.len() {
         if a[i] != b[i] {
+            return false;
+        }
+        i += 1;
+    }
+    true
+}
+
+// Whether a text begins with another.
+pub fn begins_with(t: &[u8], prefix: &[u8]) -> bool
+    ensures { λ r. ⌜ r ≡ begins (now (prefix .entry)) (now (t .entry)) ⌝ }
+{
+    if t.len() < prefix.len() {
+        return false;
+    }
+    let mut i = 0;
+    while i < prefix.len() {
+        if prefix[i] != t[i] {
             return false;
         }
         i += 1;

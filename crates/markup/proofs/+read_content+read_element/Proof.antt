@@ -4,7 +4,7 @@
 use native.Mathlib.Omega.{arith}
 use lib.ListN.{length}
 use Rattle.text.proofs.Reading.{answer, found, good}
-use Rattle.markup.specs.Elements.{ContentAt}
+use Rattle.markup.specs.Elements.{ReadsContent}
 use Rattle.markup.proofs.Tags.{tag-answer, tag-bounds}
 use Rattle.markup.proofs.Elements.{too-deep, no-element, empty-element, full-element, content-end, content-more}
 use borrow.Author.Needs.{needs}
@@ -60,7 +60,7 @@ abbrev read-element-claims : ℕ → read-element-lts.Claims
 read-element-claims t = (read-tag-reads.Asked, read-tag-reads.Learnt, read-content-below t, read-content.Post, read-end-tag-reads.Asked, read-end-tag-reads.Learnt)
 
 abbrev read-content-Inv-loop : read-content-lts.InvT-loop
-read-content-Inv-loop s at depth i₀ i = (at ≤ i) × (i ≤ length s) × ((e : ℕ) → ContentAt s i depth e → ContentAt s at depth e)
+read-content-Inv-loop s at depth i₀ i = (at ≤ i) × (i ≤ length s) × ((e : ℕ) → ReadsContent s i depth e → ReadsContent s at depth e)
 
 abbrev read-content-μ-loop : read-content-lts.MeasureT-loop
 read-content-μ-loop s at depth i₀ i = length s - i

@@ -5,7 +5,7 @@ use lib.ListN.{length}
 use Rattle.rules.specs.Markup.{tagAttributes}
 use Rattle.text.specs.declared.Read.{Read}
 use Rattle.text.proofs.Reading.{answer, found, enough}
-use Rattle.markup.specs.Attributes.{distinctAttributes, DistinctAt}
+use Rattle.markup.specs.Attributes.{distinctAttributes, ReadsDistinct}
 use Rattle.markup.proofs.Attributes.{parts-found, parts-none, stops-space, stops-attribute, distinct-end, distinct-again, distinct-more}
 use borrow.Author.Needs.{needs}
 use Rattle.markup.proofs.tag.read_attributes.Statement.{statement}
@@ -17,7 +17,7 @@ use Rattle.markup.proofs.tag.find_attribute.Reads as find-attribute-rea
 use Rattle.markup.proofs.tag.read_attribute.Reads as read-attribute-reads
 
 abbrev Inv-loop : tie.InvT-loop
-Inv-loop s at i₀ i = (i ≤ length s) × ((r : Read) → DistinctAt s i r → DistinctAt s at r)
+Inv-loop s at i₀ i = (i ≤ length s) × ((r : Read) → ReadsDistinct s i r → ReadsDistinct s at r)
 
 abbrev μ-loop : tie.MeasureT-loop
 μ-loop s at i₀ i = length s - i

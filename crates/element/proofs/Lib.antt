@@ -1,0 +1,4 @@
+pub mod Within
+pub mod Siblings
+pub mod Turns
+pub mod Decoded

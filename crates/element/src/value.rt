@@ -1,0 +1,112 @@
+// The decoded text of a value.
+ghost use mathlib.Core.Path.{_≡_};
+ghost use mathlib.Core.List.{List};
+ghost use Prim.Native.Nat.{ℕ, _≤_};
+ghost use lib.ListN.{length, drop};
+ghost use Rattle.rules.specs.Basics.{isEmpty, same};
+ghost use Rattle.rules.specs.Parsers.{ok};
+ghost use Rattle.rules.specs.Markup.{value};
+ghost use Rattle.element.specs.Texts.{TextAt, CharOn, Chars, isNothing};
+use markup::scan::read_byte;
+use markup::value::Char;
+use markup::value::read_char;
+use text::Read;
+
+// Where the characters of the value at a position stand.
+pub fn start(s: &[u8], at: usize) -> usize
+    requires { ⌜ at ≤ length (now s) ⌝ }
+    ensures within { λ r. ⌜ r ≤ length (now (s .entry)) ⌝ }
+    ensures tells { λ r. ⌜ ((v after : List ℕ) → value (drop at (now (s .entry))) ≡ ok v after → TextAt (now (s .entry)) r v) ⌝ }
+{
+    let quote = read_byte(s, at, b'"');
+    let Read::At(i) = quote else {
+        return at;
+    };
+    i
+}
+
+// The first of the characters that stand from a position on: the byte that it stands for, and where the others stand; or that there is none.
+pub fn next(s: &[u8], at: usize) -> Char
+    requires { ⌜ at ≤ length (now s) ⌝ }
+    ensures on { λ r. ⌜ CharOn (now (s .entry)) at r ⌝ }
+    ensures tells { λ r. ⌜ ((v : List ℕ) → TextAt (now (s .entry)) at v → Chars (now (s .entry)) v r) ⌝ }
+{
+    let quote = read_byte(s, at, b'"');
+    if let Read::At(_) = quote {
+        return Char::Nothing;
+    }
+    read_char(s, at)
+}
+
+// Whether the value at a position is the empty text.
+pub fn is_empty(s: &[u8], at: usize) -> bool
+    requires { ⌜ at ≤ length (now s) ⌝ }
+    ensures { λ r. ⌜ ((v after : List ℕ) → value (drop at (now (s .entry))) ≡ ok v after → r ≡ isEmpty v) ⌝ }
+{
+    let i = start(s, at);
+    let first = next(s, i);
+    match first {
+        Char::Is(_, _) => false,
+        Char::Nothing => true,
+    }
+}
+
+// Whether the value at a position is a given text.
+pub fn is(s: &[u8], at: usize, t: &[u8]) -> bool
+    requires { ⌜ at ≤ length (now s) ⌝ }
+    ensures { λ r. ⌜ ((v after : List ℕ) → value (drop at (now (s .entry))) ≡ ok v after → r ≡ same v (now (t .entry))) ⌝ }
+{
+    let from = start(s, at);
+    let mut i = from;
+    let mut k = 0;
+    loop {
+        let first = next(s, i);
+        let Char::Is(c, e) = first else {
+            return k == t.len();
+        };
+        if k == t.len() {
+            return false;
+        }
+        if c != t[k] {
+            return false;
+        }
+        i = e;
+        k += 1;
+    }
+}
+
+// Whether the value at a position of a text and the value at a position of another are the same, decoded.
+pub fn is_same(s: &[u8], at: usize, t: &[u8], other: usize) -> bool
+    requires { ⌜ at ≤ length (now s) ⌝ ∗ ⌜ other ≤ length (now t) ⌝ }
+    ensures { λ r. ⌜ ((v w after rest : List ℕ) → value (drop at (now (s .entry))) ≡ ok v after → value (drop other (now (t .entry))) ≡ ok w rest → r ≡ same v w) ⌝ }
+{
+    let from = start(s, at);
+    let onset = start(t, other);
+    let mut i = from;
+    let mut j = onset;
+    loop {
+        let first = next(s, i);
+        let second = next(t, j);
+        let Char::Is(c, e) = first else {
+            return is_nothing(second);
+        };
+        let Char::Is(d, f) = second else {
+            return false;
+        };
+        if c != d {
+            return false;
+        }
+        i = e;
+        j = f;
+    }
+}
+
+// Whether no character was found.
+fn is_nothing(c: Char) -> bool
+    ensures { λ r. ⌜ r ≡ isNothing c ⌝ }
+{
+    match c {
+        Char::Is(_, _) => false,
+        Char::Nothing => true,
+    }
+}
