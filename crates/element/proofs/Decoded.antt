@@ -1,18 +1,18 @@
 -- The decoded characters of a value, one after another.
 use Prim.Native.Nat.{ℕ, zero, suc, _+_, _≤_, _<_}
-use mathlib.Core.Path.{_≡_, refl, sym, _∙_, ap, subst}
-use mathlib.Core.Bool.{Bool, true, false, _&&_}
+use mathlib.Core.Path.{_≡_, refl, subst}
+use mathlib.Core.Bool.{Bool, true, false}
 use mathlib.Core.List.{List, [], _∷_}
 use native.Mathlib.Omega.{arith}
 use borrow.Author.Tests.{eq-eqb, ne-eqb, eqb-true, eqb-false}
 use lib.Dec.{eqb}
 use lib.ListN.{length, drop, getD, length-drop, drop-of-length-le}
-use Rattle.rules.specs.Basics.{isEmpty, same}
-use Rattle.rules.specs.Parsers.{Parsed, bad, ok, next, pure, _>>=_, byte, sized}
+use Rattle.rules.specs.Basics.{same}
+use Rattle.rules.specs.Parsers.{ok, byte}
 use Rattle.rules.specs.Markup.{char, text, value}
-use Rattle.rules.proofs.Parsers.{next-ok, map-ok}
+use Rattle.rules.proofs.Parsers.{map-ok}
 use Rattle.rules.proofs.Tests.{clash}
-use Rattle.text.specs.Reads.{Good, Reads, upto, none}
+use Rattle.text.specs.Reads.{Good, Reads, upto}
 use Rattle.text.specs.declared.Read.the-variants.{At, Bad}
 use Rattle.text.proofs.Reading.{here, none-of}
 use Rattle.markup.specs.Values.{CharBy, char-is, no-char}

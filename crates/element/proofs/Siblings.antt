@@ -1,6 +1,6 @@
 -- Elements side by side, one after another.
 use Prim.Native.Nat.{ℕ, zero, suc, _+_, _≤_, _<_}
-use mathlib.Core.Path.{_≡_, refl, sym, _∙_, subst}
+use mathlib.Core.Path.{_≡_, refl, subst}
 use mathlib.Core.List.{List}
 use native.Mathlib.Omega.{arith}
 use lib.ListN.{length, drop}
@@ -10,7 +10,7 @@ use Rattle.text.specs.Reads.{Good}
 use Rattle.text.specs.declared.Read.the-variants.{At, Bad}
 use Rattle.text.proofs.Reading.{good, none-of}
 use Rattle.markup.specs.Elements.{ReadsElement}
-use Rattle.element.specs.Places.{ElementAt, NodesAt, Steps, no-step, step, StepsOn, goes}
+use Rattle.element.specs.Places.{NodesAt, Steps, no-step, step, StepsOn, goes}
 use Rattle.element.specs.declared.Step.{Step}
 use Rattle.element.specs.declared.Step.the-variants.{One, End}
 

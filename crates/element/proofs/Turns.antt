@@ -1,15 +1,14 @@
 -- The attributes of an element, one after another.
 use Prim.Native.Nat.{ℕ, _-_, _≤_, _<_}
 use mathlib.Core.Path.{_≡_, refl, sym, _∙_, subst}
-use mathlib.Core.List.{List, [], _∷_}
+use mathlib.Core.List.{List, []}
 use native.Mathlib.Omega.{arith}
 use lib.ListN.{length, take, drop}
 use Rattle.rules.specs.Parsers.{Parsed, ok}
-use Rattle.rules.specs.Markup.{Attribute, someSpace, attributes}
+use Rattle.rules.specs.Markup.{Attribute, someSpace}
 use Rattle.text.specs.Reads.{Good}
 use Rattle.markup.specs.Attributes.{AttributeTo, AttributesAt, Answers, Finds, absent, present}
 use Rattle.markup.specs.declared.tag.Found.{Found}
-use Rattle.markup.specs.declared.tag.Found.the-variants.{Quoted, Absent}
 use Rattle.markup.proofs.Attributes.{Stops, total, passed}
 use Rattle.element.specs.Places.{Nexts, no-next, next-one, NextOn, more-on, FoundOn, not-found, found-on}
 use Rattle.element.specs.declared.attribute.Turn.{Turn}

@@ -6,21 +6,20 @@ use mathlib.Core.List.{List}
 use mathlib.Core.Option.{some}
 use native.Mathlib.Omega.{arith}
 use lib.ListN.{length, take, drop, length-drop}
-use Rattle.rules.specs.Basics.{bytes, same}
-use Rattle.rules.specs.Parsers.{Parsed, Parser, bad, ok, next, pure, guard, _>>=_, _>>_, byte, literal, sized}
-use Rattle.rules.specs.Markup.{Attribute, space, tagAttributes, attributes, lookup, isDistinct, Nodes, end, Element, endTag, body, element, content, document}
+use Rattle.rules.specs.Basics.{bytes}
+use Rattle.rules.specs.Parsers.{Parsed, bad, ok, pure, guard, _>>=_, _>>_, literal, sized}
+use Rattle.rules.specs.Markup.{Attribute, space, tagAttributes, attributes, isDistinct, Nodes, end, Element, endTag, body, element, content, document}
 use Rattle.rules.proofs.Parsers.{next-ok, map-ok, whole-ok}
 use Rattle.rules.proofs.Tests.{clash}
 use Rattle.text.specs.Reads.{Good}
 use Rattle.text.specs.declared.Read.{Read}
 use Rattle.text.specs.declared.Read.the-variants.{At, Bad}
 use Rattle.text.proofs.Reading.{none-of}
-use Rattle.markup.specs.Attributes.{AttributesAt, Answers}
+use Rattle.markup.specs.Attributes.{AttributesAt}
 use Rattle.markup.specs.Tags.{HeadTo, TagAt, empty-tag, open-tag, no-tag}
-use Rattle.markup.specs.declared.tag.Tag.{Tag}
 use Rattle.markup.specs.declared.tag.Tag.the-variants.{Empty, Open, Bad as Tag·Bad}
 use Rattle.markup.proofs.Names.{name-is}
-use Rattle.element.specs.Places.{ElementAt, NodesAt, KidsAt, no-kids, kids, ReadsOn, stops, moves}
+use Rattle.element.specs.Places.{ElementAt, KidsAt, no-kids, kids, ReadsOn, moves}
 
 abbrev made : (name : List ℕ) (attrs : List Attribute) (kids : Nodes) → Element
 made n l k = record { name = n; attrs = l; kids = k }

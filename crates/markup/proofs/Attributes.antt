@@ -1,13 +1,13 @@
 -- Attributes one after another: the search for one by its name, and that no name occurs twice.
 use Prim.Native.Nat.{ℕ, zero, suc, _+_, _-_, _≤_, _<_}
 use mathlib.Core.Path.{_≡_, refl, sym, _∙_, ap, subst}
-use mathlib.Core.Bool.{Bool, true, false, not, _&&_}
+use mathlib.Core.Bool.{Bool, true, false}
 use mathlib.Core.List.{List, [], _∷_}
-use mathlib.Core.Option.{Option, none, some}
+use mathlib.Core.Option.{Option}
 use native.Mathlib.Omega.{arith}
 use lib.ListN.{length, take, drop}
 use Rattle.rules.specs.Basics.{isSome, same}
-use Rattle.rules.specs.Parsers.{Parsed, Parser, bad, ok, next, else, pure, guard, _>>=_, _>>_, byte}
+use Rattle.rules.specs.Parsers.{Parsed, bad, ok, next, else, pure, guard, _>>=_, _>>_, byte}
 use Rattle.rules.specs.Markup.{Attribute as RulesAttribute, space, someSpace, name, value, attribute, attributes, lookup, isDistinct}
 use Rattle.rules.proofs.Tests.{clash}
 use Rattle.text.specs.Reads.{Good, Reads, upto, none as not-read}

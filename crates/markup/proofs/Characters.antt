@@ -2,18 +2,18 @@
 use Prim.Native.Nat.{ℕ, zero, suc, _+_, _≤_, _<_}
 use mathlib.Core.Path.{_≡_, refl, subst}
 use mathlib.Core.Bool.{Bool, true, false}
-use mathlib.Core.List.{List, [], _∷_}
+use mathlib.Core.List.{List}
 use native.Mathlib.Omega.{arith}
 use borrow.Author.Tests.{not-true}
 use lib.Dec.{eqb}
-use lib.ListN.{length, drop, getD}
-use Rattle.rules.specs.Parsers.{Parser, ok, bad, _or_, one, byte, literal}
+use lib.ListN.{length, getD}
+use Rattle.rules.specs.Parsers.{Parser, _or_, one, byte, literal}
 use Rattle.rules.specs.Markup.{isPlain, reference, noncharacter, char, text}
 use Rattle.rules.proofs.Tests.{both-true}
 use Rattle.text.specs.Reads.{Good, Reads, upto, none}
 use Rattle.text.specs.declared.Read.{Read}
 use Rattle.text.specs.declared.Read.the-variants.{At, Bad}
-use Rattle.text.proofs.Reading.{here, none-of, then, then-not, last, first, second, one-no}
+use Rattle.text.proofs.Reading.{here, then, then-not, last, first, second, one-no}
 use Rattle.markup.specs.Values.{CharBy, char-is, no-char, standsFor, isSimple, ReadsText, TextOn}
 use Rattle.markup.specs.declared.value.Char.{Char}
 use Rattle.markup.specs.declared.value.Char.the-variants.{Is, Nothing}

@@ -1,16 +1,15 @@
 -- Each way through the readers of an element and of content.
-use Prim.Native.Nat.{ℕ, zero, suc, _+_, _-_, _≤_, _<_}
+use Prim.Native.Nat.{ℕ, zero, suc, _-_}
 use mathlib.Core.Path.{_≡_, refl, sym, subst}
 use mathlib.Core.List.{List}
 use native.Mathlib.Omega.{arith}
-use lib.ListN.{length, take, drop}
-use Rattle.rules.specs.Parsers.{Parser}
+use lib.ListN.{take, drop}
 use Rattle.rules.specs.Markup.{space, endTag, element, content}
 use Rattle.text.specs.Reads.{Good, Reads, upto, none}
 use Rattle.text.specs.declared.Read.{Read}
 use Rattle.text.specs.declared.Read.the-variants.{At, Bad}
 use Rattle.text.proofs.Reading.{good, any, then, then-not, last, first, second, stay}
-use Rattle.markup.specs.Tags.{TagTo, TagAt, empty-tag, open-tag, no-tag}
+use Rattle.markup.specs.Tags.{TagAt, empty-tag, open-tag, no-tag}
 use Rattle.markup.specs.Elements.{ReadsElement, ReadsContent}
 use Rattle.markup.specs.declared.tag.Tag.the-variants.{Empty, Open, Bad as Tag·Bad}
 use Rattle.markup.proofs.Names.{name-is}

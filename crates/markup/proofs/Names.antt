@@ -6,10 +6,9 @@ use mathlib.Core.List.{List, [], _∷_, _++_}
 use native.Mathlib.Omega.{arith}
 use lib.ListN.{length, take, drop, length-drop, length-append}
 use lib.Seq.{take-at}
-use Rattle.rules.specs.Parsers.{Parser, bad, ok, next, pure, _>>=_, front, after, one, many}
+use Rattle.rules.specs.Parsers.{bad, ok, next, pure, _>>=_, front, after, one, many}
 use Rattle.rules.specs.Markup.{isNameStart, isNameByte, name}
 use Rattle.rules.proofs.Tests.{clash}
-use Rattle.text.specs.Reads.{Good}
 
 front-after : (p : ℕ → Bool) (s : List ℕ) → front p s ++ after p s ≡ s
 unfolding front after

@@ -1,5 +1,4 @@
 // Tags and their attributes.
-ghost use mathlib.Core.Path.{_≡_};
 ghost use Prim.Native.Nat.{_-_, _≤_};
 ghost use lib.ListN.{length, take, drop};
 ghost use Rattle.rules.specs.Markup.{tagAttributes, endTag};

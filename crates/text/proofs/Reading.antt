@@ -1,6 +1,6 @@
 -- A law for each combinator of grammars: what the answers of readers that are called one after the other say together.
-use Prim.Native.Nat.{ℕ, zero, suc, _+_, _-_, _≤_, _<_}
-use mathlib.Core.Path.{_≡_, refl, sym, _∙_, ap, subst}
+use Prim.Native.Nat.{ℕ, suc, _+_, _-_, _≤_, _<_}
+use mathlib.Core.Path.{_≡_, refl, ap, subst}
 use mathlib.Core.Bool.{Bool, true, false, cond}
 use mathlib.Core.List.{List, [], _∷_}
 use native.Mathlib.Numerals.{add-one}
@@ -10,7 +10,7 @@ use lib.Dec.{ltb, eqb}
 use lib.ListN.{length, drop, getD, drop-of-length-le, length-drop}
 use lib.Seq.{drop-cons}
 use Rattle.rules.specs.Basics.{isSome}
-use Rattle.rules.specs.Parsers.{Parsed, Parser, bad, ok, next, else, pure, guard, _>>=_, _>>_, _or_, without, front, after, one, many, byte, literal, finish, sized, whole}
+use Rattle.rules.specs.Parsers.{Parser, bad, ok, pure, guard, _>>=_, _>>_, _or_, without, front, after, one, many, byte, literal, finish, sized, whole}
 use Rattle.rules.proofs.Tests.{clash}
 use Rattle.text.specs.Reads.{Good, Reads, upto, none}
 use Rattle.text.specs.declared.Read.{Read}

@@ -1,8 +1,7 @@
 -- `markup::is_document` meets its contract.
-use mathlib.Core.Path.{_≡_}
 use Rattle.rules.specs.Markup.{element, document}
 use Rattle.text.specs.Reads.{upto}
-use Rattle.text.proofs.Reading.{answer, found, good, both, then, then-not, last, enough, whole-is, whole-not}
+use Rattle.text.proofs.Reading.{answer, good, both, then, then-not, last, enough, whole-is, whole-not}
 use borrow.Author.Needs.{needs}
 use Rattle.markup.proofs.is_document.Statement.{statement}
 use Rattle.markup.proofs.is_document.Tie as tie
