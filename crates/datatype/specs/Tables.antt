@@ -1,0 +1,43 @@
+-- What the code's table says, in the words of the rules ("Types, after decoding the five references").
+use Prim.Native.Nat.{ℕ}
+use mathlib.Core.Bool.{Bool, true, false, _&&_, cond}
+use mathlib.Core.List.{List, [], _∷_, _++_}
+use mathlib.Core.Option.{Option, none, some}
+use Rattle.rules.specs.Basics.{same, isFrom}
+use Rattle.rules.specs.Forms.{Form}
+use Rattle.rules.specs.Types.{Kind, Column as RulesColumn, ChildKind, always, typed, Child, lineOf}
+use Rattle.rules.specs.Judge.{Standing as RulesStanding, top, member, inside, typeColumns, nullColumns}
+use Rattle.form.specs.Meaning.{formOf}
+use Rattle.datatype.specs.Meaning.{kindMeant}
+use Rattle.datatype.specs.declared.table.Standing.{Standing}
+use Rattle.datatype.specs.declared.table.Standing.the-variants.{Top, Member, Inside}
+use Rattle.datatype.specs.declared.table.Column.{Column}
+use Rattle.datatype.specs.declared.table.Column.the-variants.{Takes, Nothing}
+
+abbrev pub standingMeant : Standing → RulesStanding
+standingMeant Top = top
+standingMeant Member = member
+standingMeant Inside = inside
+
+abbrev pub formMeant : Column → Option Form
+formMeant (Takes f) = some (formOf f)
+formMeant Nothing = none
+
+-- f of the first of a list for which a test holds
+abbrev pub pick : {A B : Type 0} → (A → Bool) → (A → B) → List A → Option B
+pick p f [] = none
+pick p f (a ∷ l) = cond (p a) (some (f a)) (pick p f l)
+
+-- the form of the attribute of a name, among some columns
+abbrev pub formAmong : List RulesColumn → List ℕ → Option Form
+formAmong columns n = pick (λ c. same (c .name) n) (λ c. c .form) columns
+
+-- every attribute that an element of a kind may carry where it stands
+abbrev pub columnsOf : RulesStanding → Kind → List RulesColumn
+columnsOf p k = typeColumns p ++ nullColumns k ++ lineOf k .columns
+
+-- an element that stands there carries an xsi:type
+abbrev pub hasTypeColumn : RulesStanding → Bool
+hasTypeColumn top = true
+hasTypeColumn member = true
+hasTypeColumn inside = false

@@ -1,0 +1,93 @@
+// The kinds of elements, and the types that `xsi:type` names.
+ghost use mathlib.Core.Path.{_≡_};
+ghost use mathlib.Core.List.{List};
+ghost use Prim.Native.Nat.{ℕ, _≤_};
+ghost use lib.ListN.{length, drop};
+ghost use Rattle.rules.specs.Parsers.{ok};
+ghost use Rattle.rules.specs.Markup.{Element, value};
+ghost use Rattle.rules.specs.Types.{memberTypes, allTypes, typeAmong};
+ghost use Rattle.element.specs.Places.{ElementAt};
+ghost use Rattle.datatype.specs.Meaning.{kindMeant, typeMeant, namedAmong, typesFor};
+use element::find;
+use element::value::is;
+use markup::tag::Found;
+
+// The nine types, and the two kinds of element inside them that have no type.
+pub enum Kind {
+    Ts,
+    IvlTs,
+    QsuTs,
+    QsiTs,
+    QsdTs,
+    Mo,
+    Ii,
+    Cd,
+    En,
+    DisplayName,
+    Part,
+}
+
+// The type that a text names, or that it names none of those asked for.
+pub enum Named {
+    Is(Kind),
+    Nothing,
+}
+
+// The type that the value at a position names, where a member of a set may be of it: an IVL_TS or a set type.
+fn named_member(s: &[u8], at: usize) -> Named
+    requires { ⌜ at ≤ length (now s) ⌝ }
+    ensures { λ r. ⌜ ((v after : List ℕ) → value (drop at (now (s .entry))) ≡ ok v after → typeMeant r ≡ namedAmong memberTypes v) ⌝ }
+{
+    if is(s, at, b"IVL_TS") {
+        return Named::Is(Kind::IvlTs);
+    }
+    if is(s, at, b"QSU_TS") {
+        return Named::Is(Kind::QsuTs);
+    }
+    if is(s, at, b"QSI_TS") {
+        return Named::Is(Kind::QsiTs);
+    }
+    if is(s, at, b"QSD_TS") {
+        return Named::Is(Kind::QsdTs);
+    }
+    Named::Nothing
+}
+
+// The type that the value at a position names.
+fn named_type(s: &[u8], at: usize) -> Named
+    requires { ⌜ at ≤ length (now s) ⌝ }
+    ensures { λ r. ⌜ ((v after : List ℕ) → value (drop at (now (s .entry))) ≡ ok v after → typeMeant r ≡ namedAmong allTypes v) ⌝ }
+{
+    if is(s, at, b"TS") {
+        return Named::Is(Kind::Ts);
+    }
+    if is(s, at, b"MO") {
+        return Named::Is(Kind::Mo);
+    }
+    if is(s, at, b"II") {
+        return Named::Is(Kind::Ii);
+    }
+    if is(s, at, b"CD") {
+        return Named::Is(Kind::Cd);
+    }
+    if is(s, at, b"EN") {
+        return Named::Is(Kind::En);
+    }
+    named_member(s, at)
+}
+
+// The type that the element at a position names: one that a record may have, or one that a member of a set may have.
+pub fn type_of(s: &[u8], at: usize, top: bool) -> Named
+    requires { ⌜ at ≤ length (now s) ⌝ }
+    ensures { λ r. ⌜ ((d : ℕ) (v : Element) → ElementAt (now (s .entry)) at d v → typeMeant r ≡ typeAmong (typesFor top) (v .attrs)) ⌝ }
+{
+    let found = find(s, at, b"xsi:type");
+    let Found::Quoted(q, _) = found else {
+        return Named::Nothing;
+    };
+    if top {
+        named_type(s, q)
+    } else {
+        named_member(s, q)
+    }
+}

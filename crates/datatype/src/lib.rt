@@ -1,0 +1,4 @@
+// Data types: what an element of a record is, what it says, and its faults, by the table of types.
+
+pub mod kind;
+pub mod table;
