@@ -32,6 +32,9 @@ same-sym [] (d ∷ b) = refl
 same-sym (c ∷ a) [] = refl
 same-sym (c ∷ a) (d ∷ b) = rw (eqb-sym c d, same-sym a b)
 
+pub swapped : {r : Bool} (a b : List ℕ) → r ≡ same a b → r ≡ same b a
+swapped a b e = e ∙ same-sym a b
+
 -- what an answer on an attribute says
 pub found-some : {s : List ℕ} {o : Option (List ℕ)} {q e : ℕ} {r : Found} → r ≡ Quoted q e → Finds s o r → (v : List ℕ) × (o ≡ some v) × (value (drop q s) ≡ ok v (drop e s))
 found-some {s} {o} z h = go (subst (λ (y : Found). Finds s o y) z h)

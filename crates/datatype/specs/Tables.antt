@@ -11,6 +11,8 @@ use Rattle.form.specs.Meaning.{formOf}
 use Rattle.datatype.specs.Meaning.{kindMeant}
 use Rattle.datatype.specs.declared.table.Standing.{Standing}
 use Rattle.datatype.specs.declared.table.Standing.the-variants.{Top, Member, Inside}
+use Rattle.datatype.specs.declared.table.Next.{Next}
+use Rattle.datatype.specs.declared.table.Next.the-variants.{Always, Typed, Nothing as NoStep}
 use Rattle.datatype.specs.declared.table.Column.{Column}
 use Rattle.datatype.specs.declared.table.Column.the-variants.{Takes, Nothing}
 
@@ -41,3 +43,18 @@ abbrev pub hasTypeColumn : RulesStanding → Bool
 hasTypeColumn top = true
 hasTypeColumn member = true
 hasTypeColumn inside = false
+
+-- a step of a row of children: the child's kind, and the stage that the row is brought to
+pub record Step : Type 0 where
+  pub kind : ChildKind
+  pub to : ℕ
+
+abbrev pub stepMeant : Next → Option Step
+stepMeant (Always k t) = some (record { kind = always (kindMeant k); to = t })
+stepMeant (Typed t) = some (record { kind = typed; to = t })
+stepMeant NoStep = none
+
+-- the step that a child of a name is, among some children, where the row stands at a stage
+abbrev pub stepAmong : List Child → (stage : ℕ) → List ℕ → Option Step
+stepAmong children stage n =
+    pick (λ c. same (c .name) n && isFrom (c .from) (c .upto) stage) (λ c. record { kind = c .kind; to = c .to }) children

@@ -1,15 +1,20 @@
 // The type lines as a table: what an element of a kind may carry and hold.
 ghost use mathlib.Core.Path.{_≡_};
-ghost use mathlib.Core.Bool.{cond};
+ghost use mathlib.Core.Bool.{_&&_, cond};
+ghost use Prim.Native.Nat.{ℕ, _≤_};
+ghost use lib.ListN.{length};
 ghost use mathlib.Core.List.{_++_};
 ghost use mathlib.Core.Option.{some};
-ghost use Rattle.rules.specs.Basics.{same};
+ghost use Rattle.rules.specs.Basics.{same, isFrom};
+ghost use Rattle.rules.specs.Markup.{Element};
+ghost use Rattle.element.specs.Places.{ElementAt};
 ghost use Rattle.rules.specs.Types.{CD, Part, lineOf};
 ghost use Rattle.rules.specs.Judge.{nullColumns};
 ghost use Rattle.form.specs.Meaning.{formOf};
 ghost use Rattle.datatype.specs.Meaning.{kindMeant};
-ghost use Rattle.datatype.specs.Tables.{formMeant, formAmong, columnsOf, standingMeant, hasTypeColumn};
+ghost use Rattle.datatype.specs.Tables.{formMeant, formAmong, columnsOf, standingMeant, hasTypeColumn, stepMeant, stepAmong};
 use crate::kind::Kind;
+use element::is_named;
 use form::Form;
 use text::is_same;
 
@@ -140,4 +145,109 @@ pub fn column_of(kind: Kind, standing: Standing, name: &[u8]) -> Column
         return takes(name, b"xsi:type", Form::AnyText, other);
     }
     other
+}
+
+// How a row of children goes on: with a child of a kind, or with one of the type that it names, to a stage; or that it does not.
+pub enum Next {
+    Always(Kind, u64),
+    Typed(u64),
+    Nothing,
+}
+
+// A step that is taken if the child has the step's name and the row stands at a stage from `low` to `high`; otherwise another.
+fn step_if(named: bool, stage: u64, low: u64, high: u64, step: Next, other: Next) -> Next
+    ensures { λ r. ⌜ stepMeant r ≡ cond (named && isFrom low high stage) (stepMeant step) (stepMeant other) ⌝ }
+{
+    if named & ((low <= stage) & (stage <= high)) {
+        return step;
+    }
+    other
+}
+
+// The step that a row of children of an element of a kind takes with the element at a position.
+pub fn next_child(s: &[u8], at: usize, kind: Kind, stage: u64) -> Next
+    requires { ⌜ at ≤ length (now s) ⌝ }
+    ensures { λ r. ⌜ ((d : ℕ) (v : Element) → ElementAt (now (s .entry)) at d v → stepMeant r ≡ stepAmong (lineOf (kindMeant kind) .children) stage (v .name)) ⌝ }
+{
+    let none = Next::Nothing;
+    match kind {
+        Kind::IvlTs => {
+            let high = step_if(
+                is_named(s, at, b"high"),
+                stage,
+                0,
+                1,
+                Next::Always(Kind::Ts, 2),
+                none,
+            );
+            step_if(
+                is_named(s, at, b"low"),
+                stage,
+                0,
+                0,
+                Next::Always(Kind::Ts, 1),
+                high,
+            )
+        }
+        Kind::QsuTs => step_if(is_named(s, at, b"term"), stage, 0, 1, Next::Typed(1), none),
+        Kind::QsiTs => step_if(is_named(s, at, b"term"), stage, 0, 1, Next::Typed(1), none),
+        Kind::QsdTs => {
+            let subtrahend = step_if(
+                is_named(s, at, b"subtrahend"),
+                stage,
+                1,
+                1,
+                Next::Typed(2),
+                none,
+            );
+            step_if(
+                is_named(s, at, b"minuend"),
+                stage,
+                0,
+                0,
+                Next::Typed(1),
+                subtrahend,
+            )
+        }
+        Kind::Cd => step_if(
+            is_named(s, at, b"displayName"),
+            stage,
+            0,
+            0,
+            Next::Always(Kind::DisplayName, 1),
+            none,
+        ),
+        Kind::En => step_if(
+            is_named(s, at, b"part"),
+            stage,
+            0,
+            1,
+            Next::Always(Kind::Part, 1),
+            none,
+        ),
+        Kind::Ts => none,
+        Kind::Mo => none,
+        Kind::Ii => none,
+        Kind::DisplayName => none,
+        Kind::Part => none,
+    }
+}
+
+// The stage that a row of children of an element of a kind reaches, unless the element is null.
+pub fn enough(kind: Kind) -> u64
+    ensures { λ r. ⌜ r ≡ lineOf (kindMeant kind) .enough ⌝ }
+{
+    match kind {
+        Kind::Ts => 0,
+        Kind::IvlTs => 0,
+        Kind::QsuTs => 1,
+        Kind::QsiTs => 1,
+        Kind::QsdTs => 2,
+        Kind::Mo => 0,
+        Kind::Ii => 0,
+        Kind::Cd => 0,
+        Kind::En => 1,
+        Kind::DisplayName => 0,
+        Kind::Part => 0,
+    }
 }
