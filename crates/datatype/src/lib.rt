@@ -1,4 +1,5 @@
 // Data types: what an element of a record is, what it says, and its faults, by the table of types.
 
 pub mod kind;
+pub mod reading;
 pub mod table;
