@@ -5,6 +5,7 @@ pub mod Tests
 pub mod Precedence
 pub mod Parsers
 pub mod References
+pub mod Unreferenced
 pub mod Digits
 pub mod Calendar
 pub mod Ticks
