@@ -3,10 +3,11 @@ use Prim.Native.Nat.{ℕ, zero, suc, _≤_}
 use mathlib.Core.Path.{_≡_, refl, sym, _∙_, subst}
 use mathlib.Core.Bool.{Bool, true, false}
 use mathlib.Core.List.{List}
+use mathlib.Core.Option.{Option, none, some}
 use lib.ListN.{length, drop}
 use Rattle.rules.specs.Basics.{same}
 use Rattle.rules.specs.Parsers.{ok}
-use Rattle.rules.specs.Markup.{Nodes, end, node, Element, element}
+use Rattle.rules.specs.Markup.{Attribute, Nodes, end, node, Element, element}
 use Rattle.rules.specs.Invariants.{childNamed}
 use Rattle.rules.proofs.Tests.{clash}
 use Rattle.text.specs.declared.Read.{Read}
@@ -74,3 +75,20 @@ module _ {s : List ℕ} {depth : ℕ} (name : List ℕ) {l : Nodes} {r : Read} (
 
   pub child-some : {i : ℕ} {o : Read} → r ≡ At i → NamedFrom s depth name i o → ChildAt s depth (childNamed name l) o
   child-some z n = n l (kids-some z kids)
+
+-- what an answer on a child says
+module _ {s : List ℕ} {depth : ℕ} {o : Option (List Attribute)} {r : Read} (h : ChildAt s depth o r) where
+  pub child-gone : r ≡ Bad → o ≡ none
+  child-gone z = go (subst (λ (y : Read). ChildAt s depth o y) z h)
+    where
+      go : {o : Option (List Attribute)} → ChildAt s depth o Bad → o ≡ none
+      go no-child = refl
+
+  pub child-found : {i : ℕ} → r ≡ At i → (v : Element) × (o ≡ some (v .attrs)) × ElementAt s i depth v
+  child-found z = go (subst (λ (y : Read). ChildAt s depth o y) z h)
+    where
+      go : {o : Option (List Attribute)} {i : ℕ} → ChildAt s depth o (At i) → (v : Element) × (o ≡ some (v .attrs)) × ElementAt s i depth v
+      go (child-at i v x) = (v, refl, x)
+
+pub read-place : (s : List ℕ) {i : ℕ} {r : Read} → r ≡ At i → ReadOn s r → i ≤ length s
+read-place s z h = subst (ReadOn s) z h

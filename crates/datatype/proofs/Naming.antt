@@ -43,11 +43,14 @@ found-some {s} {o} z h = go (subst (λ (y : Found). Finds s o y) z h)
     go (present q e v l m x) = (v, refl, x)
 
 -- where the answer lies, once its case is known
-pub found-place : {s : List ℕ} {q e : ℕ} {r : Found} → r ≡ Quoted q e → FoundOn s r → q ≤ length s
-found-place {s} z h = go (subst (λ (y : Found). FoundOn s y) z h)
+pub found-bounds : {s : List ℕ} {q e : ℕ} {r : Found} → r ≡ Quoted q e → FoundOn s r → (q < e) × (e ≤ length s)
+found-bounds {s} z h = go (subst (λ (y : Found). FoundOn s y) z h)
   where
-    go : {q e : ℕ} → FoundOn s (Quoted q e) → q ≤ length s
-    go (found-on q e l m) = omega arith
+    go : {q e : ℕ} → FoundOn s (Quoted q e) → (q < e) × (e ≤ length s)
+    go (found-on q e l m) = (l, m)
+
+pub found-place : {s : List ℕ} {q e : ℕ} {r : Found} → r ≡ Quoted q e → FoundOn s r → q ≤ length s
+found-place z h = let (a, b) = found-bounds z h in omega (arith, a, b)
 
 pub found-none : {s : List ℕ} {o : Option (List ℕ)} {r : Found} → r ≡ Absent → Finds s o r → o ≡ none
 found-none {s} {o} z h = go (subst (λ (y : Found). Finds s o y) z h)

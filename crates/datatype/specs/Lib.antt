@@ -1,3 +1,4 @@
 pub mod Meaning
 pub mod Tables
 pub mod Children
+pub mod Bounds
