@@ -17,3 +17,5 @@ pub mod Unique
 pub mod Changes
 pub mod Drawing
 pub mod Counting
+pub mod Members
+pub mod ListingCases
