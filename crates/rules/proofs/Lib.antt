@@ -17,5 +17,6 @@ pub mod Unique
 pub mod Changes
 pub mod Drawing
 pub mod Counting
+pub mod CheckRefusals
 pub mod Members
 pub mod ListingCases
