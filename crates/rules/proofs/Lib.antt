@@ -20,3 +20,5 @@ pub mod Counting
 pub mod CheckRefusals
 pub mod Members
 pub mod ListingCases
+pub mod Fitting
+pub mod ListingPromise

@@ -5,7 +5,7 @@ use mathlib.Core.Bool.{Bool, true, false, not, cond}
 use mathlib.Core.List.{List, [], _∷_, _++_, append-eq-nil-iff, List·Memᴰ·head, Memᴰ·append-right}
 use mathlib.Core.Option.{Option, none, some}
 use native.Mathlib.Omega.{arith}
-use borrow.Author.Tests.{lt-ltb, le-ltb, le-leb}
+use borrow.Author.Tests.{lt-ltb, le-ltb, le-leb, not-false}
 use lib.Dec.{ltb}
 use lib.ListN.{length}
 use lib.IntN.{ℤ}
@@ -23,7 +23,7 @@ use Rattle.rules.specs.Listing.{operationOf, setFrom, setOf, intervalsWr
 use Rattle.rules.specs.Services.{listing}
 use Rattle.rules.specs.ListingPromise.{isClear, isListed}
 use Rattle.rules.proofs.Tests.{clash}
-use Rattle.rules.proofs.Precedence.{number-is, earlier-comm, first-is, check-answered, check-refused}
+use Rattle.rules.proofs.Precedence.{number-is, earlier-comm, first-is, when-none, check-answered, check-refused}
 use Rattle.rules.proofs.CheckRefusals.{check-refusals}
 use Rattle.rules.proofs.Members.{set-intervals, set-refused, clear-set, unclear-set}
 
@@ -99,6 +99,15 @@ unfolding recordFaults
 check-faultless offset input {e} h =
     let (d, f) = check-answered offset input e .0 h in
     rw d at (append-eq-nil-iff {p = outerFaults offset input} {q = faultsIn (topFaults (shiftBy offset)) (elementOf input)} .0 f .1)
+
+-- and its offset is in range
+pub check-offset : (offset : ℤ) (input : List ℕ) {e : Element} → check offset input ≡ answered e → isOffset offset ≡ true
+unfolding recordFaults
+check-offset offset input {e} h =
+    let early = OFFSET when not (isOffset offset) in
+    let f = append-eq-nil-iff {p = outerFaults offset input} {q = faultsIn (topFaults (shiftBy offset)) (elementOf input)} .0 (check-answered offset input e .0 h .1) .0 in
+    let g = append-eq-nil-iff {p = early ++ TOO-LONG when isTooLong input} .0 f .0 in
+    not-false (isOffset offset) (when-none OFFSET (not (isOffset offset)) (append-eq-nil-iff {p = early} .0 g .0))
 
 module _ (offset : ℤ) (room : ℕ) (input : List ℕ) where
   module _ (e : Element) (accepted : check offset input ≡ answered e) where

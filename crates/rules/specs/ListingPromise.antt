@@ -1,12 +1,23 @@
 -- 01-scope.md, "Sets of times", and the user's demand on lists: what listing a set of times promises, for every record, agreed offset
 -- and lent list. The law `listing-promise` says that it holds.
-use Prim.Native.Nat.{ℕ}
+use Prim.Native.Nat.{ℕ, _*_, _/_, _%_, _^_, _≤_, _<_}
+use mathlib.Core.Path.{_≡_}
+use mathlib.Core.Logic.{_↔_}
 use mathlib.Core.Bool.{Bool, true, false, not, _&&_, _||_}
-use mathlib.Core.List.{List}
-use Rattle.rules.specs.Basics.{isSome}
+use mathlib.Core.List.{List, _∷_, flatMap, List·Memᴰ}
+use mathlib.Core.Option.{some}
+use lib.Dec.{ltb}
+use lib.ListN.{length, take, drop}
+use lib.IntN.{ℤ, pos, negsuc}
+use Rattle.rules.specs.Basics.{isSome, every}
+use Rattle.rules.specs.Refusal.{Refusal, TYPE, UNKNOWN-BOUND, TOO-MANY, NO-ROOM, number, firstOf, answered, refused, faultsIn}
 use Rattle.rules.specs.Markup.{Attribute, Nodes, end, node, Element}
 use Rattle.rules.specs.Invariants.{isNull, low, high, Endpoint, valued, infinite, unknown, endpointOf}
 use Rattle.rules.specs.Types.{IVL-TS, memberTypes, hasType, typeAmong}
+use Rattle.rules.specs.Check.{shiftBy, elementOf, check}
+use Rattle.rules.specs.Sets.{Interval, Expression, meant, intervals, IsStretch, AreStretches}
+use Rattle.rules.specs.Listing.{setOf, intervalsWritten, unlisted, listNumbers}
+use Rattle.rules.specs.Services.{eightBytes, roomOf, listAnswer, listAfter}
 
 abbrev pub isUnknown : Endpoint → Bool
 isUnknown (valued m) = false
@@ -31,3 +42,75 @@ isClear shift e = not (hasUnclear shift (node (e .name) (e .attrs) (e .kids) end
 -- the record's type is IVL_TS or a set type
 abbrev pub isListed : Element → Bool
 isListed e = isSome (typeAmong memberTypes (e .attrs))
+
+-- a set of times that passes the rules under the offset agreed: one interval, or up to 32 under unions, intersections and
+-- differences, nested too, no set or interval null, each bound known or unbounded
+pub record IsSetOfTimes (offset : ℤ) (record′ : List ℕ) (e : Element) : Type 0 where
+  pub accepted : check offset record′ ≡ answered e
+  pub listed : isListed e ≡ true
+  pub clear : isClear (shiftBy offset) e ≡ true
+  pub few : intervalsWritten e ≤ 32
+
+-- what listing hands back: the number in bits 0 to 7, and the count in the others
+abbrev pub numberIn : ℕ → ℕ
+numberIn answer = answer % 2 ^ 8
+
+abbrev pub countIn : ℕ → ℕ
+countIn answer = answer / 2 ^ 8
+
+-- a number that eight bytes hold, signed
+abbrev pub fits : ℤ → Bool
+fits (pos n) = ltb n (2 ^ 63)
+fits (negsuc n) = ltb n (2 ^ 63)
+
+module _ (offset : ℤ) (record′ list : List ℕ) where
+  -- a refusal hands back its number and no count, and the list keeps its bytes
+  pub record Refuses (r : Refusal) : Type 0 where
+    pub number-given : numberIn (listAnswer offset record′ list) ≡ number r
+    pub no-count : countIn (listAnswer offset record′ list) ≡ 0
+    pub unchanged : listAfter offset record′ list ≡ list
+
+  -- the number is 0 and the count that of the stretches; the list begins with them, four numbers each and eight bytes a number, which
+  -- all fit; the bytes after them stay as they were
+  pub record Lists (ss : List Interval) : Type 0 where
+    pub number-given : numberIn (listAnswer offset record′ list) ≡ 0
+    pub count : countIn (listAnswer offset record′ list) ≡ length ss
+    pub begins : take (32 * length ss) (listAfter offset record′ list) ≡ flatMap eightBytes (listNumbers ss)
+    pub fit : every fits (listNumbers ss) ≡ true
+    pub unchanged : drop (32 * length ss) (listAfter offset record′ list) ≡ drop (32 * length ss) list
+    pub same-length : length (listAfter offset record′ list) ≡ length list
+
+  -- what is promised of a set of times, of the record's element e
+  pub record PromiseOfSet (e : Element) : Type 0 where
+    -- the set that the record writes, with the intervals written
+    pub set : Expression
+    pub written : setOf (shiftBy offset) e ≡ answered set
+    pub as-many : length (intervals set) ≡ intervalsWritten e
+    -- its stretches: each is unbroken, holds only times meant and can't be made longer; each stands once, earliest first; and a time
+    -- is in some stretch exactly when it is meant
+    pub stretches : List Interval
+    pub are-stretches : AreStretches (meant set) stretches
+    -- every stretch of the set is among them, and no other list is so
+    pub every-one : (s : Interval) → IsStretch (meant set) s → List·Memᴰ s stretches
+    pub no-other : (ss : List Interval) → AreStretches (meant set) ss → ss ≡ stretches
+    -- never more stretches than intervals written
+    pub at-most : length stretches ≤ intervalsWritten e
+    -- NO ROOM is given exactly if the set has more stretches than the lent list can hold
+    pub no-room : Refuses NO-ROOM ↔ (roomOf list < length stretches)
+    -- otherwise they are listed
+    pub room : length stretches ≤ roomOf list → Lists stretches
+
+  -- the whole promise
+  pub record ListingPromise : Type 0 where
+    -- a set of times: NO ROOM, or its stretches
+    pub sets : (e : Element) → IsSetOfTimes offset record′ e → PromiseOfSet e
+    -- any other record is refused, for another reason
+    pub others : ((e : Element) → IsSetOfTimes offset record′ e → ⊥) → (r : Refusal) × Refuses r × (number r < number NO-ROOM)
+    -- a fault of the record is given as checking gives it, but for a type that is not listed, which is TYPE
+    pub faulty : (r q : Refusal) → check offset record′ ≡ refused r → firstOf (r ∷ faultsIn unlisted (elementOf record′)) ≡ some q → Refuses q
+    pub other-type : (e : Element) → check offset record′ ≡ answered e → isListed e ≡ false → Refuses TYPE
+    -- UNKNOWN BOUND is given exactly if a set or interval of an accepted record is null, or a bound is missing or null without being unbounded
+    pub unknown-bound : Refuses UNKNOWN-BOUND ↔ (e : Element) × (check offset record′ ≡ answered e) × (isListed e ≡ true) × (isClear (shiftBy offset) e ≡ false)
+    -- TOO MANY is given exactly if it has over 32 intervals
+    pub too-many : Refuses TOO-MANY
+        ↔ (e : Element) × (check offset record′ ≡ answered e) × (isListed e ≡ true) × (isClear (shiftBy offset) e ≡ true) × (32 < intervalsWritten e)
