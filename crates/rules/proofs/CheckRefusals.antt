@@ -1,6 +1,6 @@
 -- Checking a record gives the refusals 1 to 8 alone; 9 to 11 are given by listing only.
 use Prim.Native.Nat.{ℕ, _≤_}
-use mathlib.Core.Path.{_≡_, refl, _∙_, ap}
+use mathlib.Core.Path.{_≡_, refl}
 use mathlib.Core.Bool.{Bool, true, false, not, _&&_, _||_, cond}
 use mathlib.Core.List.{List, [], _∷_, _++_, flatMap, List·Memᴰ, List·Memᴰ·head, List·Memᴰ·tail}
 use mathlib.Core.Option.{Option, none, some}
@@ -10,7 +10,7 @@ use lib.IntN.{ℤ}
 use Rattle.rules.specs.Basics.{isSome, ifSome, find, exists, bytes, isEmpty, same, begins}
 use Rattle.rules.specs.Refusal.{Refusal, OFFSET, TOO-LONG, NOT-UTF-8, MARKUP, TYPE, SHAPE, VALUE, RULE, number, firstOf, Outcome, answered, refused, faultsIn, faultsOf, _unless_, _when_}
 use Rattle.rules.specs.Markup.{Attribute, Nodes, end, node, Element, document}
-use Rattle.rules.specs.Timestamp.{Written, Moment, timestamp, isDate, isClock, isZone, writtenFaults, momentOf, readTimestamp}
+use Rattle.rules.specs.Timestamp.{Written, timestamp, isDate, isClock, isZone, writtenFaults, momentOf, readTimestamp}
 use Rattle.rules.specs.Parsers.{whole}
 use Rattle.rules.specs.Forms.{Form, anyText, nonEmpty, flavor, flag, amount, currency, root, partType, qualifiers, isFlavor, isFlag, amountText, isCurrency, isRoot, isPartType, isQualifiers, formFaults}
 use Rattle.rules.specs.Invariants.{isNull}

@@ -1,22 +1,22 @@
 -- The numbers of a list of stretches fit eight bytes, signed: each tick is one that a bound of the record has.
 use Prim.Native.Nat.{ℕ, suc, _-_, _^_, _≤_, _<_}
-use mathlib.Core.Path.{_≡_, refl, sym, _∙_}
-use mathlib.Core.Bool.{Bool, true, false, not, _&&_, cond}
+use mathlib.Core.Path.{_≡_, refl}
+use mathlib.Core.Bool.{Bool, true, false, cond}
 use mathlib.Core.List.{List, [], _∷_, _++_, flatMap}
 use mathlib.Core.Option.{Option, none, some}
 use native.Mathlib.Omega.{arith}
-use borrow.Author.Tests.{ltb-true, ltb-false, lt-ltb}
+use borrow.Author.Tests.{lt-ltb}
 use lib.Dec.{ltb}
-use lib.IntN.{ℤ, pos, negsuc, predℤ, subℕ, suc-pred}
+use lib.IntN.{ℤ, pos, negsuc, subℕ, suc-pred}
 use Rattle.rules.specs.Basics.{ifSome, listOf, every, bytes}
-use Rattle.rules.specs.Refusal.{Refusal, TYPE, UNKNOWN-BOUND, Outcome, answered, refused, _andThen_, both}
+use Rattle.rules.specs.Refusal.{TYPE, UNKNOWN-BOUND, Outcome, answered, refused, _andThen_, both}
 use Rattle.rules.specs.Markup.{Attribute, Nodes, end, node, Element, lookup}
 use Rattle.rules.specs.Timestamp.{Moment, readTimestamp, beforeStart, tickOf}
 use Rattle.rules.specs.Invariants.{isNull, isClosed, Side, low, high, Endpoint, valued, infinite, unknown, hasFlavor, endpointRead, endpointValued, endpointIn, endpointOf, childNamed}
 use Rattle.rules.specs.Types.{IVL-TS, hasType}
 use Rattle.rules.specs.Sets.{Place, at, gapAfter, nextPlace, previousPlace, _isBefore_, Bound, unbounded, openAt, closedAt, Interval, _upto_, firstPlace, lastPlace, Op, Expression, interval, combine, meant, intervals}
 use Rattle.rules.specs.Stretches.{lowAt, highAt, changesOf, insert, sorted, changes, drawn, placeBefore, stretches}
-use Rattle.rules.specs.Listing.{boundRead, boundOf, intervalOf, operationOf, setFrom, membersOf, joined, setOf, boundNumbers, listNumbers}
+use Rattle.rules.specs.Listing.{boundRead, intervalOf, operationOf, setFrom, membersOf, joined, setOf, boundNumbers, listNumbers}
 use Rattle.rules.specs.ListingPromise.{fits}
 use Rattle.rules.proofs.Tests.{every-true}
 use Rattle.rules.proofs.Ticks.{ticks-in-60-bits}

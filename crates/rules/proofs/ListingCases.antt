@@ -1,6 +1,6 @@
 -- What listing answers, case by case.
 use Prim.Native.Nat.{ℕ, _≤_, _<_}
-use mathlib.Core.Path.{_≡_, refl, sym, _∙_, ap}
+use mathlib.Core.Path.{_≡_, refl, _∙_, ap}
 use mathlib.Core.Bool.{Bool, true, false, not, cond}
 use mathlib.Core.List.{List, [], _∷_, _++_, append-eq-nil-iff, List·Memᴰ·head, Memᴰ·append-right}
 use mathlib.Core.Option.{Option, none, some}
@@ -9,15 +9,15 @@ use borrow.Author.Tests.{lt-ltb, le-ltb, le-leb, not-false}
 use lib.Dec.{ltb}
 use lib.ListN.{length}
 use lib.IntN.{ℤ}
-use Rattle.rules.specs.Basics.{isSome, ifSome, find}
-use Rattle.rules.specs.Refusal.{Refusal, OFFSET, TOO-LONG, NOT-UTF-8, MARKUP, TYPE, UNKNOWN-BOUND, TOO-MANY, NO-ROOM, number, rankIn, rank, earlier, firstOf, Outcome, answered, refused, faultsIn, faultsOf, _unless_, _when_, _andThen_}
+use Rattle.rules.specs.Basics.{isSome, find}
+use Rattle.rules.specs.Refusal.{Refusal, OFFSET, TOO-LONG, NOT-UTF-8, MARKUP, TYPE, UNKNOWN-BOUND, TOO-MANY, NO-ROOM, number, rankIn, rank, firstOf, Outcome, answered, refused, faultsIn, _unless_, _when_, _andThen_}
 use Rattle.rules.specs.Markup.{Attribute, Element, document}
 use Rattle.rules.specs.Types.{IVL-TS, QSU-TS, QSI-TS, QSD-TS, memberTypes, hasType, typeAmong}
 use Rattle.rules.specs.Utf8.{isUtf8}
 use Rattle.rules.specs.Check.{isOffset, shiftBy, isTooLong, elementOf, recordFaults, check}
 use Rattle.rules.specs.Judge.{topFaults}
 use Rattle.rules.specs.Invariants.{isNull}
-use Rattle.rules.specs.Sets.{Interval, Op, Expression}
+use Rattle.rules.specs.Sets.{Expression}
 use Rattle.rules.specs.Stretches.{stretches}
 use Rattle.rules.specs.Listing.{operationOf, setFrom, setOf, intervalsWritten, unlisted, listElement}
 use Rattle.rules.specs.Services.{listing}
@@ -25,7 +25,7 @@ use Rattle.rules.specs.ListingPromise.{isClear, isListed}
 use Rattle.rules.proofs.Tests.{clash}
 use Rattle.rules.proofs.Precedence.{number-is, earlier-comm, first-is, when-none, check-answered, check-refused}
 use Rattle.rules.proofs.CheckRefusals.{check-refusals}
-use Rattle.rules.proofs.Members.{set-intervals, set-refused, clear-set, unclear-set}
+use Rattle.rules.proofs.Members.{set-refused, unclear-set}
 
 unless-none : {A : Type 0} (o : Outcome A) → (o unless []) ≡ o
 unfolding firstOf

@@ -1,14 +1,13 @@
 -- In an accepted record `xsi:type` stands on the top element and on members of sets alone.
 use Prim.Native.Nat.{ℕ, _+_}
 use mathlib.Core.Path.{_≡_, refl, sym, _∙_, ap}
-use mathlib.Core.Logic.{inl, inr}
-use mathlib.Core.Bool.{Bool, true, false, not, _&&_, _||_, cond, or-false, or-assoc, Bool·not-not}
+use mathlib.Core.Bool.{Bool, true, false, not, _||_, cond, or-false, or-assoc, Bool·not-not}
 use mathlib.Core.List.{List, [], _∷_, _++_, flatMap, append-eq-nil-iff}
 use mathlib.Core.Option.{Option, none, some}
 use native.Mathlib.Omega.{arith}
 use native.Mathlib.Nat.{zero-add, add-zero, add-assoc}
 use borrow.Author.Tests.{eqb-true, not-true, not-false}
-use lib.Dec.{ltb, eqb}
+use lib.Dec.{ltb}
 use lib.ListN.{length, length-append}
 use Rattle.rules.specs.Basics.{isSome, ifSome, find, bytes, same}
 use Rattle.rules.specs.Refusal.{Refusal, SHAPE, UNKNOWN-BOUND, Outcome, answered, refused, _andThen_, both}

@@ -17,7 +17,7 @@ use Rattle.rules.specs.Types.{IVL-TS, memberTypes, hasType, typeAmong}
 use Rattle.rules.specs.Check.{shiftBy, elementOf, check}
 use Rattle.rules.specs.Sets.{Interval, Expression, meant, intervals, IsStretch, AreStretches}
 use Rattle.rules.specs.Listing.{setOf, intervalsWritten, unlisted, listNumbers}
-use Rattle.rules.specs.Services.{eightBytes, roomOf, listAnswer, listAfter}
+use Rattle.rules.specs.Services.{eightBytes, roomOf}
 
 abbrev pub isUnknown : Endpoint → Bool
 isUnknown (valued m) = false
@@ -51,7 +51,7 @@ pub record IsSetOfTimes (offset : ℤ) (record′ : List ℕ) (e : Element) : Ty
   pub clear : isClear (shiftBy offset) e ≡ true
   pub few : intervalsWritten e ≤ 32
 
--- what listing hands back: the number in bits 0 to 7, and the count in the others
+-- an answer: its number in bits 0 to 7, and its count in those above
 abbrev pub numberIn : ℕ → ℕ
 numberIn answer = answer % 2 ^ 8
 
@@ -63,54 +63,56 @@ abbrev pub fits : ℤ → Bool
 fits (pos n) = ltb n (2 ^ 63)
 fits (negsuc n) = ltb n (2 ^ 63)
 
-module _ (offset : ℤ) (record′ list : List ℕ) where
+-- the answer to a record, and the lent list before and after
+module _ (offset : ℤ) (record′ : List ℕ) (answer : ℕ) (before after : List ℕ) where
   -- a refusal hands back its number and no count, and the list keeps its bytes
   pub record Refuses (r : Refusal) : Type 0 where
-    pub number-given : numberIn (listAnswer offset record′ list) ≡ number r
-    pub no-count : countIn (listAnswer offset record′ list) ≡ 0
-    pub unchanged : listAfter offset record′ list ≡ list
+    pub number-given : numberIn answer ≡ number r
+    pub no-count : countIn answer ≡ 0
+    pub unchanged : after ≡ before
 
-  -- the number is 0 and the count that of the stretches; the list begins with them, four numbers each and eight bytes a number, which
-  -- all fit; the bytes after them stay as they were
+  -- the count returned is the number of the stretches; the list begins with them, four numbers each and eight bytes a number, all of
+  -- which fit; nothing else is written
   pub record Lists (ss : List Interval) : Type 0 where
-    pub number-given : numberIn (listAnswer offset record′ list) ≡ 0
-    pub count : countIn (listAnswer offset record′ list) ≡ length ss
-    pub begins : take (32 * length ss) (listAfter offset record′ list) ≡ flatMap eightBytes (listNumbers ss)
+    pub number-given : numberIn answer ≡ 0
+    pub count : countIn answer ≡ length ss
+    pub begins : take (32 * length ss) after ≡ flatMap eightBytes (listNumbers ss)
     pub fit : every fits (listNumbers ss) ≡ true
-    pub unchanged : drop (32 * length ss) (listAfter offset record′ list) ≡ drop (32 * length ss) list
-    pub same-length : length (listAfter offset record′ list) ≡ length list
+    pub unchanged : drop (32 * length ss) after ≡ drop (32 * length ss) before
+    pub same-length : length after ≡ length before
 
-  -- what is promised of a set of times, of the record's element e
+  -- what is promised of a set of times, by the record's element e
   pub record PromiseOfSet (e : Element) : Type 0 where
-    -- the set that the record writes, with the intervals written
+    -- the set that the record writes, of the intervals written
     pub set : Expression
     pub written : setOf (shiftBy offset) e ≡ answered set
     pub as-many : length (intervals set) ≡ intervalsWritten e
-    -- its stretches: each is unbroken, holds only times meant and can't be made longer; each stands once, earliest first; and a time
-    -- is in some stretch exactly when it is meant
+    -- its stretches: each is unbroken, holds only times meant and can't be made longer; each stands once, earliest first; a time is in
+    -- some stretch exactly when it is meant
     pub stretches : List Interval
     pub are-stretches : AreStretches (meant set) stretches
-    -- every stretch of the set is among them, and no other list is so
+    -- every stretch of the set is among them, and no other list is like this
     pub every-one : (s : Interval) → IsStretch (meant set) s → List·Memᴰ s stretches
     pub no-other : (ss : List Interval) → AreStretches (meant set) ss → ss ≡ stretches
-    -- never more stretches than intervals written
+    -- there are never more stretches than intervals written
     pub at-most : length stretches ≤ intervalsWritten e
     -- NO ROOM is given exactly if the set has more stretches than the lent list can hold
-    pub no-room : Refuses NO-ROOM ↔ (roomOf list < length stretches)
-    -- otherwise they are listed
-    pub room : length stretches ≤ roomOf list → Lists stretches
+    pub no-room : Refuses NO-ROOM ↔ (roomOf before < length stretches)
+    -- otherwise the list begins with every one of them
+    pub room : length stretches ≤ roomOf before → Lists stretches
 
   -- the whole promise
   pub record ListingPromise : Type 0 where
-    -- a set of times: NO ROOM, or its stretches
+    -- a set of times is listed, or gives NO ROOM
     pub sets : (e : Element) → IsSetOfTimes offset record′ e → PromiseOfSet e
     -- any other record is refused, for another reason
     pub others : ((e : Element) → IsSetOfTimes offset record′ e → ⊥) → (r : Refusal) × Refuses r × (number r < number NO-ROOM)
-    -- a fault of the record is given as checking gives it, but for a type that is not listed, which is TYPE
+    -- a record that fails the check is refused by the same fault, or by TYPE if that is earlier and its type is not listed
     pub faulty : (r q : Refusal) → check offset record′ ≡ refused r → firstOf (r ∷ faultsIn unlisted (elementOf record′)) ≡ some q → Refuses q
+    -- an accepted record of a type that is not listed is TYPE
     pub other-type : (e : Element) → check offset record′ ≡ answered e → isListed e ≡ false → Refuses TYPE
-    -- UNKNOWN BOUND is given exactly if a set or interval of an accepted record is null, or a bound is missing or null without being unbounded
+    -- UNKNOWN BOUND is given exactly if a set or interval is null, or a bound is missing or null without being unbounded
     pub unknown-bound : Refuses UNKNOWN-BOUND ↔ (e : Element) × (check offset record′ ≡ answered e) × (isListed e ≡ true) × (isClear (shiftBy offset) e ≡ false)
-    -- TOO MANY is given exactly if it has over 32 intervals
+    -- TOO MANY is given exactly if, without that, there are over 32 intervals
     pub too-many : Refuses TOO-MANY
         ↔ (e : Element) × (check offset record′ ≡ answered e) × (isListed e ≡ true) × (isClear (shiftBy offset) e ≡ true) × (32 < intervalsWritten e)
