@@ -21,4 +21,5 @@ pub mod CheckRefusals
 pub mod Members
 pub mod ListingCases
 pub mod Fitting
+pub mod Meaning
 pub mod ListingPromise

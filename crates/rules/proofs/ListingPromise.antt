@@ -24,6 +24,7 @@ use Rattle.rules.proofs.Tests.{clash}
 use Rattle.rules.proofs.Precedence.{number-injective}
 use Rattle.rules.proofs.Ticks.{shiftBy-most}
 use Rattle.rules.proofs.Fitting.{list-fits}
+use Rattle.rules.proofs.Meaning.{set-meaning}
 use Rattle.rules.proofs.Unique.{stretch-listed}
 use Rattle.rules.proofs.Drawing.{stretches-are, is-stretches}
 use Rattle.rules.proofs.Counting.{stretches-within}
@@ -126,6 +127,7 @@ module _ (offset : ℤ) (record′ list : List ℕ) where
       set = s;
       written = known;
       as-many = set-intervals (shiftBy offset) e (check-faultless offset record′ (h .accepted)) (h .listed) known;
+      meaning = λ x. set-meaning (shiftBy offset) x e known;
       stretches = stretches s;
       are-stretches = stretches-are s;
       every-one = stretch-listed (stretches-are s);

@@ -3,20 +3,20 @@
 use Prim.Native.Nat.{ℕ, _*_, _/_, _%_, _^_, _≤_, _<_}
 use mathlib.Core.Path.{_≡_}
 use mathlib.Core.Logic.{_↔_}
-use mathlib.Core.Bool.{Bool, true, false, not, _&&_, _||_}
-use mathlib.Core.List.{List, _∷_, flatMap, List·Memᴰ}
+use mathlib.Core.Bool.{Bool, true, false, not, _&&_, _||_, cond}
+use mathlib.Core.List.{List, [], _∷_, flatMap, List·Memᴰ}
 use mathlib.Core.Option.{some}
 use lib.Dec.{ltb}
 use lib.ListN.{length, take, drop}
 use lib.IntN.{ℤ, pos, negsuc}
-use Rattle.rules.specs.Basics.{isSome, every}
-use Rattle.rules.specs.Refusal.{Refusal, TYPE, UNKNOWN-BOUND, TOO-MANY, NO-ROOM, number, firstOf, answered, refused, faultsIn}
+use Rattle.rules.specs.Basics.{isSome, ifSome, exists, every}
+use Rattle.rules.specs.Refusal.{Refusal, TYPE, UNKNOWN-BOUND, TOO-MANY, NO-ROOM, number, firstOf, Outcome, answered, refused, faultsIn}
 use Rattle.rules.specs.Markup.{Attribute, Nodes, end, node, Element}
 use Rattle.rules.specs.Invariants.{isNull, low, high, Endpoint, valued, infinite, unknown, endpointOf}
 use Rattle.rules.specs.Types.{IVL-TS, memberTypes, hasType, typeAmong}
 use Rattle.rules.specs.Check.{shiftBy, elementOf, check}
-use Rattle.rules.specs.Sets.{Interval, Expression, meant, intervals, IsStretch, AreStretches}
-use Rattle.rules.specs.Listing.{setOf, intervalsWritten, unlisted, listNumbers}
+use Rattle.rules.specs.Sets.{Place, Interval, holds, Op, union, intersection, difference, Expression, meant, intervals, IsStretch, AreStretches}
+use Rattle.rules.specs.Listing.{intervalOf, operationOf, setOf, intervalsWritten, unlisted, listNumbers}
 use Rattle.rules.specs.Services.{eightBytes, roomOf}
 
 abbrev pub isUnknown : Endpoint → Bool
@@ -42,6 +42,31 @@ isClear shift e = not (hasUnclear shift (node (e .name) (e .attrs) (e .kids) end
 -- the record's type is IVL_TS or a set type
 abbrev pub isListed : Element → Bool
 isListed e = isSome (typeAmong memberTypes (e .attrs))
+
+-- in some of the members, in every one, in the first but in none after it
+abbrev pub together : Op → List Bool → Bool
+together union bs = exists (λ b. b) bs
+together intersection bs = every (λ b. b) bs
+together difference [] = false
+together difference (b ∷ bs) = b && not (exists (λ c. c) bs)
+
+abbrev pub isWithin : Outcome Interval → Place → Bool
+isWithin (answered v) x = holds v x
+isWithin (refused r) x = false
+
+-- whether an element of these attributes means a place: as the interval that it writes, or as a set of members of which `members` says it
+abbrev pub meansPlace : (shift : ℕ) → Place → List Attribute → Nodes → (members : List Bool) → Bool
+meansPlace shift x attrs kids members =
+    cond (hasType attrs IVL-TS) (isWithin (intervalOf shift attrs kids) x) (ifSome (operationOf attrs) (λ o. together o members) false)
+
+-- the same of each of these elements
+unfoldable pub meanPlace : (shift : ℕ) → Place → Nodes → List Bool
+meanPlace shift x end = []
+meanPlace shift x (node n attrs kids rest) = meansPlace shift x attrs kids (meanPlace shift x kids) ∷ meanPlace shift x rest
+
+-- the places that a record means, set within set
+abbrev pub isMeant : (shift : ℕ) → Element → Place → Bool
+isMeant shift e x = meansPlace shift x (e .attrs) (e .kids) (meanPlace shift x (e .kids))
 
 -- a set of times that passes the rules under the offset agreed: one interval, or up to 32 under unions, intersections and
 -- differences, nested too, no set or interval null, each bound known or unbounded
@@ -83,10 +108,11 @@ module _ (offset : ℤ) (record′ : List ℕ) (answer : ℕ) (before after : Li
 
   -- what is promised of a set of times, by the record's element e
   pub record PromiseOfSet (e : Element) : Type 0 where
-    -- the set that the record writes, of the intervals written
+    -- the set that the record writes, of the intervals written, and the times meant
     pub set : Expression
     pub written : setOf (shiftBy offset) e ≡ answered set
     pub as-many : length (intervals set) ≡ intervalsWritten e
+    pub meaning : (x : Place) → meant set x ≡ isMeant (shiftBy offset) e x
     -- its stretches: each is unbroken, holds only times meant and can't be made longer; each stands once, earliest first; a time is in
     -- some stretch exactly when it is meant
     pub stretches : List Interval
