@@ -18,3 +18,9 @@ pub mod Unique
 pub mod Changes
 pub mod Drawing
 pub mod Counting
+pub mod CheckRefusals
+pub mod Members
+pub mod ListingCases
+pub mod Fitting
+pub mod Meaning
+pub mod ListingPromise

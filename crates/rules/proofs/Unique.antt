@@ -1,7 +1,7 @@
 -- The stretches of a set are listed in one way only.
 use mathlib.Core.Path.{_≡_, refl, sym, _∙_, ap}
 use mathlib.Core.Bool.{Bool, true, false, _||_, false≢true}
-use mathlib.Core.List.{List, [], _∷_}
+use mathlib.Core.List.{List, [], _∷_, List·Memᴰ, List·Memᴰ·head, List·Memᴰ·tail}
 use mathlib.Core.Option.{Option, none, some}
 use Rattle.rules.specs.Basics.{ifSome, exists}
 use Rattle.rules.specs.Sets.{Place, previousPlace, _isBefore_, Interval, holds, IsStretch, isIn, ComesBefore, AllStretches, AreStretches}
@@ -95,3 +95,18 @@ unique p (s ∷ ss) (r ∷ rs) a b c =
 
 pub stretches-unique : {p : Place → Bool} {ss rs : List Interval} → AreStretches p ss → AreStretches p rs → ss ≡ rs
 stretches-unique {p} {ss} {rs} a b = unique p ss rs (a .each) (b .each) (λ y. a .all y ∙ sym (b .all y))
+
+-- every stretch of the set is listed
+pub stretch-listed : {p : Place → Bool} {ss : List Interval} → AreStretches p ss → (s : Interval) → IsStretch p s → List·Memᴰ s ss
+unfolding exists
+stretch-listed {p} {ss} a s k = go ss (a .each) (a .all z ∙ k .filled z i)
+  where
+    z : Place
+    z = k .inhabited .0
+
+    i : holds s z ≡ true
+    i = k .inhabited .1
+
+    go : (rs : List Interval) → AllStretches p rs → isIn rs z ≡ true → List·Memᴰ s rs
+    go [] b e = absurd (false≢true e)
+    go (r ∷ rs) b e = either (holds r z) (isIn rs z) e (λ j. List·Memᴰ·head (shared p z s r k (b .0) i j)) (λ j. List·Memᴰ·tail (go rs (b .2) j))

@@ -15,3 +15,4 @@ pub mod Stretches
 pub mod Listing
 pub mod Comparison
 pub mod Services
+pub mod ListingPromise
