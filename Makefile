@@ -15,7 +15,9 @@ LINK_RUST = -L native=target/staticlib -l static=rigcactus
 archive = target/staticlib/librigcactus.a
 header = include/rigcactus.h
 program = target/host/rigcactus
+records = $(wildcard tests/records/*.txt)
 proved = $(shell find crates \( -name '*.rt' -o -name '*.antt' \) -not -path '*/must-fail/*') crates.txt
+# The services that the archive has. Adding one here has tests/services.rs try it.
 services = rigcactus_cut rigcactus_tick
 c_api = target/tests/c_api_1 target/tests/c_api_2
 tests = target/tests/header_c $(c_api) target/tests/services
@@ -63,9 +65,9 @@ target/tests/c_api_%.c: docs/C-API.md
 $(c_api): %: %.c $(header) $(archive)
 	$(CC) $(CFLAGS) -Wpedantic -Iinclude -o $@ $< $(archive)
 
-target/tests/services: tests/services.rs tests/cut.rs tests/tick.rs tests/lent.rs tests/random.rs $(archive)
+target/tests/services: $(wildcard tests/*.rs) $(records) $(archive) Makefile
 	@mkdir -p $(@D)
-	$(RUSTC) $(RUSTFLAGS) -o $@ $< $(LINK_RUST)
+	$(RUSTC) $(RUSTFLAGS) $(services:%=--cfg %) -o $@ tests/services.rs $(LINK_RUST)
 
 # The bench is linked with the services at four places, since their speed depends on that.
 bench: $(places:%=target/bench/%/cut) $(places:%=target/bench/%/tick)
