@@ -9,6 +9,12 @@ ghost use Rattle.rules.specs.Markup.{value};
 ghost use Rattle.rules.specs.Timestamp.{readTimestamp};
 ghost use Rattle.timestamp.specs.Moments.{outcomeOf};
 ghost use Rattle.form.specs.Meaning.{between};
+
+pub mod money;
+pub mod name;
+pub mod oid;
+mod parts;
+
 use timestamp::Timestamp;
 
 // The forms that the table of types asks for, by the name of what they are asked of.

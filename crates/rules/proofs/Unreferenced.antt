@@ -41,7 +41,7 @@ every-no p x h [] e = refl
 every-no p x h (a ∷ l) e = let (f, g) = every-true p a l e in rw (h a f, every-no p x h l g)
 
 -- a test that no text of the form passes
-refuses : {A : Type 0} (p x : A → Bool) → ((a : A) → p a ≡ true → x a ≡ false) → (a : A) → x a ≡ true → p a ≡ false
+pub refuses : {A : Type 0} (p x : A → Bool) → ((a : A) → p a ≡ true → x a ≡ false) → (a : A) → x a ≡ true → p a ≡ false
 refuses p x h a e = go (p a) refl
   where
     go : (b : Bool) → p a ≡ b → b ≡ false
@@ -170,7 +170,7 @@ pub no-currency : (t : List ℕ) → exists isReferenced t ≡ true → isCurren
 no-currency = refuses isCurrency (exists isReferenced) λ t e.
     every-no (isFrom 65 90) isReferenced capital-unreferenced t (both-true (eqb (length t) 3) _ e .1)
 
-plain-digits : (w : List ℕ) → isPlainNumber w ≡ true → every isDigit w ≡ true
+pub plain-digits : (w : List ℕ) → isPlainNumber w ≡ true → every isDigit w ≡ true
 unfolding isPlainNumber every
 plain-digits [] e = refl
 plain-digits (c ∷ []) e = rw e
@@ -182,7 +182,7 @@ plain-digits (c ∷ d ∷ s) e =
 number-unreferenced : (w : List ℕ) → isPlainNumber w ≡ true → exists isReferenced w ≡ false
 number-unreferenced w e = every-no isDigit isReferenced digit-unreferenced w (plain-digits w e)
 
-oid-numbers : (l : List (List ℕ)) → isOid l ≡ true → every isPlainNumber l ≡ true
+pub oid-numbers : (l : List (List ℕ)) → isOid l ≡ true → every isPlainNumber l ≡ true
 unfolding isOid
 oid-numbers [] e = clash (cc)
 oid-numbers (a ∷ []) e = clash (cc)
