@@ -1,19 +1,19 @@
 -- Amounts of money: the sign, the digits, the fraction, and the whole text; and currencies.
-use Prim.Native.Nat.{ℕ, suc, _+_, _*_, _^_, _≤_, _<_}
-use mathlib.Core.Path.{_≡_, refl, sym, _∙_, ap, subst}
-use mathlib.Core.Bool.{Bool, true, false, _&&_, and-true, and-assoc}
+use Prim.Native.Nat.{ℕ, _+_, _*_, _^_, _<_}
+use mathlib.Core.Path.{_≡_, ap}
+use mathlib.Core.Bool.{false, _&&_, and-true, and-assoc}
 use mathlib.Core.List.{List, [], _∷_}
 use mathlib.Core.Option.{none, some}
 use native.Mathlib.Nat.{pow-le-pow-right, lt-of-lt-of-le}
 use native.Mathlib.Omega.{arith}
 use borrow.Author.Tests.{ne-eqb}
 use lib.Dec.{eqb}
-use lib.IntN.{ℤ, pos, negℤ}
+use lib.IntN.{pos}
 use lib.ListN.{length, getD, take, drop, length-drop, drop-of-length-le}
 use lib.Seq.{length-take-le}
 use Rattle.rules.specs.Basics.{every, isFrom, isDigit, decimal}
-use Rattle.rules.specs.Parsers.{Parser, bad, ok, pure, _>>_, _or_, one, upTo, byte, finish, whole}
-use Rattle.rules.specs.Timestamp.{point, tenThousandths}
+use Rattle.rules.specs.Parsers.{bad, ok, one, upTo, byte, finish, whole}
+use Rattle.rules.specs.Timestamp.{tenThousandths}
 use Rattle.rules.specs.Forms.{amountText, isCurrency}
 use Rattle.rules.proofs.Parsers.{more-ok, more, done}
 use Rattle.text.specs.Numbers.{Counted, FractionAt}
@@ -23,9 +23,6 @@ use Rattle.text.proofs.Numerals.{none-at-end, byte-at, no-byte, no-digit-counte
 use Rattle.form.specs.Amounts.{signOf, SignAt}
 
 -- the sign
-abbrev sign : Parser (ℤ → ℤ)
-sign = (byte 45 >> pure negℤ) or pure (λ z. z)
-
 pub sign-none : (t : List ℕ) → byte 45 t ≡ bad → SignAt t 0
 sign-none t e = record { high = omega arith; few = omega arith; reads = rw e }
 

@@ -4,7 +4,7 @@ use Prim.Native.String.{String}
 use mathlib.Core.Path.{_≡_, refl, sym, _∙_}
 use mathlib.Core.Bool.{Bool, false, _||_, or-false, or-assoc}
 use mathlib.Core.List.{List, [], _∷_}
-use Rattle.rules.specs.Basics.{exists, same, split, words, bytes, oneOf}
+use Rattle.rules.specs.Basics.{exists, same, words, bytes, oneOf}
 
 -- b, or p of one of the list, from the left
 abbrev pub more : {A : Type 0} → (A → Bool) → Bool → List A → Bool

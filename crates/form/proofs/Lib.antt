@@ -4,3 +4,4 @@ pub mod Wording
 pub mod Oids
 pub mod Choices
 pub mod Amounting
+pub mod Faults

@@ -1,13 +1,12 @@
 -- The parts of a text between the bytes b, one after another.
 use Prim.Native.Nat.{ℕ, suc, _+_, _-_, _≤_, _<_}
-use mathlib.Core.Path.{_≡_, refl, _∙_, ap}
+use mathlib.Core.Path.{_≡_, _∙_}
 use mathlib.Core.Bool.{Bool, true, false}
 use mathlib.Core.List.{List, [], _∷_}
 use native.Mathlib.Omega.{arith}
 use borrow.Author.Tests.{eq-eqb, ne-eqb}
-use lib.Dec.{eqb}
 use lib.ListN.{length, getD, take, drop, drop-of-length-le}
-use Rattle.rules.specs.Basics.{every, split, onto}
+use Rattle.rules.specs.Basics.{every, split}
 use Rattle.rules.proofs.Tests.{every-true}
 use Rattle.text.proofs.Reading.{here}
 use Rattle.form.specs.Parted.{following, PartAt}

@@ -1,9 +1,9 @@
 -- Timestamps, amounts, currencies, OIDs and qualifiers hold no byte that references stand for.
-use Prim.Native.Nat.{ℕ, zero, suc, _≤_}
+use Prim.Native.Nat.{ℕ, zero, suc}
 use Prim.Native.String.{String}
 use mathlib.Core.Path.{_≡_, refl, sym, _∙_, ap, ap₂}
-use mathlib.Core.Logic.{_⊎_, inl, inr}
-use mathlib.Core.Bool.{Bool, true, false, not, _&&_, _||_, cond, or-assoc}
+use mathlib.Core.Logic.{inl, inr}
+use mathlib.Core.Bool.{Bool, true, false, not, _||_, cond, or-assoc}
 use mathlib.Core.List.{List, [], _∷_}
 use mathlib.Core.Option.{Option, none, some}
 use native.Mathlib.Omega.{arith}
@@ -13,7 +13,7 @@ use lib.IntN.{negℤ}
 use lib.ListN.{length}
 use Rattle.rules.specs.Basics.{exists, every, same, onto, split, words, bytes, oneOf, isFrom, isDigit, decimal}
 use Rattle.rules.specs.Refusal.{VALUE, refused}
-use Rattle.rules.specs.Parsers.{Parsed, bad, ok, Parser, next, else, pure, guard, _>>=_, _>>_, _or_, one, times, upTo, byte, whole}
+use Rattle.rules.specs.Parsers.{ok, Parser, pure, guard, _>>=_, _>>_, _or_, one, times, upTo, byte, whole}
 use Rattle.rules.specs.Timestamp.{Zone, noZone, digits, twoDigits, point, hours, zone, timestamp, plus, minus, readTimestamp}
 use Rattle.rules.specs.Forms.{amountText, isCurrency, isPlainNumber, isOid, isRoot, isQualifiers}
 use Rattle.rules.proofs.Tests.{clash, both-true, isFrom-true, every-true}
@@ -41,7 +41,7 @@ every-no p x h [] e = refl
 every-no p x h (a ∷ l) e = let (f, g) = every-true p a l e in rw (h a f, every-no p x h l g)
 
 -- a test that no text of the form passes
-pub refuses : {A : Type 0} (p x : A → Bool) → ((a : A) → p a ≡ true → x a ≡ false) → (a : A) → x a ≡ true → p a ≡ false
+refuses : {A : Type 0} (p x : A → Bool) → ((a : A) → p a ≡ true → x a ≡ false) → (a : A) → x a ≡ true → p a ≡ false
 refuses p x h a e = go (p a) refl
   where
     go : (b : Bool) → p a ≡ b → b ≡ false
