@@ -1,0 +1,3 @@
+// The faults of a record: each of its elements judged by the table of types.
+
+mod invariant;
