@@ -6,12 +6,15 @@ ghost use lib.ListN.{length};
 ghost use Rattle.rules.specs.Basics.{bytes, exactlyOne, exists, same, words};
 ghost use Rattle.rules.specs.Markup.{Element};
 ghost use Rattle.rules.specs.Invariants.{hasSuch, valued, breaksTime, breaksFlag, isWrong, isCrossed, breaksInterval, breaksMoney, breaksIdentifier, breaksCode, breaksPart};
+ghost use Rattle.rules.specs.Types.{lineOf};
 ghost use Rattle.timestamp.specs.Moments.{momentOf};
 ghost use Rattle.element.specs.Places.{ElementAt};
+ghost use Rattle.datatype.specs.Meaning.{kindMeant};
 ghost use Rattle.datatype.specs.Bounds.{sideMeant, endpointMeant};
 use datatype::bounds;
 use datatype::bounds::Endpoint;
 use datatype::bounds::Side;
+use datatype::kind::Kind;
 use datatype::reading::has;
 use datatype::reading::has_children;
 use datatype::reading::has_some_text;
@@ -161,4 +164,24 @@ fn breaks_part(s: &[u8], at: usize) -> bool
     let prefix = has_qualifier(s, at, b"PFX");
     let suffix = has_qualifier(s, at, b"SFX");
     !null & (!value | (prefix & suffix))
+}
+
+// Whether the element at a position, of a kind, breaks the invariants of that kind.
+pub fn breaks(s: &[u8], at: usize, depth: usize, kind: Kind, shift: u64) -> bool
+    requires { ⌜ at ≤ length (now s) ⌝ ∗ ⌜ 1 ≤ depth ⌝ ∗ ⌜ shift ≤ 1680 ⌝ }
+    ensures { λ r. ⌜ ((v : Element) → ElementAt (now (s .entry)) at depth v → r ≡ lineOf (kindMeant kind) .invariant shift (v .attrs) (v .kids)) ⌝ }
+{
+    match kind {
+        Kind::Ts => breaks_time(s, at),
+        Kind::IvlTs => breaks_interval(s, at, depth, shift),
+        Kind::QsuTs => false,
+        Kind::QsiTs => false,
+        Kind::QsdTs => false,
+        Kind::Mo => breaks_money(s, at),
+        Kind::Ii => breaks_identifier(s, at),
+        Kind::Cd => breaks_code(s, at, depth),
+        Kind::En => false,
+        Kind::DisplayName => false,
+        Kind::Part => breaks_part(s, at),
+    }
 }
