@@ -1,1 +1,2 @@
 pub mod AttributeFaults
+pub mod ElementFaults

@@ -1,16 +1,18 @@
 -- The first fault of what stands from a position of a record on, in the words of the rules ("The refusal ladder").
 use Prim.Native.Nat.{ℕ}
 use mathlib.Core.Path.{_≡_}
-use mathlib.Core.Bool.{Bool}
-use mathlib.Core.List.{List, flatMap}
+use mathlib.Core.Bool.{Bool, _||_}
+use mathlib.Core.List.{List, [], _∷_, _++_, flatMap}
 use mathlib.Core.Option.{Option}
-use Rattle.rules.specs.Basics.{isSome, exists}
-use Rattle.rules.specs.Refusal.{Refusal, firstOf}
-use Rattle.rules.specs.Markup.{Attribute, Nodes}
+use Rattle.rules.specs.Basics.{ifSome, exists}
+use Rattle.rules.specs.Refusal.{Refusal, SHAPE, RULE, firstOf, _when_}
+use Rattle.rules.specs.Markup.{Attribute, Nodes, Element}
+use Rattle.rules.specs.Invariants.{isNull}
 use Rattle.rules.specs.Types.{Kind, lineOf}
-use Rattle.rules.specs.Judge.{Standing, attributeFaults, carries, childFaults}
+use Rattle.rules.specs.Judge.{Standing, attributeFaults, carries, lacks, breaksNull, elementFaults, kindOf, standingOf, childFaults}
 use Rattle.markup.specs.Attributes.{AttributesAt}
 use Rattle.element.specs.Places.{NodesAt}
+use Rattle.datatype.specs.Tables.{Step}
 
 -- the first fault of the attributes of an element of a kind, from a position on
 abbrev pub AttributeFaultsFrom : List ℕ → (shift : ℕ) → Standing → Kind → (at : ℕ) → Option Refusal → Type 0
@@ -23,3 +25,18 @@ OwnFrom s k at b = (l : List Attribute) → AttributesAt s at l → b ≡ exists
 -- the first fault of the children from a position on, of an element of a kind, where its row stands at a stage
 abbrev pub ChildFaultsFrom : List ℕ → (shift depth : ℕ) → Kind → (null : Bool) → (stage at : ℕ) → Option Refusal → Type 0
 ChildFaultsFrom s shift depth k null stage at o = (l : Nodes) → NodesAt s at depth l → o ≡ firstOf (childFaults shift k null stage l)
+
+-- the faults of an element of a kind, but for those of its children
+abbrev pub ownFaults : (shift : ℕ) → Standing → Kind → Element → List Refusal
+ownFaults shift p k v =
+    flatMap (attributeFaults shift p k) (v .attrs)
+    ++ SHAPE when exists (lacks (v .attrs)) (lineOf k .columns)
+    ++ RULE when (lineOf k .invariant shift (v .attrs) (v .kids) || breaksNull k (v .attrs) (v .kids))
+
+-- every fault of an element, of the kind k if it has one, and of what is inside it
+abbrev pub judged : (shift : ℕ) → Standing → Option Kind → Element → List Refusal
+judged shift p k v = elementFaults shift p k (v .attrs) (v .kids) (λ j. childFaults shift j (isNull (v .attrs)) 0 (v .kids))
+
+-- every fault of a child, by the step that it is; one that is none is SHAPE
+abbrev pub childJudged : (shift : ℕ) → Option Step → Element → List Refusal
+childJudged shift o v = ifSome o (λ t. judged shift (standingOf (t .kind)) (kindOf (t .kind) (v .attrs)) v) (SHAPE ∷ [])
