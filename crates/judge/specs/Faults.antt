@@ -1,15 +1,17 @@
 -- The first fault of what stands from a position of a record on, in the words of the rules ("The refusal ladder").
 use Prim.Native.Nat.{ℕ}
 use mathlib.Core.Path.{_≡_}
-use mathlib.Core.Bool.{Bool, _||_}
+use mathlib.Core.Bool.{Bool, not, _||_}
 use mathlib.Core.List.{List, [], _∷_, _++_, flatMap}
 use mathlib.Core.Option.{Option}
 use Rattle.rules.specs.Basics.{ifSome, exists}
-use Rattle.rules.specs.Refusal.{Refusal, SHAPE, RULE, firstOf, _when_}
+use Rattle.rules.specs.Refusal.{Refusal, TOO-LONG, NOT-UTF-8, SHAPE, RULE, firstOf, faultsIn, _when_}
 use Rattle.rules.specs.Markup.{Attribute, Nodes, Element}
 use Rattle.rules.specs.Invariants.{isNull}
 use Rattle.rules.specs.Types.{Kind, lineOf}
-use Rattle.rules.specs.Judge.{Standing, attributeFaults, carries, lacks, breaksNull, elementFaults, kindOf, standingOf, childFaults}
+use Rattle.rules.specs.Judge.{Standing, attributeFaults, carries, lacks, breaksNull, elementFaults, kindOf, standingOf, childFaults, topFaults}
+use Rattle.rules.specs.Utf8.{isUtf8}
+use Rattle.rules.specs.Check.{isTooLong, elementOf}
 use Rattle.markup.specs.Attributes.{AttributesAt}
 use Rattle.element.specs.Places.{NodesAt}
 use Rattle.datatype.specs.Tables.{Step}
@@ -40,3 +42,8 @@ judged shift p k v = elementFaults shift p k (v .attrs) (v .kids) (λ j. childFa
 -- every fault of a child, by the step that it is; one that is none is SHAPE
 abbrev pub childJudged : (shift : ℕ) → Option Step → Element → List Refusal
 childJudged shift o v = ifSome o (λ t. judged shift (standingOf (t .kind)) (kindOf (t .kind) (v .attrs)) v) (SHAPE ∷ [])
+
+-- every fault of any bytes as a record, but for OFFSET
+abbrev pub inputFaults : (shift : ℕ) → List ℕ → List Refusal
+inputFaults shift input =
+    TOO-LONG when isTooLong input ++ NOT-UTF-8 when not (isUtf8 input) ++ faultsIn (topFaults shift) (elementOf input)

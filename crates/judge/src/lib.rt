@@ -12,7 +12,7 @@ ghost use Rattle.refusal.specs.Meaning.{refusalOf, faultOf};
 ghost use Rattle.element.specs.Places.{ElementAt};
 ghost use Rattle.datatype.specs.Meaning.{kindMeant};
 ghost use Rattle.datatype.specs.Tables.{standingMeant, stepMeant};
-ghost use Rattle.judge.specs.Faults.{ownFaults, judged, childJudged, ChildFaultsFrom};
+ghost use Rattle.judge.specs.Faults.{inputFaults, ownFaults, judged, childJudged, ChildFaultsFrom};
 
 mod attributes;
 mod invariant;
@@ -169,7 +169,7 @@ fn member_fault(s: &[u8], at: usize, depth: usize, shift: u64) -> Verdict
 }
 
 // The first fault of a document; `shift` is 840 less the agreed offset in minutes.
-pub fn fault(s: &[u8], shift: u64) -> Verdict
+fn document_fault(s: &[u8], shift: u64) -> Verdict
     requires { ⌜ shift ≤ 1680 ⌝ }
     ensures { λ r. ⌜ ((v : Element) → document (now (s .entry)) ≡ some v → faultOf r ≡ firstOf (topFaults shift v)) ⌝ }
 {
@@ -179,4 +179,24 @@ pub fn fault(s: &[u8], shift: u64) -> Verdict
         return Verdict::Refused(Refusal::Type);
     };
     element_fault(s, at, DEPTH, kind, Standing::Top, shift)
+}
+
+// The longest record that is read, in bytes.
+const MOST: usize = 16_384;
+
+// The first fault of any bytes as a record; `shift` is 840 less the agreed offset in minutes.
+pub fn fault(input: &[u8], shift: u64) -> Verdict
+    requires { ⌜ shift ≤ 1680 ⌝ }
+    ensures { λ r. ⌜ faultOf r ≡ firstOf (inputFaults shift (now (input .entry))) ⌝ }
+{
+    if MOST < input.len() {
+        return Verdict::Refused(Refusal::TooLong);
+    }
+    if !text::is_utf8(input) {
+        return Verdict::Refused(Refusal::NotUtf8);
+    }
+    if !markup::is_document(input) {
+        return Verdict::Refused(Refusal::Markup);
+    }
+    document_fault(input, shift)
 }
