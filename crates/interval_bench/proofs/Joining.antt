@@ -1,19 +1,19 @@
 -- Sets joined one after another, and how many stretches a set has.
-use Prim.Native.Nat.{ℕ, zero, suc, _+_, _≤_}
+use Prim.Native.Nat.{ℕ, zero, suc, _+_}
 use mathlib.Core.Path.{_≡_, refl, sym, ap, ap₂, _∙_}
-use mathlib.Core.Bool.{Bool}
+use mathlib.Core.Bool.{_||_}
 use mathlib.Core.List.{List}
 use native.Mathlib.Omega.{arith}
 use native.Mathlib.Numerals.{add-one}
 use lib.ListN.{length, length-map, length-take}
-use Rattle.rules.specs.Sets.{Place, Interval, holds, Op, union, difference, apply, Expression, interval, combine, meant}
+use Rattle.rules.specs.Sets.{Interval, holds, Op, difference, apply, Expression, combine, meant}
 use Rattle.rules.specs.Stretches.{stretches}
 use Rattle.interval.specs.declared.Stretches.{Stretches}
 use Rattle.interval.specs.declared.Op.{Op as CodeOp}
-use Rattle.interval.specs.declared.Op.the-variants.{Union}
-use Rattle.interval.specs.Meaning.{opOf, intervalOf, used, Holds, applied}
+use Rattle.interval.specs.declared.Interval.{Interval as CodeInterval}
+use Rattle.interval.specs.Meaning.{opOf, intervalOf, used, Holds, applied, joinedBy}
 use Rattle.interval.proofs.Unique.{stretches-meant}
-use Rattle.interval_bench.specs.Counts.{pieceAt, joinedTo, operationBy}
+use Rattle.interval_bench.specs.Counts.{pieceAt, IsPiece, joinedTo, operationBy}
 
 -- an operation on two sets that have the places of two expressions
 pub applied-meant : (op : CodeOp) (o : Op) (a b r : Stretches) (d e : Expression) (m n k : ℕ) → opOf op ≡ o → Holds (meant d) m a → Holds (meant e) n b
@@ -25,25 +25,27 @@ applied-meant op o a b r d e m n k z p q h = record {
   short = h .short;
 }
 
--- the set of an interval has the places of the expression that is the interval
-pub single-meant : (v : Interval) (n : ℕ) (r : Stretches) → Holds (holds v) n r → Holds (meant (interval v)) n r
+-- the set of the first interval
+pub joined-first : (l : List ℕ) (from : ℕ) (v : CodeInterval) (r : Stretches) → IsPiece l from v → Holds (holds (intervalOf v)) 1 r → Holds (meant (joinedTo l from 0)) 1 r
 unfolding meant
-single-meant v n r h = record { canonical = h .canonical; places = h .places; short = h .short }
-
--- more stretches may be allowed
-pub holds-more : {p : Place → Bool} {m n : ℕ} {r : Stretches} → m ≤ n → Holds p m r → Holds p n r
-holds-more l h = record { canonical = h .canonical; places = h .places; short = omega (arith, h .short) }
+joined-first l from v r p h = record {
+  canonical = h .canonical;
+  places = λ x. h .places x ∙ ap (λ (w : Interval). holds w x) (p .means);
+  short = h .short;
+}
 
 -- one interval more is joined
-pub joined-more : (l : List ℕ) (from k : ℕ) (s one r : Stretches) → Holds (meant (joinedTo l from k)) (k + 1) s
-    → Holds (holds (pieceAt l (from + (k + 1) + (k + 1)))) 1 one → Holds (applied Union s one) (s .count + one .count) r
-    → Holds (meant (joinedTo l from (k + 1))) (k + 1 + 1) r
-joined-more l from k s one r p q h =
-    let b : s .count + one .count ≤ suc k + 1 = omega (arith, p .short, q .short) in
-    let v = pieceAt l (from + suc k + suc k) in
+pub joined-more : (l : List ℕ) (from k : ℕ) (s r : Stretches) (v : CodeInterval) → Holds (meant (joinedTo l from k)) (k + 1) s → IsPiece l (from + (k + 1) + (k + 1)) v
+    → Holds (joinedBy s v) (s .count + 1) r → Holds (meant (joinedTo l from (k + 1))) (k + 1 + 1) r
+unfolding meant
+joined-more l from k s r v h p j =
+    let e : intervalOf v ≡ pieceAt l (from + suc k + suc k) = rw (add-one k) at (p .means) in
     rw (add-one k)
-    (holds-more b
-    (applied-meant Union union s one r (joinedTo l from k) (interval v) (k + 1) 1 (s .count + one .count) refl p (single-meant v 1 one (rw (add-one k) at q)) h))
+    (record {
+      canonical = j .canonical;
+      places = λ x. j .places x ∙ ap₂ _||_ (h .places x) (ap (λ (w : Interval). holds w x) e);
+      short = omega (arith, j .short, h .short);
+    })
 
 -- a set has as many stretches as the expression whose places it has
 pub count-meant : (e : Expression) (n : ℕ) (s : Stretches) → length (s .items) ≡ 32 → Holds (meant e) n s → s .count ≡ length (stretches e)

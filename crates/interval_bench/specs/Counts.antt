@@ -1,16 +1,24 @@
 -- What the exported loops return, in the words of the rules ("Sets of times").
 use Prim.Native.Nat.{ℕ, zero, suc, _+_, _%_}
+use mathlib.Core.Path.{_≡_}
 use mathlib.Core.Bool.{cond}
 use mathlib.Core.List.{List}
 use lib.Dec.{ltb}
 use lib.ListN.{length, getD}
 use Rattle.rules.specs.Sets.{closedAt, openAt, Interval, _upto_, Op, union, intersection, difference, Expression, interval, combine}
 use Rattle.rules.specs.Stretches.{stretches}
-use Rattle.interval.specs.Meaning.{tickAt}
+use Rattle.interval.specs.declared.Interval.{Interval as CodeInterval}
+use Rattle.interval.specs.Meaning.{tickAt, intervalOf, Ticked}
 
 -- the interval from the number at a position to the next one, which it leaves out
 abbrev pub pieceAt : List ℕ → (at : ℕ) → Interval
 pieceAt l i = closedAt (tickAt (getD l i 0 % 1000000000000)) upto openAt (tickAt (getD l (i + 1) 0 % 1000000000000))
+
+-- v is that interval as code holds it
+pub record IsPiece (l : List ℕ) (at : ℕ) (v : CodeInterval) : Type 0 where
+  pub means : intervalOf v ≡ pieceAt l at
+  pub low : Ticked (v .low)
+  pub high : Ticked (v .high)
 
 -- the union of the intervals 0 to `last` that stand from a position on
 abbrev pub joinedTo : List ℕ → (from last : ℕ) → Expression

@@ -2,9 +2,9 @@
 ghost use mathlib.Core.Path.{_≡_};
 ghost use Prim.Native.Nat.{_+_, _%_, _<_, _≤_};
 ghost use lib.ListN.{length};
-ghost use Rattle.rules.specs.Sets.{holds, meant};
+ghost use Rattle.rules.specs.Sets.{meant};
 ghost use Rattle.interval.specs.Meaning.{opOf, Holds};
-ghost use Rattle.interval_bench.specs.Counts.{pieceAt, joinedTo, operationAt, pairsCount, joinsCount};
+ghost use Rattle.interval_bench.specs.Counts.{IsPiece, joinedTo, operationAt, pairsCount, joinsCount};
 use interval::Bound;
 use interval::Interval;
 use interval::Op;
@@ -17,17 +17,17 @@ fn tick(n: u64) -> u64
     n % 1000000000000
 }
 
-// The set of one interval, from the number at a position to the next one, which it leaves out.
-fn piece(ticks: &[u64], at: usize) -> Stretches
+// The interval from the number at a position to the next one, which it leaves out.
+fn piece(ticks: &[u64], at: usize) -> Interval
     requires { ⌜ at + 2 ≤ length (now ticks) ⌝ }
-    ensures { λ r. ⌜ Holds (holds (pieceAt (now (ticks .entry)) at)) 1 r ⌝ }
+    ensures { λ r. ⌜ IsPiece (now (ticks .entry)) at r ⌝ }
 {
     let low = tick(ticks[at]);
     let high = tick(ticks[at + 1]);
-    interval::single(Interval {
+    Interval {
         low: Bound::Closed(low),
         high: Bound::Open(high),
-    })
+    }
 }
 
 // The union of the intervals 0 to `last` that stand from a position on, joined one after another.
@@ -35,12 +35,11 @@ fn joined(ticks: &[u64], from: usize, last: usize) -> Stretches
     requires { ⌜ last < 32 ⌝ ∗ ⌜ from + last + last + 2 ≤ length (now ticks) ⌝ }
     ensures { λ r. ⌜ Holds (meant (joinedTo (now (ticks .entry)) from last)) (last + 1) r ⌝ }
 {
-    let mut s = piece(ticks, from);
+    let mut s = interval::single(piece(ticks, from));
     let mut k = 0;
     while k < last {
         k += 1;
-        let one = piece(ticks, from + k + k);
-        s = interval::combine(Op::Union, s, one);
+        s = interval::with_interval(s, piece(ticks, from + k + k));
     }
     s
 }

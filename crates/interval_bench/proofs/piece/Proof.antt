@@ -1,10 +1,11 @@
 -- `interval_bench::piece` meets its contract.
+use mathlib.Core.Path.{refl}
+use native.Mathlib.Omega.{arith}
 use borrow.Author.Needs.{needs}
 use Rattle.interval_bench.proofs.piece.Statement.{statement}
 use Rattle.interval_bench.proofs.piece.Tie as tie
 use Rattle.interval_bench.proofs.piece.Reads as reads
 use Rattle.interval_bench.proofs.piece.Lts as lts
-use Rattle.interval.proofs.single.Reads as single-reads
 use Rattle.interval_bench.proofs.tick.Reads as tick-reads
 
 -- src/lib.rt:25:20
@@ -35,13 +36,13 @@ shared-slice-read-tick-2 c = search needs
 tick-requires-2 : tie.Need-tick-requires-2
 tick-requires-2 c κs = search needs
 
--- src/lib.rt:27:5
-single-requires : tie.Need-single-requires
-single-requires c κs = search needs
-
 -- src/lib.rt:21:1
 returns : tie.Need-returns
-returns c = rw (← c .before .before .before .tick .ensures, ← c .before .tick2 .ensures) (c .single .ensures)
+returns c = record {
+  means = rw (c .before .before .tick .ensures, c .tick2 .ensures) refl;
+  low = omega (arith, c .before .before .tick .ensures);
+  high = omega (arith, c .tick2 .ensures);
+}
 
 pub piece-spec : {M : Type 1} → statement M
 piece-spec =
@@ -54,5 +55,4 @@ piece-spec =
     mul-tick-2
     shared-slice-read-tick-2
     tick-requires-2
-    single-requires
     returns)
