@@ -20,7 +20,7 @@ program = target/host/rigcactus
 proved = $(shell find crates \( -name '*.rt' -o -name '*.antt' \) -not -path '*/must-fail/*') crates.txt
 services = rigcactus_cut rigcactus_tick
 c_api = target/tests/c_api_1 target/tests/c_api_2
-tests = target/tests/header_c $(c_api) target/tests/services target/tests/markup_stack
+tests = target/tests/header_c $(c_api) target/tests/services target/tests/markup_stack target/tests/markup_reader
 places = 0 16 32 48
 cxx = $(shell command -v $(CXX) 2> /dev/null)
 
@@ -77,6 +77,10 @@ target/tests/services: tests/services.rs tests/cut.rs tests/tick.rs tests/lent.r
 target/tests/markup_stack: tests/markup/stack.c $(markup_archive)
 	@mkdir -p $(@D)
 	$(CC) $(CFLAGS) -o $@ $< $(markup_archive)
+
+target/tests/markup_reader: tests/markup/reader.rs tests/random.rs $(markup_archive)
+	@mkdir -p $(@D)
+	$(RUSTC) $(RUSTFLAGS) -o $@ $< -L native=target/staticlib -l static=markup_bench
 
 # Not among the tests: expat is asked for nowhere else.
 compare-expat: target/tests/compare_expat
