@@ -4,6 +4,7 @@
 #     make run      cuts names in several scripts and reads timestamps, for a reader to look at
 #     make test     tries the library, the header and the program
 #     make bench    compares speed with Rust's standard library and with glibc
+#     make compare-expat    compares the reader of markup with expat on a million texts; it needs expat
 #     make clean    removes target/
 
 RUSTC ?= rustc
@@ -13,6 +14,7 @@ RUSTFLAGS = --edition 2021 -O -D warnings
 LINK_RUST = -L native=target/staticlib -l static=rigcactus
 
 archive = target/staticlib/librigcactus.a
+markup_archive = target/staticlib/libmarkup_bench.a
 header = include/rigcactus.h
 program = target/host/rigcactus
 records = $(wildcard tests/records/*.txt)
@@ -20,11 +22,11 @@ proved = $(shell find crates \( -name '*.rt' -o -name '*.antt' \) -not -path '*/
 # The services that the archive has. Adding one here has tests/services.rs try it.
 services = rigcactus_cut rigcactus_tick
 c_api = target/tests/c_api_1 target/tests/c_api_2
-tests = target/tests/header_c $(c_api) target/tests/services
+tests = target/tests/header_c $(c_api) target/tests/services target/tests/markup_stack target/tests/markup_reader
 places = 0 16 32 48
 cxx = $(shell command -v $(CXX) 2> /dev/null)
 
-.PHONY: all run test bench clean
+.PHONY: all run test bench compare-expat clean
 .DELETE_ON_ERROR:
 .SECONDARY:
 
@@ -35,6 +37,11 @@ $(archive): $(proved)
 	@mkdir -p target
 	@echo 'proving and building $@'
 	@rt staticlib rigcactus > target/staticlib.out 2>&1 || { cat target/staticlib.out; exit 1; }
+
+$(markup_archive): $(proved)
+	@mkdir -p target
+	@echo 'proving and building $@'
+	@rt staticlib markup_bench > target/staticlib.out 2>&1 || { cat target/staticlib.out; exit 1; }
 
 $(program): host/rigcactus.c $(header) $(archive)
 	@mkdir -p $(@D)
@@ -68,6 +75,22 @@ $(c_api): %: %.c $(header) $(archive)
 target/tests/services: $(wildcard tests/*.rs) $(records) $(archive) Makefile
 	@mkdir -p $(@D)
 	$(RUSTC) $(RUSTFLAGS) $(services:%=--cfg %) -o $@ tests/services.rs $(LINK_RUST)
+
+target/tests/markup_stack: tests/markup/stack.c $(markup_archive)
+	@mkdir -p $(@D)
+	$(CC) $(CFLAGS) -o $@ $< $(markup_archive)
+
+target/tests/markup_reader: tests/markup/reader.rs tests/random.rs $(markup_archive)
+	@mkdir -p $(@D)
+	$(RUSTC) $(RUSTFLAGS) -o $@ $< -L native=target/staticlib -l static=markup_bench
+
+# Not among the tests: expat is asked for nowhere else.
+compare-expat: target/tests/compare_expat
+	target/tests/compare_expat
+
+target/tests/compare_expat: tests/markup/expat.c $(markup_archive)
+	@mkdir -p $(@D)
+	$(CC) $(CFLAGS) -o $@ $< $(markup_archive) -lexpat
 
 # The bench is linked with the services at four places, since their speed depends on that.
 bench: $(places:%=target/bench/%/cut) $(places:%=target/bench/%/tick)
