@@ -1,9 +1,9 @@
 # Rigcactus: the library, the program over it, and what tries them. All that is built lies below target/.
 #
 #     make          the library (proved first) and the program, target/host/rigcactus
-#     make run      cuts names in several scripts and reads timestamps, for a reader to look at
+#     make run      cuts names in several scripts, reads timestamps and checks records, for a reader to look at
 #     make test     tries the library, the header and the program
-#     make bench    compares speed with Rust's standard library and with glibc
+#     make bench    compares speed with Rust's standard library, with glibc and with expat
 #     make compare-expat    compares the reader of markup with expat on a million texts; it needs expat
 #     make clean    removes target/
 
@@ -20,11 +20,12 @@ program = target/host/rigcactus
 records = $(wildcard tests/records/*.txt)
 proved = $(shell find crates \( -name '*.rt' -o -name '*.antt' \) -not -path '*/must-fail/*') crates.txt
 # The services that the archive has. Adding one here has tests/services.rs try it.
-services = rigcactus_cut rigcactus_tick
-c_api = target/tests/c_api_1 target/tests/c_api_2
+services = rigcactus_cut rigcactus_tick rigcactus_check
+c_api = target/tests/c_api_1 target/tests/c_api_2 target/tests/c_api_3
 tests = target/tests/header_c $(c_api) target/tests/services target/tests/markup_stack target/tests/markup_reader
 places = 0 16 32 48
 cxx = $(shell command -v $(CXX) 2> /dev/null)
+expat = $(shell $(CC) -include expat.h -fsyntax-only -x c /dev/null 2> /dev/null && echo yes)
 
 .PHONY: all run test bench compare-expat clean
 .DELETE_ON_ERROR:
@@ -52,6 +53,8 @@ run: $(program)
 	@examples/cut.sh
 	@echo
 	@examples/tick.sh
+	@echo
+	@examples/check.sh
 
 test: $(program) $(tests) $(if $(cxx),target/tests/header_cxx)
 	tests/run
@@ -92,8 +95,9 @@ target/tests/compare_expat: tests/markup/expat.c $(markup_archive)
 	@mkdir -p $(@D)
 	$(CC) $(CFLAGS) -o $@ $< $(markup_archive) -lexpat
 
-# The bench is linked with the services at four places, since their speed depends on that.
-bench: $(places:%=target/bench/%/cut) $(places:%=target/bench/%/tick)
+# The bench is linked with the services at four places, since their speed depends on that. Without expat nothing is there to compare
+# checking with.
+bench: $(places:%=target/bench/%/cut) $(places:%=target/bench/%/tick) $(if $(expat),$(places:%=target/bench/%/check))
 	@bench/times
 	@bench/instructions
 
@@ -105,6 +109,9 @@ target/bench/%/cut: bench/cut.rs target/bench/%/librigcactus.a
 
 target/bench/%/tick: bench/tick.c $(header) target/bench/%/librigcactus.a
 	$(CC) $(CFLAGS) -Iinclude -o $@ $< $(@D)/librigcactus.a
+
+target/bench/%/check: bench/check.c $(header) target/bench/%/librigcactus.a
+	$(CC) $(CFLAGS) -Iinclude -o $@ $< $(@D)/librigcactus.a -lexpat
 
 clean:
 	rm -rf target
