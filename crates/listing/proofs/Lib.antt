@@ -1,0 +1,4 @@
+pub mod Bounds
+pub mod Shapes
+pub mod Joining
+pub mod Walking
