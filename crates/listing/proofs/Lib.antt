@@ -2,3 +2,6 @@ pub mod Bounds
 pub mod Shapes
 pub mod Joining
 pub mod Walking
+pub mod Placing
+pub mod Answering
+pub mod Serving

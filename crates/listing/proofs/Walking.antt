@@ -37,7 +37,7 @@ module _ (shift : ℕ) (attrs : List Attribute) (kids : Nodes) {w : Written} (to
   pub interval-known : {v : Interval} → w ≡ Is v → Says (answered (interval (intervalMeant v))) r → Says (intervalOf shift attrs kids andThen λ i. answered (interval i)) r
   interval-known {v} z s = let d : intervalOf shift attrs kids ≡ answered (intervalMeant v) = sym told ∙ ap writtenMeant z in rw d s
 
-shaped : (attrs : List Attribute) {h k : Shape} → h ≡ k → WritesAs attrs h → WritesAs attrs k
+pub shaped : (attrs : List Attribute) {h k : Shape} → h ≡ k → WritesAs attrs h → WritesAs attrs k
 shaped attrs z w = subst (WritesAs attrs) z w
 
 -- an element
