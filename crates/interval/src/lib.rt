@@ -155,6 +155,14 @@ fn is_within(v: Interval, x: u64) -> bool
     (low_edge(low) <= x) & (x < high_edge(high))
 }
 
+// Whether a tick, or the gap after it, is in an interval.
+pub fn is_in(v: Interval, n: u64, gap: bool) -> bool
+    requires { ⌜ Ticked (v .low) ⌝ ∗ ⌜ Ticked (v .high) ⌝ ∗ ⌜ n < 2 ^ 60 ⌝ }
+    ensures { λ r. ⌜ r ≡ holds (intervalOf v) (placeOf n gap) ⌝ }
+{
+    is_within(v, place_number(n, gap))
+}
+
 // Whether a tick, or the gap after it, is in a set.
 pub fn contains(s: Stretches, n: u64, gap: bool) -> bool
     requires { ⌜ Canonical s ⌝ ∗ ⌜ n < 2 ^ 60 ⌝ }
@@ -191,7 +199,7 @@ fn edge_numbers(s: Stretches) -> [u64; 65]
 }
 
 // Whether a place is in the outcome of an operation, by whether it is in the two sets.
-fn apply(op: Op, p: bool, q: bool) -> bool
+pub fn apply(op: Op, p: bool, q: bool) -> bool
     ensures { λ r. ⌜ r ≡ pageApply (opOf op) p q ⌝ }
 {
     match op {

@@ -47,7 +47,7 @@ no-operation attrs = go _ _ _ _ refl refl refl refl
     go false false false false f g h i e = (f, rw (g, h, i))
 
 module _ (shift room : ℕ) (e : Element) where
-  element-unlisted : isListed e ≡ false → (listElement shift room e unless unlisted e) ≡ refused TYPE
+  pub element-unlisted : isListed e ≡ false → (listElement shift room e unless unlisted e) ≡ refused TYPE
   unfolding listElement setFrom firstOf rankIn
   element-unlisted l = let (f, g) = no-operation (e .attrs) l in rw (l, f, g) (go (isNull (e .attrs)))
     where
@@ -56,15 +56,15 @@ module _ (shift room : ℕ) (e : Element) where
       go true = refl
       go false = refl
 
-  element-listed : isListed e ≡ true → (listElement shift room e unless unlisted e) ≡ listElement shift room e
+  pub element-listed : isListed e ≡ true → (listElement shift room e unless unlisted e) ≡ listElement shift room e
   element-listed l = rw l (unless-none (listElement shift room e))
 
-  element-unclear : {r : Refusal} → setOf shift e ≡ refused r → listElement shift room e ≡ refused r
+  pub element-unclear : {r : Refusal} → setOf shift e ≡ refused r → listElement shift room e ≡ refused r
   unfolding listElement
   element-unclear h = rw h
 
   module _ (s : Expression) (known : setOf shift e ≡ answered s) where
-    element-too-many : 32 < intervalsWritten e → listElement shift room e ≡ refused TOO-MANY
+    pub element-too-many : 32 < intervalsWritten e → listElement shift room e ≡ refused TOO-MANY
     unfolding listElement firstOf rankIn
     element-too-many l = rw (known, lt-ltb 32 (intervalsWritten e) l) (go (ltb room (length (stretches s))))
       where
@@ -72,11 +72,11 @@ module _ (shift room : ℕ) (e : Element) where
         go true = refl
         go false = refl
 
-    element-no-room : intervalsWritten e ≤ 32 → room < length (stretches s) → listElement shift room e ≡ refused NO-ROOM
+    pub element-no-room : intervalsWritten e ≤ 32 → room < length (stretches s) → listElement shift room e ≡ refused NO-ROOM
     unfolding listElement firstOf rankIn
     element-no-room f l = rw (known, le-ltb 32 (intervalsWritten e) f, lt-ltb room (length (stretches s)) l)
 
-    element-listing : intervalsWritten e ≤ 32 → length (stretches s) ≤ room → listElement shift room e ≡ answered (stretches s)
+    pub element-listing : intervalsWritten e ≤ 32 → length (stretches s) ≤ room → listElement shift room e ≡ answered (stretches s)
     unfolding listElement firstOf
     element-listing f l = rw (known, le-ltb 32 (intervalsWritten e) f, le-ltb room (length (stretches s)) l)
 
@@ -120,7 +120,7 @@ module _ (offset : ℤ) (room : ℕ) (input : List ℕ) where
     listing-unlisted l = listing-accepted ∙ element-unlisted (shiftBy offset) room e l
 
     module _ (listed : isListed e ≡ true) where
-      listing-listed : listing offset room input ≡ listElement (shiftBy offset) room e
+      pub listing-listed : listing offset room input ≡ listElement (shiftBy offset) room e
       listing-listed = listing-accepted ∙ element-listed (shiftBy offset) room e listed
 
       -- a null set or interval, or an unknown bound

@@ -15,11 +15,11 @@ use Rattle.rules.specs.Listing.{intervalOf, operationOf, setFrom, member
 use Rattle.rules.specs.ListingPromise.{together, isWithin, meansPlace, meanPlace, isMeant}
 
 -- the members one after another, from the first on
-abbrev folded : Op → Bool → List Bool → Bool
+abbrev pub folded : Op → Bool → List Bool → Bool
 folded o b [] = b
 folded o b (c ∷ cs) = folded o (apply o b c) cs
 
-folded-together : (o : Op) (b : Bool) (bs : List Bool) → folded o b bs ≡ together o (b ∷ bs)
+pub folded-together : (o : Op) (b : Bool) (bs : List Bool) → folded o b bs ≡ together o (b ∷ bs)
 unfolding exists every
 folded-together union b [] = sym (or-false b)
 folded-together union true (c ∷ cs) = folded-together union true cs

@@ -1,0 +1,4 @@
+pub mod Bounds
+pub mod Sets
+pub mod Places
+pub mod Answers
