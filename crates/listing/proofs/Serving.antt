@@ -22,7 +22,7 @@ use Rattle.rules.proofs.ListingCases.{check-faultless, listing-listed, listing-
 use Rattle.refusal.specs.Meaning.{refusalOf}
 use Rattle.listing.specs.declared.Listed.{Listed}
 use Rattle.listing.specs.declared.Listed.the-variants.{Count, Refused}
-use Rattle.listing.specs.Answers.{listedMeant, Answers}
+use Rattle.listing.specs.Answers.{listedMeant, packedListed, Answers}
 
 -- a text that is no document is refused before TYPE
 no-element-early : (offset : ℤ) (input : List ℕ) (r : Refusal) → check offset input ≡ refused r → document input ≡ none → rank r ≤ rank MARKUP
@@ -30,11 +30,6 @@ unfolding recordFaults
 no-element-early offset input r faulty d =
     first-is (recordFaults offset input) r .0 (check-refused offset input r .0 faulty) .1 MARKUP
     (Memᴰ·append-right (OFFSET when not (isOffset offset) ++ TOO-LONG when isTooLong input ++ NOT-UTF-8 when not (isUtf8 input)) (rw d (List·Memᴰ·head refl)))
-
--- the answer as it is packed
-abbrev pub packedListed : Listed → ℕ
-packedListed (Count n) = n * 2 ^ 8
-packedListed (Refused r) = number (refusalOf r)
 
 packed-answer : (r : Listed) (o : Outcome (List Interval)) → listedMeant r ≡ (o andThen λ ss. answered (length ss)) → packedListed r ≡ packed length o
 packed-answer (Count n) (answered ss) e = let z : n ≡ length ss = cc in rw z refl

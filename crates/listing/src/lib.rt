@@ -11,7 +11,7 @@ ghost use Rattle.rules.specs.Listing.{listElement};
 ghost use Rattle.rules.specs.Services.{roomOf};
 ghost use Rattle.rules.specs.ListingPromise.{isListed, isMeant};
 ghost use Rattle.interval.specs.Meaning.{placeOf};
-ghost use Rattle.listing.specs.Answers.{Kept, Answers};
+ghost use Rattle.listing.specs.Answers.{Few, Kept, Answers};
 
 pub mod bound;
 pub mod place;
@@ -58,6 +58,7 @@ pub fn list(s: &[u8], shift: u64, out: &mut [u8]) -> Listed
     requires { ⌜ shift ≤ 1680 ⌝ }
     ensures kept { λ r. ⌜ Kept r (now (out .entry)) (now (out .exit)) ⌝ }
     ensures tells { λ r. ⌜ ((e : Element) → document (now (s .entry)) ≡ some e → topFaults shift e ≡ [] → isListed e ≡ true → Answers (listElement shift (roomOf (now (out .entry))) e) (now (out .entry)) r (now (out .exit))) ⌝ }
+    ensures few { λ r. ⌜ Few r ⌝ }
 {
     let at = root(s);
     let written = set::evaluate(s, at, DEPTH, shift);

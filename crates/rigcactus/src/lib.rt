@@ -4,12 +4,15 @@ ghost use mathlib.Core.Bool.{true};
 ghost use Prim.Native.Nat.{_<_, _≤_, _^_};
 ghost use lib.IntN.{subℕ};
 ghost use Rattle.rules.specs.Basics.{ifSome};
-ghost use Rattle.rules.specs.Refusal.{number as pageNumber};
+ghost use Rattle.rules.specs.Refusal.{number as pageNumber, firstOf};
 ghost use Rattle.rules.specs.Timestamp.{beforeStart};
 ghost use Rattle.rules.specs.Check.{isOffset, shiftBy};
-ghost use Rattle.rules.specs.Services.{packed, checkAnswer, cutAnswer, tickAnswer, tickAfter};
+ghost use Rattle.rules.specs.Services.{packed, checkAnswer, listAnswer, listAfter, cutAnswer, tickAnswer, tickAfter};
 ghost use Rattle.refusal.specs.Meaning.{faultOf};
 ghost use Rattle.timestamp.specs.Moments.{outcomeOf};
+ghost use Rattle.listing.specs.Answers.{Few, packedListed};
+ghost use Rattle.rigcactus.specs.Faults.{listingFaults};
+use listing::Listed;
 use refusal::Refusal;
 use refusal::Verdict;
 use timestamp::Timestamp;
@@ -66,6 +69,48 @@ pub extern "C" fn rigcactus_check(record: &[u8], offset: i64) -> u64
         return refusal::number(Refusal::Offset);
     }
     verdict_number(judge::fault(record, shift_of(offset)))
+}
+
+// The first fault of a record that is to be listed; `shift` is 840 less the agreed offset in minutes.
+fn listing_fault(record: &[u8], shift: u64) -> Verdict
+    requires { ⌜ shift ≤ 1680 ⌝ }
+    ensures { λ r. ⌜ faultOf r ≡ firstOf (listingFaults shift (now («record» .entry))) ⌝ }
+{
+    let fault = judge::fault(record, shift);
+    if listing::is_listed(record) {
+        return fault;
+    }
+    refusal::first(fault, Verdict::Refused(Refusal::Type))
+}
+
+// The packed answer on a listing.
+fn listed_number(listed: Listed) -> u64
+    requires { ⌜ Few listed ⌝ }
+    ensures { λ r. ⌜ r ≡ packedListed listed ⌝ }
+{
+    match listed {
+        Listed::Count(n) => (n as u64) * 256,
+        Listed::Refused(r) => refusal::number(r),
+    }
+}
+
+// Lists a set of times. Bits 0 to 7 of the answer are the refusal's number, 0 if the record is accepted; the other bits are the count of
+// its stretches, which the list then begins with: four numbers each, eight bytes a number, lowest first. A refusal leaves the list as it was.
+#[no_mangle]
+pub extern "C" fn rigcactus_list(record: &[u8], offset: i64, list: &mut [u8]) -> u64
+    ensures { λ r. ⌜ r ≡ listAnswer offset (now («record» .entry)) (now (list .entry)) ⌝ }
+    ensures { λ r. ⌜ now (list .exit) ≡ listAfter offset (now («record» .entry)) (now (list .entry)) ⌝ }
+{
+    if !is_offset(offset) {
+        return refusal::number(Refusal::Offset);
+    }
+    let shift = shift_of(offset);
+    let fault = listing_fault(record, shift);
+    if let Verdict::Refused(r) = fault {
+        return refusal::number(r);
+    }
+    let listed = listing::list(record, shift, list);
+    listed_number(listed)
 }
 
 // The page's signed tick of a moment's start.

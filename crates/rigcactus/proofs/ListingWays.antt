@@ -1,0 +1,107 @@
+-- The ways through the listing service.
+use Prim.Native.Nat.{ℕ}
+use mathlib.Core.Path.{_≡_, refl, sym, _∙_, ap}
+use mathlib.Core.Bool.{Bool, true, false, not}
+use mathlib.Core.List.{List, [], _∷_, _++_}
+use mathlib.Core.Option.{Option, none, some}
+use native.Mathlib.Omega.{arith}
+use lib.IntN.{ℤ}
+use Rattle.rules.specs.Basics.{ifSome}
+use Rattle.rules.specs.Refusal.{Refusal, OFFSET, TOO-LONG, NOT-UTF-8, MARKUP, TYPE, number, rankIn, earlier, firstOf, Outcome, answered, refused, faultsIn, _when_}
+use Rattle.rules.specs.Markup.{Element, document}
+use Rattle.rules.specs.Utf8.{isUtf8}
+use Rattle.rules.specs.Judge.{topFaults}
+use Rattle.rules.specs.Check.{isOffset, shiftBy, isTooLong, elementOf, recordFaults, check}
+use Rattle.rules.specs.Listing.{unlisted, listElement}
+use Rattle.rules.specs.ListingPromise.{isListed}
+use Rattle.rules.specs.Services.{listing, roomOf}
+use Rattle.rules.proofs.Tests.{clash}
+use Rattle.rules.proofs.Precedence.{firstOf-append, earlier-assoc, earlier-none-right, no-fault, check-refused, check-answered}
+use Rattle.rules.proofs.ListingCases.{listing-unlisted, listing-faulty, listing-faulty-early}
+use Rattle.judge.specs.Faults.{inputFaults}
+use Rattle.listing.specs.Answers.{packedListed, Answers}
+use Rattle.listing.specs.declared.Listed.{Listed}
+use Rattle.listing.proofs.Serving.{Serves, serves-list}
+use Rattle.rigcactus.specs.Faults.{listingFaults}
+use Rattle.rigcactus.proofs.Checking.{record-offset, record-input}
+
+-- the first fault of what is to be listed, from the first as a record and from whether its type can be listed
+module _ (shift : ℕ) (input : List ℕ) {b : Bool} {x : Option Refusal} (told : (e : Element) → document input ≡ some e → b ≡ isListed e)
+    (fault : x ≡ firstOf (inputFaults shift input)) where
+  outer : List Refusal
+  outer = TOO-LONG when isTooLong input ++ NOT-UTF-8 when not (isUtf8 input)
+
+  -- MARKUP is there once more
+  twice : (q : Refusal) → earlier (some MARKUP) (some q) ≡ some MARKUP → (a : List Refusal) → earlier (firstOf (a ++ (MARKUP ∷ []))) (some q) ≡ firstOf (a ++ (MARKUP ∷ []))
+  unfolding firstOf
+  twice q h a = rw (firstOf-append a (MARKUP ∷ [])) (earlier-assoc (firstOf a) (some MARKUP) (some q) ∙ ap (earlier (firstOf a)) h)
+
+  pub fault-listed : b ≡ true → x ≡ firstOf (listingFaults shift input)
+  unfolding firstOf rankIn outer
+  fault-listed t = fault ∙ sym (firstOf-append (inputFaults shift input) _ ∙ go (document input) refl)
+    where
+      go : (o : Option Element) → document input ≡ o
+          → earlier (firstOf (outer ++ faultsIn (topFaults shift) (ifSome o answered (refused MARKUP)))) (firstOf (faultsIn unlisted (ifSome o answered (refused MARKUP))))
+          ≡ firstOf (outer ++ faultsIn (topFaults shift) (ifSome o answered (refused MARKUP)))
+      go none d = twice MARKUP refl outer
+      go (some e) d = rw (sym (told e d) ∙ t) (earlier-none-right _)
+
+  pub fault-unlisted : b ≡ false → {y : Option Refusal} → y ≡ earlier x (some TYPE) → y ≡ firstOf (listingFaults shift input)
+  unfolding firstOf rankIn outer
+  fault-unlisted t {y} h = h ∙ ap (λ (z : Option Refusal). earlier z (some TYPE)) fault ∙ sym (firstOf-append (inputFaults shift input) _ ∙ go (document input) refl)
+    where
+      go : (o : Option Element) → document input ≡ o
+          → earlier (firstOf (outer ++ faultsIn (topFaults shift) (ifSome o answered (refused MARKUP)))) (firstOf (faultsIn unlisted (ifSome o answered (refused MARKUP))))
+          ≡ earlier (firstOf (outer ++ faultsIn (topFaults shift) (ifSome o answered (refused MARKUP)))) (some TYPE)
+      go none d = twice MARKUP refl outer ∙ sym (twice TYPE refl outer)
+      go (some e) d = rw (sym (told e d) ∙ t)
+
+module _ (offset : ℤ) (input list : List ℕ) where
+  serves : {q : Refusal} → listing offset (roomOf list) input ≡ refused q → Serves offset input list (number q) list
+  serves h = record { answers = rw h; leaves = rw h }
+
+  pub list-offset : isOffset offset ≡ false → Serves offset input list (number OFFSET) list
+  unfolding rankIn
+  list-offset e = serves (listing-faulty-early offset (roomOf list) input OFFSET (check-refused offset input OFFSET .1 (record-offset offset input e)) (omega arith))
+
+  module _ {shift : ℕ} (fine : isOffset offset ≡ true) (by : shift ≡ shiftBy offset) where
+    split : {o : Option Refusal} → o ≡ firstOf (listingFaults shift input) → o ≡ earlier (firstOf (recordFaults offset input)) (firstOf (faultsIn unlisted (elementOf input)))
+    split h = h ∙ firstOf-append (inputFaults shift input) _ ∙ rw (by, ← record-input offset input fine)
+
+    -- a record that is accepted has no fault but for its type
+    type-fault : (e : Element) → check offset input ≡ answered e → {o : Option Refusal} → o ≡ firstOf (listingFaults shift input) → o ≡ firstOf (TYPE when not (isListed e))
+    unfolding firstOf
+    type-fault e a h = let (d, n) = check-answered offset input e .0 a in split h ∙ rw (n, d)
+
+    pub list-refused : {q : Refusal} → some q ≡ firstOf (listingFaults shift input) → Serves offset input list (number q) list
+    unfolding firstOf
+    list-refused {q} h = go (check offset input) refl
+      where
+        typed : (e : Element) → check offset input ≡ answered e → (b : Bool) → isListed e ≡ b → some q ≡ firstOf (TYPE when not b) → Serves offset input list (number q) list
+        typed e a true l z = clash (cc)
+        typed e a false l z = let w : TYPE ≡ q = cc in rw (← w) (serves (listing-unlisted offset (roomOf list) input e a l))
+
+        go : (o : Outcome Element) → check offset input ≡ o → Serves offset input list (number q) list
+        go (refused r) f = serves (listing-faulty offset (roomOf list) input r f (sym (split h ∙ rw (check-refused offset input r .0 f))))
+        go (answered e) a = typed e a (isListed e) refl (type-fault e a h)
+
+    pub list-answered : {r : Listed} {after : List ℕ} → none ≡ firstOf (listingFaults shift input)
+        → ((e : Element) → document input ≡ some e → topFaults shift e ≡ [] → isListed e ≡ true → Answers (listElement shift (roomOf list) e) list r after)
+        → Serves offset input list (packedListed r) after
+    unfolding firstOf
+    list-answered {r} {after} h tells = go (check offset input) refl
+      where
+        some-earlier : (q : Refusal) (o : Option Refusal) → {A : Type 0} → none ≡ earlier (some q) o → A
+        some-earlier q none z = clash (cc)
+        some-earlier q (some p) z = clash (cc)
+
+        typed : (b : Bool) → none ≡ firstOf (TYPE when not b) → b ≡ true
+        typed true z = refl
+        typed false z = clash (cc)
+
+        only : (e : Element) → check offset input ≡ answered e → (d : Element) → document input ≡ some d → e ≡ d
+        only e a d z = ap (λ (o : Option Element). ifSome o (λ x. x) e) (sym (check-answered offset input e .0 a .0) ∙ z)
+
+        go : (o : Outcome Element) → check offset input ≡ o → Serves offset input list (packedListed r) after
+        go (refused q) f = some-earlier q (firstOf (faultsIn unlisted (elementOf input))) (split h ∙ rw (check-refused offset input q .0 f))
+        go (answered e) a = serves-list offset input list {b = true} (λ d z. rw (← only e a d z) (sym (typed (isListed e) (type-fault e a h)))) e a refl {r = r} {after = after} (rw (← by) tells)
