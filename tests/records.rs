@@ -40,7 +40,7 @@ fn digits(random: &mut Random, least: usize, most: usize) -> String {
 }
 
 /// A text that is not empty.
-fn text(random: &mut Random) -> String {
+pub fn text(random: &mut Random) -> String {
     (0..random.from(1, 6)).map(|_| random.one_of(&CHARACTERS)).collect()
 }
 
@@ -67,7 +67,7 @@ pub fn timestamp(random: &mut Random) -> String {
     text
 }
 
-fn oid(random: &mut Random) -> String {
+pub fn oid(random: &mut Random) -> String {
     let first = random.below(3);
     let second = if first < 2 { random.one_of(&[0, 1, 9, 10, 39]) } else { random.one_of(&[0, 39, 40, 999]) };
     let mut oid = format!("{first}.{second}");
@@ -83,7 +83,7 @@ fn oid(random: &mut Random) -> String {
     oid
 }
 
-fn amount(random: &mut Random) -> String {
+pub fn amount(random: &mut Random) -> String {
     let sign = if random.once_in(3) { "-" } else { "" };
     let most = if random.once_in(3) { 12 } else { 3 };
     let whole = if random.once_in(8) { "999999999999".to_string() } else { digits(random, 1, most) };
@@ -91,11 +91,11 @@ fn amount(random: &mut Random) -> String {
     format!("{sign}{whole}{fraction}")
 }
 
-fn currency(random: &mut Random) -> String {
+pub fn currency(random: &mut Random) -> String {
     (0..3).map(|_| (b'A' + random.below(26) as u8) as char).collect()
 }
 
-fn qualifiers(random: &mut Random) -> String {
+pub fn qualifiers(random: &mut Random) -> String {
     let without = random.one_of(&["PFX", "SFX"]);
     let mut chosen = Vec::new();
     while chosen.is_empty() || random.once_in(2) {

@@ -9,11 +9,14 @@
 //! status is 1 where a service and the other implementation differ, or where some answer hardly occurred, and 2 for bad usage.
 
 mod check;
+mod compare;
 mod cut;
 mod faults;
 mod lent;
+mod likeness;
 mod list;
 mod markup;
+mod pairs;
 mod places;
 mod random;
 mod records;
@@ -31,8 +34,8 @@ pub struct Options {
 }
 
 /// What tries each service, and says whether it agrees with the other implementation.
-const SERVICES: [(&str, fn(&Options) -> bool); 4] =
-    [("cut", cut::run), ("tick", tick::run), ("check", check::run), ("list", list::run)];
+const SERVICES: [(&str, fn(&Options) -> bool); 5] =
+    [("cut", cut::run), ("tick", tick::run), ("check", check::run), ("list", list::run), ("compare", compare::run)];
 
 fn options() -> Option<Options> {
     let mut options = Options { cases: 1_000_000, seed: 1, only_made: false, service: None };

@@ -37,7 +37,7 @@ struct Day {
 
 const FIRST_DAY: Day = Day { year: 1, month: 1, day: 1, before: 0 };
 
-fn month_length(year: usize, month: usize) -> usize {
+pub fn month_length(year: usize, month: usize) -> usize {
     match month {
         2 if year % 400 == 0 => 29,
         2 if year % 100 == 0 => 28,
