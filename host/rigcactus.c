@@ -15,6 +15,12 @@
 /* How the program ends: its exit status, which each function below gives back as an int. */
 enum { ACCEPTED = 0, REFUSED = 1, BAD_USAGE = 2, FAILED = 3 };
 
+/* What may follow the arguments of a command. */
+struct options {
+    int64_t offset;           /* --offset MINUTES, 0 if not given */
+    bool raw;                 /* --raw */
+};
+
 struct command {
     const char *name;
     const char *arguments;    /* as the usage text has them */
@@ -22,7 +28,8 @@ struct command {
     int argument_count;
     bool takes_more;          /* whether there may be more arguments than that */
     bool takes_offset;        /* whether --offset MINUTES may follow the arguments */
-    int (*run)(int argument_count, char **arguments, int64_t offset);
+    bool takes_raw;           /* whether --raw may follow the arguments */
+    int (*run)(int argument_count, char **arguments, const struct options *options);
 };
 
 /* An input. One byte over the limit is enough to be refused, so no more than that is ever held. */
@@ -130,10 +137,10 @@ static int month_length(int year, int month)
 }
 
 /*
- * Writes a tick as a date and a time in UTC. An offset can move it into the year before 0001, which is written 0000, or into the
- * year 10000.
+ * Writes a tick as a date and a time in UTC, without the fraction of its second, and gives that back. An offset can move it into the year
+ * before 0001, which is written 0000, or into the year 10000.
  */
-static void write_instant(int64_t tick)
+static int write_seconds(int64_t tick)
 {
     int year = 0, month = 1;
     int64_t since = tick + year_length(0) * RIGCACTUS_TICKS_PER_DAY; /* from 0000-01-01 on: not below zero */
@@ -145,8 +152,19 @@ static void write_instant(int64_t tick)
     for (; day > month_length(year, month); month++)
         day -= month_length(year, month);
     int seconds = clock / (int)RIGCACTUS_TICKS_PER_SECOND;
-    printf("%04d-%02d-%02d %02d:%02d:%02d.%04d UTC", year, month, day, seconds / 3600, seconds / 60 % 60, seconds % 60,
-           clock % (int)RIGCACTUS_TICKS_PER_SECOND);
+    printf("%04d-%02d-%02d %02d:%02d:%02d", year, month, day, seconds / 3600, seconds / 60 % 60, seconds % 60);
+    return clock % (int)RIGCACTUS_TICKS_PER_SECOND;
+}
+
+/* Writes a tick as clocks at an offset show it, with the offset if it is not 0, and with the fraction of its second if there is one. */
+static void write_local(int64_t tick, int offset)
+{
+    int fraction = write_seconds(tick + offset * 60 * RIGCACTUS_TICKS_PER_SECOND);
+    if (fraction != 0)
+        printf(".%04d", fraction);
+    int distance = offset < 0 ? -offset : offset;
+    if (offset != 0)
+        printf(" %c%02d:%02d", offset < 0 ? '-' : '+', distance / 60, distance % 60);
 }
 
 /* The smallest unit that a timestamp of a precision writes. */
@@ -168,10 +186,10 @@ static const char *unit_name(int precision)
 
 /* ---- Commands ----------------------------------------------------------------------------------------------------- */
 
-static int run_cut(int argument_count, char **arguments, int64_t offset)
+static int run_cut(int argument_count, char **arguments, const struct options *options)
 {
     (void)argument_count;
-    (void)offset;
+    (void)options;
     uint64_t room;
     if (!read_number(arguments[0], &room))
         return say(BAD_USAGE, "ROOM is a number of bytes from 0 to 18446744073709551615, and not '%s'", arguments[0]);
@@ -189,11 +207,11 @@ static int run_cut(int argument_count, char **arguments, int64_t offset)
     return finish_output();
 }
 
-static int run_tick(int argument_count, char **arguments, int64_t offset)
+static int run_tick(int argument_count, char **arguments, const struct options *options)
 {
     (void)argument_count;
     int64_t tick;
-    uint64_t answer = rigcactus_tick((const uint8_t *)arguments[0], strlen(arguments[0]), offset, &tick);
+    uint64_t answer = rigcactus_tick((const uint8_t *)arguments[0], strlen(arguments[0]), options->offset, &tick);
     if (rigcactus_refusal(answer) != RIGCACTUS_ACCEPTED)
         return say_refused(answer);
 
@@ -201,8 +219,8 @@ static int run_tick(int argument_count, char **arguments, int64_t offset)
     printf("tick       %" PRId64 "\n", tick);
     printf("precision  %d digits, to the %s\n", precision, unit_name(precision));
     printf("instant    ");
-    write_instant(tick);
-    putchar('\n');
+    int fraction = write_seconds(tick);
+    printf(".%04d UTC\n", fraction);
     return finish_output();
 }
 
@@ -225,23 +243,70 @@ static int check_file(const char *name, int64_t offset)
 }
 
 /* Goes through all files. What ends worst decides how the program ends. */
-static int run_check(int argument_count, char **arguments, int64_t offset)
+static int run_check(int argument_count, char **arguments, const struct options *options)
 {
     int worst = ACCEPTED;
     for (int i = 0; i < argument_count; i++) {
-        int status = check_file(arguments[i], offset);
+        int status = check_file(arguments[i], options->offset);
         worst = status > worst ? status : worst;
     }
     int status = finish_output();
     return status > worst ? status : worst;
 }
 
+/* Writes a bound of a stretch, and whether the instant there belongs to it. */
+static void write_bound(int kind, int64_t tick, int offset, const char *unbounded)
+{
+    if (kind == RIGCACTUS_UNBOUNDED) {
+        fputs(unbounded, stdout);
+        return;
+    }
+    write_local(tick, offset);
+    fputs(kind == RIGCACTUS_CLOSED ? " (included)" : " (not included)", stdout);
+}
+
+/* Writes the line of a stretch. */
+static void write_stretch(struct rigcactus_stretch stretch, const struct options *options)
+{
+    if (options->raw) {
+        printf("%d %" PRId64 " %d %" PRId64 "\n", stretch.low_kind, stretch.low_tick, stretch.high_kind, stretch.high_tick);
+        return;
+    }
+    fputs("from ", stdout);
+    write_bound(stretch.low_kind, stretch.low_tick, (int)options->offset, "the beginning of time");
+    fputs(" to ", stdout);
+    write_bound(stretch.high_kind, stretch.high_tick, (int)options->offset, "the end of time");
+    putchar('\n');
+}
+
+static int run_list(int argument_count, char **arguments, const struct options *options)
+{
+    (void)argument_count;
+    struct input input;
+    int status = read_file(arguments[0], &input);
+    if (status != ACCEPTED)
+        return status;
+
+    uint8_t list[RIGCACTUS_MOST_LIST_BYTES];
+    uint64_t answer = rigcactus_list(input.bytes, input.length, options->offset, list, sizeof list);
+    if (rigcactus_refusal(answer) != RIGCACTUS_ACCEPTED)
+        return say_refused(answer);
+    for (size_t i = 0; i < rigcactus_count(answer); i++)
+        write_stretch(rigcactus_stretch_at(list, i), options);
+    if (rigcactus_count(answer) == 0 && !options->raw)
+        puts("no times");
+    return finish_output();
+}
+
 static const struct command commands[] = {
-    {"cut", "ROOM < FILE", "print the longest beginning of FILE that is whole characters and fits ROOM bytes", 1, false, false, run_cut},
+    {"cut", "ROOM < FILE", "print the longest beginning of FILE that is whole characters and fits ROOM bytes", 1, false, false, false,
+     run_cut},
     {"tick", "TEXT [--offset MINUTES]", "print the tick of the timestamp TEXT, its precision, and its instant in UTC", 1, false, true,
-     run_tick},
+     false, run_tick},
     {"check", "FILE.. [--offset MINUTES]", "print for the record in each FILE whether it is accepted, or what it is refused for", 1, true,
-     true, run_check},
+     true, false, run_check},
+    {"list", "FILE [--offset MINUTES] [--raw]", "print the times that the set in FILE means, a line for each stretch", 1, false, true, true,
+     run_list},
 };
 
 static const size_t command_count = sizeof commands / sizeof commands[0];
@@ -260,6 +325,8 @@ static void write_usage(FILE *to)
             "\n"
             "FILE is read as it is, a line feed at its end included, up to %d bytes. TEXT is the argument's bytes.\n"
             "MINUTES is the agreed offset from UTC, -%d to %d, for timestamps that carry none; it is 0 if not given.\n"
+            "list writes times as clocks at that offset show them; with --raw as four numbers: low kind, low tick, high kind, high\n"
+            "tick. Kinds are 0 unbounded, 1 not included, 2 included.\n"
             "What is refused is named, with its number: by check in the line of its FILE, else on standard error.\n"
             "\n"
             "Exit status: 0 accepted, 1 refused, 2 bad usage, 3 reading or writing failed.\n",
@@ -285,19 +352,29 @@ static bool fits(const struct command *command, int word_count, char **words)
     return word_count >= command->argument_count;
 }
 
-/* Runs a command on the words that follow its name. */
+/* Runs a command on the words that follow its name. Options come last, in any order, each once. */
 static int run(const struct command *command, int word_count, char **words)
 {
-    int64_t offset = 0;
-    if (command->takes_offset && word_count >= command->argument_count + 2 && strcmp(words[word_count - 2], "--offset") == 0) {
-        const char *minutes = words[word_count - 1];
-        if (!read_signed_number(minutes, &offset))
-            return say(BAD_USAGE, "MINUTES is a number, as 120 or -210, and not '%s'", minutes);
-        word_count -= 2;
+    struct options options = {0, false};
+    bool has_offset = false;
+    for (;;) {
+        int further = word_count - command->argument_count;
+        if (command->takes_raw && !options.raw && further >= 1 && strcmp(words[word_count - 1], "--raw") == 0) {
+            options.raw = true;
+            word_count -= 1;
+        } else if (command->takes_offset && !has_offset && further >= 2 && strcmp(words[word_count - 2], "--offset") == 0) {
+            const char *minutes = words[word_count - 1];
+            if (!read_signed_number(minutes, &options.offset))
+                return say(BAD_USAGE, "MINUTES is a number, as 120 or -210, and not '%s'", minutes);
+            has_offset = true;
+            word_count -= 2;
+        } else {
+            break;
+        }
     }
     if (!fits(command, word_count, words))
         return say(BAD_USAGE, "usage: rigcactus %s %s", command->name, command->arguments);
-    return command->run(word_count, words, offset);
+    return command->run(word_count, words, &options);
 }
 
 int main(int argc, char **argv)

@@ -44,6 +44,15 @@ extern "C" {
 /* The largest agreed offset, in minutes; the smallest is its negative. Those beyond are refused, as RIGCACTUS_OFFSET. */
 #define RIGCACTUS_MOST_OFFSET 840
 
+/* The most intervals that a listed set may have. One more is refused, as RIGCACTUS_TOO_MANY. */
+#define RIGCACTUS_MOST_INTERVALS 32
+
+/* How many bytes of a list a stretch takes: four numbers, eight bytes each. */
+#define RIGCACTUS_STRETCH_BYTES 32
+
+/* The length of a list, in bytes, that no answer needs more of: a set has never more stretches than intervals. */
+#define RIGCACTUS_MOST_LIST_BYTES (RIGCACTUS_MOST_INTERVALS * RIGCACTUS_STRETCH_BYTES)
+
 /* ---- Ticks -------------------------------------------------------------------------------------------------------- */
 
 /*
@@ -118,6 +127,49 @@ static inline int rigcactus_precision(uint64_t answer)
     return (answer >> 8) & 0xFF;
 }
 
+/* The count of stretches that an answer of rigcactus_list holds; 0 after a refusal. */
+static inline size_t rigcactus_count(uint64_t answer)
+{
+    return answer >> 8;
+}
+
+/* ---- Lists -------------------------------------------------------------------------------------------------------- */
+
+/* The kinds of a stretch's bounds: whether it has one, and whether the tick there belongs to the stretch. */
+enum rigcactus_bounds {
+    RIGCACTUS_UNBOUNDED = 0,  /* no bound: the stretch goes on without end. Its tick is given as 0 */
+    RIGCACTUS_OPEN = 1,       /* the stretch goes up to the tick, which does not belong to it */
+    RIGCACTUS_CLOSED = 2      /* the tick belongs to the stretch */
+};
+
+/* A stretch of a list: all times from its low to its high. Kinds are those of enum rigcactus_bounds. */
+struct rigcactus_stretch {
+    int low_kind;
+    int64_t low_tick;
+    int high_kind;
+    int64_t high_tick;
+};
+
+/* The number that stands at an index of a list, counted from 0: eight bytes, lowest first, at any address. */
+static inline int64_t rigcactus_number_at(const uint8_t *list, size_t index)
+{
+    uint64_t number = 0;
+    for (size_t i = 8; i > 0; i--)
+        number = number << 8 | list[8 * index + i - 1];
+    return number <= INT64_MAX ? (int64_t)number : -(int64_t)(UINT64_MAX - number) - 1;
+}
+
+/* The stretch that stands at an index of a list, counted from 0 to below the count that rigcactus_list gave. */
+static inline struct rigcactus_stretch rigcactus_stretch_at(const uint8_t *list, size_t index)
+{
+    struct rigcactus_stretch stretch;
+    stretch.low_kind = (int)rigcactus_number_at(list, 4 * index);
+    stretch.low_tick = rigcactus_number_at(list, 4 * index + 1);
+    stretch.high_kind = (int)rigcactus_number_at(list, 4 * index + 2);
+    stretch.high_tick = rigcactus_number_at(list, 4 * index + 3);
+    return stretch;
+}
+
 /* ---- Services ----------------------------------------------------------------------------------------------------- */
 
 /*
@@ -174,6 +226,31 @@ uint64_t rigcactus_tick(const uint8_t *text, size_t text_len, int64_t offset, in
  * RIGCACTUS_RULE.
  */
 uint64_t rigcactus_check(const uint8_t *record, size_t record_len, int64_t offset);
+
+/*
+ * Lists a set of times: writes the stretches that a record of type IVL_TS, QSU_TS, QSI_TS or QSD_TS means, earliest first. A
+ * stretch is a run of times without a break that cannot be made longer. Every time that the set means is in one of them, and no
+ * other time is. rigcactus_count of the answer says how many there are: 0 to RIGCACTUS_MOST_INTERVALS.
+ *
+ * record, record_len    the record, as for rigcactus_check.
+ * offset                the agreed offset, as for rigcactus_check.
+ * list, list_len        where the stretches go, and its length in bytes. There is room for list_len / RIGCACTUS_STRETCH_BYTES
+ *                       stretches, rounded down; RIGCACTUS_MOST_LIST_BYTES is always enough. It may start at any address, may be
+ *                       null with length 0, and must not overlap the record. A stretch is four numbers: low kind, low tick, high
+ *                       kind, high tick, eight bytes each, lowest first; rigcactus_stretch_at reads them. What lies beyond the
+ *                       stretches is unchanged, and after a refusal the whole list is.
+ *
+ * That the set is empty is a good answer, with count 0, and needs no room. Two ticks side by side do not touch: there is time
+ * between them, so [1,2] and [3,4] are two stretches, and [1,3) with [3,5] is one.
+ *
+ * Refusals: those of rigcactus_check; RIGCACTUS_TYPE also for a record of another type; then RIGCACTUS_UNKNOWN_BOUND for a set or
+ * interval that is null, or a bound that is missing, or null and not unbounded, anywhere in the record; RIGCACTUS_TOO_MANY for over
+ * RIGCACTUS_MOST_INTERVALS elements of type IVL_TS; RIGCACTUS_NO_ROOM for a list that is too short.
+ *
+ * 1 to 3 May 2024, three whole days, without the instant at noon of 2 May: count 2, and the numbers 2, 638501184000000, 1,
+ * 638502480000000, 1, 638502480000000, 1, 638503776000000.
+ */
+uint64_t rigcactus_list(const uint8_t *record, size_t record_len, int64_t offset, uint8_t *list, size_t list_len);
 
 #ifdef __cplusplus
 }

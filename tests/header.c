@@ -43,7 +43,7 @@ static void check_refusals(void)
     CHECK(is_name(12, "UNLISTED") && is_name(255, "UNLISTED") && is_name(-1, "UNLISTED"));
 }
 
-/* Bits 0 to 7 are the refusal; the other bits are the length, or bits 8 to 15 the precision. */
+/* Bits 0 to 7 are the refusal; the other bits are the length or the count, or bits 8 to 15 the precision. */
 static void check_helpers(void)
 {
     CHECK(rigcactus_refusal(0) == RIGCACTUS_ACCEPTED && rigcactus_length(0) == 0);
@@ -54,6 +54,8 @@ static void check_helpers(void)
     CHECK(rigcactus_precision(0) == 0 && rigcactus_precision(7) == 0);
     CHECK(rigcactus_precision(0x400) == 4 && rigcactus_precision(0x1200) == 18);
     CHECK(rigcactus_precision(0x3412FF) == 0x12 && rigcactus_precision(UINT64_MAX) == 255);
+    CHECK(rigcactus_count(0) == 0 && rigcactus_count(11) == 0);
+    CHECK(rigcactus_count(0x2000) == 32 && rigcactus_count(UINT64_MAX) == (UINT64_MAX >> 8));
 }
 
 static int is_cut(const uint8_t *text, size_t text_len, uint64_t room, size_t length)
@@ -205,6 +207,112 @@ static void check_check_limits(void)
     CHECK(memcmp(padded, kept, sizeof padded) == 0);
 }
 
+/* Numbers of eight bytes, lowest first, at any address; kinds and ticks of a stretch. */
+static void check_list_helpers(void)
+{
+    static const uint8_t list[] = {
+        0xAA, /* the list starts after it */
+        1, 2, 3, 4, 5, 6, 7, 8, 0xFF, 0xFF, 0xFF, 0xFF, 0xFF, 0xFF, 0xFF, 0xFF,
+        0, 0, 0, 0, 0, 0, 0, 0x80, 0xFF, 0xFF, 0xFF, 0xFF, 0xFF, 0xFF, 0xFF, 0x7F,
+        1, 0, 0, 0, 0, 0, 0, 0, 0xFE, 0xFF, 0xFF, 0xFF, 0xFF, 0xFF, 0xFF, 0xFF,
+        2, 0, 0, 0, 0, 0, 0, 0, 0, 1, 0, 0, 0, 0, 0, 0,
+    };
+    CHECK(rigcactus_number_at(list + 1, 0) == INT64_C(0x0807060504030201));
+    CHECK(rigcactus_number_at(list + 1, 1) == -1);
+    CHECK(rigcactus_number_at(list + 1, 2) == INT64_MIN && rigcactus_number_at(list + 1, 3) == INT64_MAX);
+    struct rigcactus_stretch stretch = rigcactus_stretch_at(list + 1, 1);
+    CHECK(stretch.low_kind == RIGCACTUS_OPEN && stretch.low_tick == -2);
+    CHECK(stretch.high_kind == RIGCACTUS_CLOSED && stretch.high_tick == 256);
+    CHECK(RIGCACTUS_UNBOUNDED == 0 && RIGCACTUS_OPEN == 1 && RIGCACTUS_CLOSED == 2);
+    CHECK(RIGCACTUS_MOST_INTERVALS == 32 && RIGCACTUS_STRETCH_BYTES == 32 && RIGCACTUS_MOST_LIST_BYTES == 1024);
+}
+
+#define DAYS "lowClosed=\"true\" highClosed=\"false\"><low value=\"20240501\"/><high value=\"20240504\"/>"
+#define NOON "lowClosed=\"true\" highClosed=\"true\"><low value=\"2024050212\"/><high value=\"2024050212\"/>"
+#define STAY \
+    "<stay xsi:type=\"QSD_TS\"><minuend xsi:type=\"IVL_TS\" " DAYS "</minuend><subtrahend xsi:type=\"IVL_TS\" " NOON "</subtrahend></stay>"
+
+/* A list, with bytes before it and after it, and what every byte is before each call. */
+enum { BESIDE = 64, FILL = 0x5C };
+static uint8_t lent[BESIDE + RIGCACTUS_MOST_LIST_BYTES + BESIDE];
+
+static uint64_t list_of(const char *record, int64_t offset, size_t list_len)
+{
+    memset(lent, FILL, sizeof lent);
+    return rigcactus_list((const uint8_t *)record, strlen(record), offset, lent + BESIDE, list_len);
+}
+
+/* Whether all bytes are as before, but for so many at the list's start. */
+static int is_kept(size_t written)
+{
+    for (size_t i = 0; i < sizeof lent; i++)
+        if ((i < BESIDE || i >= BESIDE + written) && lent[i] != FILL)
+            return 0;
+    return 1;
+}
+
+static int is_stretch(size_t index, int low_kind, int64_t low_tick, int high_kind, int64_t high_tick)
+{
+    struct rigcactus_stretch stretch = rigcactus_stretch_at(lent + BESIDE, index);
+    return stretch.low_kind == low_kind && stretch.low_tick == low_tick && stretch.high_kind == high_kind && stretch.high_tick == high_tick;
+}
+
+static int is_refused_list(const char *record, int64_t offset, size_t list_len, int refusal)
+{
+    return list_of(record, offset, list_len) == (uint64_t)refusal && is_kept(0);
+}
+
+/* The whole example of the rules page, in lists of several lengths; an offset; no stretch, with no list. */
+static void check_list(void)
+{
+    static const size_t lengths[] = {64, 65, 95, 96, 1024};
+    for (size_t i = 0; i < sizeof lengths / sizeof lengths[0]; i++) {
+        uint64_t answer = list_of(STAY, 0, lengths[i]);
+        CHECK(rigcactus_refusal(answer) == RIGCACTUS_ACCEPTED && rigcactus_count(answer) == 2);
+        CHECK(is_stretch(0, RIGCACTUS_CLOSED, INT64_C(638501184000000), RIGCACTUS_OPEN, INT64_C(638502480000000)));
+        CHECK(is_stretch(1, RIGCACTUS_OPEN, INT64_C(638502480000000), RIGCACTUS_OPEN, INT64_C(638503776000000)));
+        CHECK(is_kept(64));
+    }
+    CHECK(list_of("<t xsi:type=\"IVL_TS\" " DAYS "</t>", 840, 32) == 0x100 && is_kept(32));
+    CHECK(is_stretch(0, RIGCACTUS_CLOSED, INT64_C(638500680000000), RIGCACTUS_OPEN, INT64_C(638503272000000)));
+    CHECK(list_of("<t xsi:type=\"IVL_TS\"><low nullFlavor=\"NINF\"/><high nullFlavor=\"PINF\"/></t>", 0, 32) == 0x100 && is_kept(32));
+    CHECK(is_stretch(0, RIGCACTUS_UNBOUNDED, 0, RIGCACTUS_UNBOUNDED, 0));
+    static const char none[] = "<t xsi:type=\"IVL_TS\" lowClosed=\"true\" highClosed=\"false\"><low value=\"2024\"/><high value=\"2024\"/></t>";
+    CHECK(list_of(none, 0, 0) == 0 && is_kept(0));
+    CHECK(list_of(none, 0, 1024) == 0 && is_kept(0));
+    CHECK(rigcactus_list((const uint8_t *)none, strlen(none), 0, NULL, 0) == 0);
+}
+
+/* One record for each number that listing can give. */
+static void check_list_refusals(void)
+{
+    CHECK(is_refused_list(STAY, 0, 63, RIGCACTUS_NO_ROOM));
+    CHECK(is_refused_list(STAY, 0, 32, RIGCACTUS_NO_ROOM));
+    CHECK(is_refused_list(STAY, 0, 0, RIGCACTUS_NO_ROOM));
+    CHECK(is_refused_list(STAY, 841, 64, RIGCACTUS_OFFSET));
+    CHECK(is_refused_list(STAY "\xFF", 0, 64, RIGCACTUS_NOT_UTF8));
+    CHECK(is_refused_list(STAY STAY, 0, 64, RIGCACTUS_MARKUP));
+    CHECK(is_refused_list("<t xsi:type=\"MO\" value=\"12,50\"/>", 0, 64, RIGCACTUS_TYPE));
+    CHECK(is_refused_list("<t xsi:type=\"QSU_TS\"/>", 0, 64, RIGCACTUS_SHAPE));
+    CHECK(is_refused_list("<t xsi:type=\"IVL_TS\" lowClosed=\"yes\"/>", 0, 64, RIGCACTUS_VALUE));
+    CHECK(is_refused_list("<t xsi:type=\"IVL_TS\"><low value=\"2024\"/></t>", 0, 64, RIGCACTUS_RULE));
+    CHECK(is_refused_list("<t xsi:type=\"IVL_TS\"/>", 0, 64, RIGCACTUS_UNKNOWN_BOUND));
+
+    static char many[RIGCACTUS_MOST_BYTES + 1];
+    strcpy(many, "<t xsi:type=\"QSU_TS\">");
+    for (int i = 0; i < RIGCACTUS_MOST_INTERVALS; i++)
+        strcat(many, "<term xsi:type=\"IVL_TS\" " DAYS "</term>");
+    size_t length = strlen(many);
+    strcat(many, "</t>");
+    CHECK(list_of(many, 0, 32) == 0x100 && is_kept(32));
+    strcpy(many + length, "<term xsi:type=\"IVL_TS\" " NOON "</term></t>");
+    CHECK(is_refused_list(many, 0, 1024, RIGCACTUS_TOO_MANY));
+    length = strlen(many);
+    memset(many + length, ' ', sizeof many - length);
+    memset(lent, FILL, sizeof lent);
+    CHECK(rigcactus_list((const uint8_t *)many, sizeof many, 0, lent, 1024) == RIGCACTUS_TOO_LONG && is_kept(0));
+}
+
 int main(void)
 {
     check_refusals();
@@ -217,5 +325,8 @@ int main(void)
     check_tick_limits();
     check_check();
     check_check_limits();
+    check_list_helpers();
+    check_list();
+    check_list_refusals();
     return failures == 0 ? 0 : 1;
 }

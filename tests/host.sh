@@ -153,6 +153,57 @@ expect 3 '' 'rigcactus: cannot read none: No such file or directory' check none
 expect 3 'type: TYPE (5)\npass.xml: ACCEPTED\n' 'rigcactus: cannot read none: No such file or directory' check type none pass.xml
 expect 3 '' 'rigcactus: cannot read .: Is a directory' check .
 
+# Times: a line for each stretch, with two instants.
+midnight='2024-05-01 00:00:00'
+stay="from $midnight (included) to 2024-05-02 12:00:00 (not included)\\nfrom 2024-05-02 12:00:00 (not included) to 2024-05-04 00:00:00 (not included)\\n"
+expect 0 "$stay" '' list stay.xml
+expect 0 '2 638501184000000 1 638502480000000\n1 638502480000000 1 638503776000000\n' '' list stay.xml --raw
+expect 0 "from $midnight (included) to 2024-05-04 00:00:00 (not included)\\n" '' list pass.xml
+expect 0 'from 2024-05-01 09:00:00 (included) to 2024-05-01 12:00:00 (not included)\nfrom 2024-05-02 14:00:00 (included) to 2024-05-02 18:00:00 (not included)\n' '' list visits.xml
+expect 0 'from 2024-05-02 13:00:00 (included) to 2024-05-04 00:00:00 (not included)\n' '' list escorted.xml
+cp "$records/never.xml" "$records/open-end.xml" .
+expect 0 'no times\n' '' list never.xml
+expect 0 '' '' list never.xml --raw
+expect 0 "from $midnight (included) to 2024-12-25 00:00:00 (not included)\\nfrom 2024-12-26 00:00:00 (included) to the end of time\\n" '' list open-end.xml
+expect 0 '2 638501184000000 1 638706816000000\n2 638707680000000 0 0\n' '' list open-end.xml --raw
+
+# Times as clocks at the agreed offset show them, and the numbers, which are in UTC.
+expect 0 "from $midnight +02:00 (included) to 2024-05-04 00:00:00 +02:00 (not included)\\n" '' list pass.xml --offset 120
+expect 0 "from $midnight -03:30 (included) to 2024-05-04 00:00:00 -03:30 (not included)\\n" '' list pass.xml --offset -210
+expect 0 '2 638501112000000 1 638503704000000\n' '' list pass.xml --offset 120 --raw
+expect 0 '2 638501112000000 1 638503704000000\n' '' list pass.xml --raw --offset 120
+expect 0 "from $midnight (included) to 2024-05-04 00:00:00 (not included)\\n" '' list pass.xml --offset 0
+printf '<t xsi:type="IVL_TS" lowClosed="false" highClosed="true"><low value="00010101000000.0001"/><high value="99991231235959.9999"/></t>' > widest
+expect 0 'from 0001-01-01 00:00:00.0001 +14:00 (not included) to 9999-12-31 23:59:59.9999 +14:00 (included)\n' '' list widest --offset 840
+printf '<t xsi:type="IVL_TS" lowClosed="true" highClosed="true"><low value="0001010100+14"/><high value="99991231235959.9999-14"/></t>' > wider
+expect 0 'from 0000-12-30 20:00:00 -14:00 (included) to 9999-12-31 23:59:59.9999 -14:00 (included)\n' '' list wider --offset -840
+expect 0 'from 0001-01-01 00:00:00 +14:00 (included) to 10000-01-02 03:59:59.9999 +14:00 (included)\n' '' list wider --offset 840
+printf '<t xsi:type="IVL_TS"><low nullFlavor="NINF"/><high nullFlavor="PINF"/></t>' > all
+expect 0 'from the beginning of time to the end of time\n' '' list all
+expect 0 '0 0 0 0\n' '' list all --raw
+
+# 32 stretches, and one interval more.
+{
+  printf '<t xsi:type="QSU_TS">'
+  for i in {01..32}; do
+    printf '<term xsi:type="IVL_TS" lowClosed="true" highClosed="true"><low value="202405010000%s"/><high value="202405010000%s"/></term>' "$i" "$i"
+  done
+} > most
+{ cat most; printf '<term xsi:type="IVL_TS" lowClosed="true" highClosed="true"><low value="2024"/><high value="2024"/></term></t>'; } > too-many
+printf '</t>' >> most
+expect 0 "$(for i in {01..32}; do printf 'from 2024-05-01 00:00:%s (included) to 2024-05-01 00:00:%s (included)\\n' "$i" "$i"; done)" '' list most
+expect 1 '' 'rigcactus: refused: TOO MANY (10)' list too-many
+
+# Sets that are refused.
+expect 1 '' 'rigcactus: refused: UNKNOWN BOUND (9)' list "$records/refused-unknown-bound.xml"
+expect 1 '' 'rigcactus: refused: TYPE (5)' list deposit.xml
+expect 1 '' 'rigcactus: refused: TYPE (5)' list value
+expect 1 '' 'rigcactus: refused: RULE (8)' list rule --raw
+expect 1 '' 'rigcactus: refused: MARKUP (4)' list empty
+expect 1 '' 'rigcactus: refused: TOO LONG (2)' list /dev/zero
+expect 1 '' 'rigcactus: refused: OFFSET (1)' list pass.xml --offset 841
+expect 3 '' 'rigcactus: cannot read none: No such file or directory' list none
+
 # Bad usage.
 printf 'abc' > in
 expect 2 '' '*'
@@ -184,11 +235,21 @@ expect 2 '' '*' check pass.xml --raw
 expect 2 '' '*' check pass.xml --offset 0 stay.xml
 expect 2 '' '*' check pass.xml --offset 0 --offset 0
 
+expect 2 '' '*' list
+expect 2 '' '*' list pass.xml stay.xml
+expect 2 '' '*' list --offset 0 pass.xml
+expect 2 '' '*' list pass.xml --raw --raw
+expect 2 '' '*' list pass.xml --offset 0 --raw --offset 0
+expect 2 '' '*' list pass.xml --offset --raw
+expect 2 '' '*' list pass.xml --offset x
+expect 2 '' '*' tick 2024 --raw
+
 # Help, which is not an error.
 "$program" --help > out 2> err || fail '--help ended with an error'
 grep -q '^  cut ROOM < FILE$' out || fail '--help does not name the command cut'
 grep -q '^  tick TEXT \[--offset MINUTES\]$' out || fail '--help does not name the command tick'
 grep -q '^  check FILE.. \[--offset MINUTES\]$' out || fail '--help does not name the command check'
+grep -q '^  list FILE \[--offset MINUTES\] \[--raw\]$' out || fail '--help does not name the command list'
 [ ! -s err ] || fail '--help wrote to standard error'
 
 # Reading and writing that fail.
@@ -200,5 +261,7 @@ printf 'abc' | "$program" cut 3 > /dev/full 2> err
 [ $? -eq 3 ] || fail 'tick 2024 to a full device did not end with 3'
 "$program" check pass.xml > /dev/full 2> err
 [ $? -eq 3 ] || fail 'check pass.xml to a full device did not end with 3'
+"$program" list pass.xml > /dev/full 2> err
+[ $? -eq 3 ] || fail 'list pass.xml to a full device did not end with 3'
 
 [ "$failures" -eq 0 ]

@@ -34,7 +34,11 @@ impl Guarded {
         &self.memory[self.start..self.end]
     }
 
-    /// Whether the bytes and their guards are as they were placed.
+    pub fn bytes_mut(&mut self) -> &mut [u8] {
+        &mut self.memory[self.start..self.end]
+    }
+
+    /// Whether the bytes are these, and their guards as they were placed.
     pub fn is_unchanged(&self, bytes: &[u8]) -> bool {
         let guard = [self.guard; GUARD];
         let before = &self.memory[self.start - GUARD..self.start];

@@ -15,7 +15,7 @@ pub struct Maker<'a> {
 /// The longest record that is made, in bytes.
 pub const LONGEST: usize = 2 * MOST_BYTES;
 
-const SET_TYPES: [&str; 3] = ["QSU_TS", "QSI_TS", "QSD_TS"];
+pub const SET_TYPES: [&str; 3] = ["QSU_TS", "QSI_TS", "QSD_TS"];
 
 /// Names of elements that stand in records.
 const ELEMENT_NAMES: [&str; 9] = ["low", "high", "term", "minuend", "subtrahend", "displayName", "part", "width", "value"];
@@ -40,7 +40,7 @@ fn digits(random: &mut Random, least: usize, most: usize) -> String {
 }
 
 /// A text that is not empty.
-fn text(random: &mut Random) -> String {
+pub fn text(random: &mut Random) -> String {
     (0..random.from(1, 6)).map(|_| random.one_of(&CHARACTERS)).collect()
 }
 
@@ -67,7 +67,7 @@ pub fn timestamp(random: &mut Random) -> String {
     text
 }
 
-fn oid(random: &mut Random) -> String {
+pub fn oid(random: &mut Random) -> String {
     let first = random.below(3);
     let second = if first < 2 { random.one_of(&[0, 1, 9, 10, 39]) } else { random.one_of(&[0, 39, 40, 999]) };
     let mut oid = format!("{first}.{second}");
@@ -83,7 +83,7 @@ fn oid(random: &mut Random) -> String {
     oid
 }
 
-fn amount(random: &mut Random) -> String {
+pub fn amount(random: &mut Random) -> String {
     let sign = if random.once_in(3) { "-" } else { "" };
     let most = if random.once_in(3) { 12 } else { 3 };
     let whole = if random.once_in(8) { "999999999999".to_string() } else { digits(random, 1, most) };
@@ -91,11 +91,11 @@ fn amount(random: &mut Random) -> String {
     format!("{sign}{whole}{fraction}")
 }
 
-fn currency(random: &mut Random) -> String {
+pub fn currency(random: &mut Random) -> String {
     (0..3).map(|_| (b'A' + random.below(26) as u8) as char).collect()
 }
 
-fn qualifiers(random: &mut Random) -> String {
+pub fn qualifiers(random: &mut Random) -> String {
     let without = random.one_of(&["PFX", "SFX"]);
     let mut chosen = Vec::new();
     while chosen.is_empty() || random.once_in(2) {
@@ -104,7 +104,7 @@ fn qualifiers(random: &mut Random) -> String {
     chosen.join(" ")
 }
 
-fn flavor(random: &mut Random) -> &'static str {
+pub fn flavor(random: &mut Random) -> &'static str {
     random.one_of(&FLAVORS)
 }
 
@@ -153,8 +153,9 @@ impl Maker<'_> {
         }
     }
 
-    fn tick(&self, bound: &Option<Element>) -> Option<i64> {
-        let text = bound.as_ref()?.get("value")?;
+    /// The tick of a bound that has a value.
+    pub fn tick(&self, bound: &Element) -> Option<i64> {
+        let text = bound.get("value")?;
         tick::read(text, self.offset.clamp(-840, 840), self.calendar).map(|(tick, _)| tick)
     }
 
@@ -165,7 +166,8 @@ impl Maker<'_> {
         }
         let (mut low, low_flags) = self.bound("low", "NINF");
         let (mut high, high_flags) = self.bound("high", "PINF");
-        if self.tick(&low).zip(self.tick(&high)).is_some_and(|(l, h)| l > h) {
+        let ticks = [&low, &high].map(|bound| bound.as_ref().and_then(|b| self.tick(b)));
+        if ticks[0].zip(ticks[1]).is_some_and(|(l, h)| l > h) {
             std::mem::swap(&mut low, &mut high);
             low.as_mut().unwrap().name = "low".to_string();
             high.as_mut().unwrap().name = "high".to_string();
@@ -431,7 +433,7 @@ impl Maker<'_> {
         }
     }
 
-    fn damage(&mut self, record: &mut Element) {
+    pub fn damage(&mut self, record: &mut Element) {
         match self.random.below(32) {
             0..=4 => self.damage_attributes(record),
             5..=15 => self.damage_value(record),
@@ -498,7 +500,7 @@ impl Maker<'_> {
     }
 
     /// A record about as long as the limit: by white space at an end or between tags, or by a text.
-    fn long(&mut self, mut tree: Element) -> Vec<u8> {
+    pub fn long(&mut self, mut tree: Element) -> Vec<u8> {
         let length = self.random.from(MOST_BYTES - 2, MOST_BYTES + 2);
         let mut record = write(&tree, Spelling::PLAIN, self.random);
         let missing = length.saturating_sub(record.len());
@@ -572,7 +574,7 @@ const PIECES: [&str; 42] = [
     " nullFlavor=\"NI\"", " a = \"\"", " a=\"\"", "</ t>",
 ];
 
-fn damage_bytes(random: &mut Random, record: &mut Vec<u8>) {
+pub fn damage_bytes(random: &mut Random, record: &mut Vec<u8>) {
     let at = random.below(record.len() + 1);
     match random.below(10) {
         0..=3 => damage_list(random, record, |random| random.one_of(BYTES)),

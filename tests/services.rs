@@ -3,18 +3,24 @@
 //!
 //!     services [--cases N] [--seed S] [--only-made] [--service NAME]
 //!
-//! N is how many texts or records are made for each service (1000000), from the seed S (1). The same N and S make the same ones. Besides,
-//! every text of some kinds is tried, as every short one and every day, unless --only-made is given. NAME is the one service to try. A
-//! table says how often each answer occurred. The exit status is 1 where a service and the other implementation differ, or where some
-//! answer hardly occurred, and 2 for bad usage.
+//! N is how many texts or records are tried with each service (1000000), made from the seed S (1); a record to list is tried with two
+//! lists, and half as many are made. The same N and S make the same ones. Besides, every text of some kinds is tried, as every short one
+//! and every day, unless --only-made is given. NAME is the one service to try. A table says how often each answer occurred. The exit
+//! status is 1 where a service and the other implementation differ, or where some answer hardly occurred, and 2 for bad usage.
 
 mod check;
+mod compare;
 mod cut;
 mod faults;
 mod lent;
+mod likeness;
+mod list;
 mod markup;
+mod pairs;
+mod places;
 mod random;
 mod records;
+mod sets;
 mod table;
 mod tick;
 
@@ -28,7 +34,8 @@ pub struct Options {
 }
 
 /// What tries each service, and says whether it agrees with the other implementation.
-const SERVICES: [(&str, fn(&Options) -> bool); 3] = [("cut", cut::run), ("tick", tick::run), ("check", check::run)];
+const SERVICES: [(&str, fn(&Options) -> bool); 5] =
+    [("cut", cut::run), ("tick", tick::run), ("check", check::run), ("list", list::run), ("compare", compare::run)];
 
 fn options() -> Option<Options> {
     let mut options = Options { cases: 1_000_000, seed: 1, only_made: false, service: None };

@@ -28,9 +28,27 @@ pub fn bytes(text: &str) -> Vec<u8> {
                 bytes.extend(self::bytes(text).repeat(count.parse().unwrap()));
                 rest = after;
             }
+            "[" | "(" => {
+                let (interval, after) = rest.split_at(rest.find([']', ')']).unwrap() + 1);
+                bytes.extend(self::interval(escape == "[", interval).bytes());
+                rest = after;
+            }
             _ => panic!("no escape: \\{escape}"),
         }
     }
     bytes.extend(rest.bytes());
     bytes
+}
+
+/// The interval that `NAME LOW,HIGH]` or `NAME LOW,HIGH)` writes.
+fn interval(low_closed: bool, written: &str) -> String {
+    let (name, bounds) = written.split_once(' ').unwrap();
+    let (low, high) = bounds[..bounds.len() - 1].split_once(',').unwrap();
+    let bound = |name: &str, flavor: &str, tick: &str| match tick {
+        "*" => format!("<{name} nullFlavor=\"{flavor}\"/>"),
+        _ => format!("<{name} value=\"00010101000000.{tick:0>4}\"/>"),
+    };
+    let flags = format!("lowClosed=\"{low_closed}\" highClosed=\"{}\"", bounds.ends_with(']'));
+    let (low, high) = (bound("low", "NINF", low), bound("high", "PINF", high));
+    format!("<{name} xsi:type=\"IVL_TS\" {flags}>{low}{high}</{name}>")
 }

@@ -37,7 +37,7 @@ struct Day {
 
 const FIRST_DAY: Day = Day { year: 1, month: 1, day: 1, before: 0 };
 
-fn month_length(year: usize, month: usize) -> usize {
+pub fn month_length(year: usize, month: usize) -> usize {
     match month {
         2 if year % 400 == 0 => 29,
         2 if year % 100 == 0 => 28,
@@ -134,15 +134,17 @@ pub fn read(text: &str, agreed: i64, calendar: &Calendar) -> Option<(i64, u64)> 
     }
     let offset = if zone.is_empty() { agreed } else { zone_minutes(zone)? };
 
-    let filled = format!("{whole}{}", &"00000101000000"[whole.len()..]);
-    let days = calendar.days_before(number(&filled[..4]), number(&filled[4..6]), number(&filled[6..8]))?;
-    let (hours, minutes, seconds) = (number(&filled[8..10]), number(&filled[10..12]), number(&filled[12..]));
+    // Digits that are written, or else those of the first value.
+    let part = |from: usize, to: usize| number(whole.get(from..to).unwrap_or(&"00000101000000"[from..to]));
+    let days = calendar.days_before(part(0, 4), part(4, 6), part(6, 8))?;
+    let (hours, minutes, seconds) = (part(8, 10), part(10, 12), part(12, 14));
     if hours > 23 || minutes > 59 || seconds > 59 {
         return None;
     }
     let fraction = fraction.unwrap_or("");
     let in_seconds = days * 86_400 + hours * 3_600 + minutes * 60 + seconds - offset * 60;
-    let tick = in_seconds * 10_000 + number(&format!("{fraction:0<4}"));
+    let fraction_ticks = if fraction.is_empty() { 0 } else { number(fraction) * 10_i64.pow(4 - fraction.len() as u32) };
+    let tick = in_seconds * 10_000 + fraction_ticks;
     Some((tick, (whole.len() + fraction.len()) as u64))
 }
 
