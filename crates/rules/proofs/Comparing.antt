@@ -1,4 +1,5 @@
--- The comparers of the types: each is symmetric, and says yes of a value and itself exactly where nothing is null or missing, else unknown.
+-- The comparers of the types: each is symmetric, says yes of a value and itself exactly where nothing is null or missing, else unknown, and
+-- never says yes elsewhere.
 use Prim.Native.Nat.{ℕ}
 use mathlib.Core.Path.{_≡_, refl, _∙_, ap, subst}
 use mathlib.Core.Bool.{Bool, true, false, not, _&&_, _||_, cond, and-comm, and-true, or-comm}
@@ -17,7 +18,7 @@ use Rattle.rules.specs.Forms.{formFaults}
 use Rattle.rules.specs.Invariants.{has, isNull, Side, low, high, Endpoint, valued, infinite, unknown, endpointRead, endpointValued, endpointOf}
 use Rattle.rules.specs.Types.{Kind, TS, IVL-TS, QSU-TS, QSI-TS, QSD-TS, MO, II, CD, EN, DisplayName, Part, nameOf, lineOf}
 use Rattle.rules.specs.Judge.{top, attributeFaults, elementFaults}
-use Rattle.rules.specs.Comparison.{Yes, Unknown, answer, _also_, sameOption, sameAttribute, Comparer, compareMoments, compareEndpoints, compareSides, compareIntervals, amountOf, sameAmount, compareMoney, compareIdentifiers, compareCodes, compareParts, compareAllParts, comparerOf}
+use Rattle.rules.specs.Comparison.{Answer, Yes, No, Unknown, answer, _also_, sameOption, sameAttribute, Comparer, compareMoments, compareEndpoints, compareSides, compareIntervals, amountOf, sameAmount, compareMoney, compareIdentifiers, compareCodes, compareParts, compareAllParts, comparerOf}
 use Rattle.rules.specs.ListingPromise.{isUnknown}
 use Rattle.rules.specs.ComparisonPromise.{hasNullPart, hasSides, isComplete}
 use Rattle.rules.proofs.Tests.{clash, eqb-refl, eqb-sym, same-true, same-refl, same-sym}
@@ -216,3 +217,66 @@ pub comparer-itself : (k : Kind) {g : Comparer} → comparerOf k ≡ some g
     → (shift : ℕ) (e : Element) (within : Kind → List Refusal) → elementFaults shift top (some k) (e .attrs) (e .kids) within ≡ []
     → lookup (bytes "xsi:type") (e .attrs) ≡ some (nameOf k) → isNull (e .attrs) ≡ false → g shift e e ≡ cond (isComplete shift e) Yes Unknown
 comparer-itself k e = subst (KnowsItself k) e (comparers-self k)
+
+-- yes is said of a complete value alone
+
+also-yes : (x y : Answer) → (x also y) ≡ Yes → (x ≡ Yes) × (y ≡ Yes)
+also-yes Yes y e = (refl, e)
+also-yes No y e = clash (cc)
+also-yes Unknown Yes e = clash (cc)
+also-yes Unknown No e = clash (cc)
+also-yes Unknown Unknown e = clash (cc)
+
+endpoints-yes : (flags : Bool) (x y : Endpoint) → compareEndpoints flags x y ≡ Yes → isUnknown x ≡ false
+endpoints-yes flags (valued m) y e = refl
+endpoints-yes flags infinite y e = refl
+endpoints-yes flags unknown y e = clash (cc)
+
+intervals-yes : (shift : ℕ) (a b : Element) → compareIntervals shift a b ≡ Yes → hasSides shift (a .kids) ≡ true
+intervals-yes shift a b e =
+    let (l, h) = also-yes (compareSides low shift a b) (compareSides high shift a b) e in
+    rw (
+      endpoints-yes _ (endpointOf shift low (a .kids)) (endpointOf shift low (b .kids)) l,
+      endpoints-yes _ (endpointOf shift high (a .kids)) (endpointOf shift high (b .kids)) h,
+    )
+
+codes-yes : (shift : ℕ) (a b : Element) → compareCodes shift a b ≡ Yes → has "code" (a .attrs) ≡ true
+codes-yes shift a b e = go (has "code" (a .attrs)) (has "code" (b .attrs)) _ e
+  where
+    go : (c d : Bool) (x : Answer) → cond (c && d) x Unknown ≡ Yes → c ≡ true
+    go true d x e = refl
+    go false d x e = clash (cc)
+
+all-parts-yes : (a b : Nodes) → compareAllParts a b ≡ Yes → hasNullPart a ≡ false
+unfolding compareAllParts hasNullPart
+all-parts-yes end b e = refl
+all-parts-yes (node n as′ ks rest) end e = clash (cc)
+all-parts-yes (node n as′ ks rest) (node m bs ls more) e =
+    let (f, g) = also-yes (compareParts as′ bs) (compareAllParts rest more) e in
+    rw (go (isNull as′) (isNull bs) _ f, all-parts-yes rest more g)
+  where
+    go : (c d : Bool) (x : Answer) → cond (c || d) Unknown x ≡ Yes → c ≡ false
+    go true d x e = clash (cc)
+    go false d x e = refl
+
+abbrev SaysYes : Kind → Option Comparer → Type 0
+SaysYes k none = Unit {0}
+SaysYes k (some f) = (shift : ℕ) (a b : Element) → lookup (bytes "xsi:type") (a .attrs) ≡ some (nameOf k) → isNull (a .attrs) ≡ false → f shift a b ≡ Yes → isComplete shift a ≡ true
+
+comparers-yes : (k : Kind) → SaysYes k (comparerOf k)
+unfolding comparerOf same
+comparers-yes TS = λ shift a b t n e. rw (t, n)
+comparers-yes IVL-TS = λ shift a b t n e. rw (t, n, intervals-yes shift a b e)
+comparers-yes QSU-TS = tt
+comparers-yes QSI-TS = tt
+comparers-yes QSD-TS = tt
+comparers-yes MO = λ shift a b t n e. rw (t, n)
+comparers-yes II = λ shift a b t n e. rw (t, n)
+comparers-yes CD = λ shift a b t n e. rw (t, n, codes-yes shift a b e)
+comparers-yes EN = λ shift a b t n e. rw (t, n, all-parts-yes (a .kids) (b .kids) e)
+comparers-yes DisplayName = tt
+comparers-yes Part = tt
+
+pub comparer-yes : (k : Kind) {f : Comparer} → comparerOf k ≡ some f
+    → (shift : ℕ) (a b : Element) → lookup (bytes "xsi:type") (a .attrs) ≡ some (nameOf k) → isNull (a .attrs) ≡ false → f shift a b ≡ Yes → isComplete shift a ≡ true
+comparer-yes k e = subst (SaysYes k) e (comparers-yes k)

@@ -7,17 +7,17 @@ use mathlib.Core.List.{List, [], _∷_, flatMap, List·Memᴰ, List·Memᴰ·hea
 use mathlib.Core.Option.{Option, none, some}
 use native.Mathlib.Omega.{arith}
 use lib.IntN.{ℤ}
-use Rattle.rules.specs.Basics.{isSome, ifSome, find, exists, every, bytes, same, begins, oneOf}
-use Rattle.rules.specs.Refusal.{Refusal, TYPE, Outcome}
+use Rattle.rules.specs.Basics.{isSome, ifSome, find, exists, every, bytes, same, begins}
+use Rattle.rules.specs.Refusal.{Refusal, TYPE, Outcome, answered}
 use Rattle.rules.specs.Markup.{Attribute, end, Element, lookup, document}
-use Rattle.rules.specs.Forms.{formFaults}
+use Rattle.rules.specs.Forms.{isFlavor, formFaults}
 use Rattle.rules.specs.Invariants.{isNull}
 use Rattle.rules.specs.Types.{Kind, TS, IVL-TS, QSU-TS, QSI-TS, QSD-TS, MO, II, CD, EN, DisplayName, Part, nameOf, allTypes, hasType, typeAmong, lineOf}
 use Rattle.rules.specs.Judge.{attributeFaults, elementFaults, childFaults, topFaults}
 use Rattle.rules.specs.Utf8.{isUtf8}
 use Rattle.rules.specs.Check.{isOffset, shiftBy, isTooLong, recordFaults, check}
 use Rattle.rules.specs.Comparison.{Answer, Yes, No, Unknown, Comparer, comparerOf, comparerFor, orUnknown}
-use Rattle.rules.specs.Services.{Compared, compared, refusedFirst, refusedSecond, compareChecked, comparison, comparedNumber, compareAnswer}
+use Rattle.rules.specs.Services.{Compared, compared, refusedFirst, refusedSecond, compareChecked, comparison, answerNumber, comparedNumber, compareAnswer}
 use Rattle.rules.specs.ComparisonPromise.{comparedTypes, comparedType, isComplete, Names, Says, IsOf, ComparisonPromise}
 use Rattle.rules.proofs.Opened.{opened}
 use Rattle.rules.proofs.Tests.{clash, found}
@@ -25,7 +25,7 @@ use Rattle.rules.proofs.Precedence.{check-answered}
 use Rattle.rules.proofs.Members.{type-is}
 use Rattle.rules.proofs.ListingCases.{check-faultless}
 use Rattle.rules.proofs.ListingPromise.{small}
-use Rattle.rules.proofs.Comparing.{comparer-symmetric, comparer-itself}
+use Rattle.rules.proofs.Comparing.{comparer-symmetric, comparer-itself, comparer-yes}
 
 -- an element has at most one type that is compared, and no other
 one-type : (attrs : List Attribute) (k : Kind) → hasType attrs k ≡ true → isSome (comparerOf k) ≡ true
@@ -128,6 +128,20 @@ module _ (shift : ℕ) where
       go (alike j f v w c) = ap compared (known j v c _ refl)
       go (unlike h) = absurd (h k t t)
 
+  outcome-yes : (a b : Element) → outcome shift a b (comparerFor a b) ≡ compared Yes → isComplete shift a ≡ true
+  outcome-yes a b e = go (pair a b) e
+    where
+      not-null : (c d : Bool) (x : Answer) → cond (c || d) Unknown x ≡ Yes → (c ≡ false) × (x ≡ Yes)
+      not-null true d x e = clash (cc)
+      not-null false true x e = clash (cc)
+      not-null false false x e = (refl, e)
+
+      go : {o : Option Comparer} → Pair a b o → outcome shift a b o ≡ compared Yes → isComplete shift a ≡ true
+      go (alike k f t u c) e =
+          let (n, y) = not-null (isNull (a .attrs)) (isNull (b .attrs)) (f shift a b) (cc) in
+          comparer-yes k c shift a b (type-is (a .attrs) k (of-type k a t .named)) n y
+      go (unlike h) e = clash (cc)
+
 -- the bits of an answer
 names-first : (r : Refusal) → Names 1 r (comparedNumber (refusedFirst r))
 names-first r = let h = small r in record { number-given = omega arith; record-named = omega arith; no-answer = omega arith }
@@ -139,6 +153,20 @@ says : (x : Answer) → Says x (comparedNumber (compared x))
 says Yes = record { no-refusal = refl; no-record = refl; answer-given = refl }
 says No = record { no-refusal = refl; no-record = refl; answer-given = refl }
 says Unknown = record { no-refusal = refl; no-record = refl; answer-given = refl }
+
+says-one : (x y : Answer) {n : ℕ} → Says x n → Says y n → x ≡ y
+says-one x y h i = go x y (sym (h .answer-given) ∙ i .answer-given)
+  where
+    go : (x y : Answer) → answerNumber x ≡ answerNumber y → x ≡ y
+    go Yes Yes e = refl
+    go Yes No e = clash (omega arith)
+    go Yes Unknown e = clash (omega arith)
+    go No Yes e = clash (omega arith)
+    go No No e = refl
+    go No Unknown e = clash (omega arith)
+    go Unknown Yes e = clash (omega arith)
+    go Unknown No e = clash (omega arith)
+    go Unknown Unknown e = refl
 
 -- a record of a type that is accepted under every offset
 record Sample (shift : ℕ) (k : Kind) : Type 0 where
@@ -157,7 +185,7 @@ nulled k = record {
   kids = end;
 }
 
-flavor-known : oneOf "NI INV DER OTH NINF PINF UNC MSK NA UNK ASKU NAV NASK QS TRC" (bytes "UNK") ≡ true
+flavor-known : isFlavor (bytes "UNK") ≡ true
 unfolding opened
 flavor-known = refl
 
@@ -193,7 +221,7 @@ module _ (offset : ℤ) where
     Given k x = (a b : List ℕ) × (e f : Element) × IsOf offset k a e × IsOf offset k b f × Says x (compareAnswer offset a b)
 
     abbrev result : {k : Kind} → Sample shift k → Sample shift k → Compared
-    result a b = outcome shift (a .element) (b .element) (comparerFor (a .element) (b .element))
+    result a b = compareChecked shift (answered (a .element)) (answered (b .element))
 
     -- a sample; one to which it is equal, one to which it is not, and one of which that is unknown
     given : (k : Kind) (a y n u : Sample shift k) → result a y ≡ compared Yes → result a n ≡ compared No → result a u ≡ compared Unknown → (x : Answer) → Given k x
@@ -278,6 +306,13 @@ module _ (offset : ℤ) where
     each-given k (List·Memᴰ·tail (List·Memᴰ·tail (List·Memᴰ·tail (List·Memᴰ·tail (List·Memᴰ·head h))))) = rw h given-code
     each-given k (List·Memᴰ·tail (List·Memᴰ·tail (List·Memᴰ·tail (List·Memᴰ·tail (List·Memᴰ·tail (List·Memᴰ·head h)))))) = rw h given-name
 
+  -- what an answer given says
+  yes-outcome : (k : Kind) (a b : List ℕ) (e f : Element) → IsOf offset k a e → IsOf offset k b f → Says Yes (compareAnswer offset a b) → outcome shift e f (comparerFor e f) ≡ compared Yes
+  yes-outcome k a b e f h i y =
+      let (x, d, n) = outcome-answer shift k e f (h .type) (i .type) in
+      let s : Says x (compareAnswer offset a b) = rw (comparison-of a b (h .accepted) (i .accepted), d) (says x) in
+      d ∙ ap compared (says-one x Yes s y)
+
   pub comparison-promise : ComparisonPromise offset (compareAnswer offset)
   comparison-promise = record {
     first-refused = λ a b r e. rw (comparison-of a b e refl) (names-first r);
@@ -289,5 +324,7 @@ module _ (offset : ℤ) where
         rw (comparison-of a b (h .accepted) (i .accepted), d, u n) (says Unknown);
     symmetric = λ a b e f h i. comparison-of a b h i ∙ ap comparedNumber (outcome-sym shift e f) ∙ sym (comparison-of b a i h);
     itself = λ k a e h. rw (comparison-of a a (h .accepted) (h .accepted), outcome-itself shift k e (h .type) (check-faultless offset a (h .accepted))) (says _);
+    yes-complete = λ k a b e f h i y. let z = yes-outcome k a b e f h i y in
+        (outcome-yes shift e f z, outcome-yes shift f e (sym (outcome-sym shift e f) ∙ z));
     each-given = each-given;
   }

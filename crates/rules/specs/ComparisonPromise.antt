@@ -81,6 +81,9 @@ module _ (offset : ℤ) where
     pub symmetric : (a b : List ℕ) (e f : Element) → check offset a ≡ answered e → check offset b ≡ answered f → compare a b ≡ compare b a
     -- a value compared with itself is never no: yes where nothing that comparison asks about is null or missing, else unknown
     pub itself : (k : Kind) (a : List ℕ) (e : Element) → IsOf k a e → Says (cond (isComplete (shiftBy offset) e) Yes Unknown) (compare a a)
+    -- yes is given only where nothing that comparison asks about is null or missing, in either record
+    pub yes-complete : (k : Kind) (a b : List ℕ) (e f : Element) → IsOf k a e → IsOf k b f → Says Yes (compare a b)
+        → (isComplete (shiftBy offset) e ≡ true) × (isComplete (shiftBy offset) f ≡ true)
     -- under every agreed offset and in every type that is compared, each of yes, no and unknown is some records' answer
     pub each-given : isOffset offset ≡ true → (k : Kind) → List·Memᴰ k comparedTypes → (x : Answer)
         → (a b : List ℕ) × (e f : Element) × IsOf k a e × IsOf k b f × Says x (compare a b)
