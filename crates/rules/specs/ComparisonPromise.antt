@@ -84,6 +84,6 @@ module _ (offset : ℤ) where
     -- yes is given only where nothing that comparison asks about is null or missing, in either record
     pub yes-complete : (k : Kind) (a b : List ℕ) (e f : Element) → IsOf k a e → IsOf k b f → Says Yes (compare a b)
         → (isComplete (shiftBy offset) e ≡ true) × (isComplete (shiftBy offset) f ≡ true)
-    -- under every agreed offset and in every type that is compared, each of yes, no and unknown is some records' answer
+    -- under every offset that may be agreed and in every type that is compared, each of yes, no and unknown is some records' answer
     pub each-given : isOffset offset ≡ true → (k : Kind) → List·Memᴰ k comparedTypes → (x : Answer)
         → (a b : List ℕ) × (e f : Element) × IsOf k a e × IsOf k b f × Says x (compare a b)
