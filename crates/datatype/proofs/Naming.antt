@@ -1,36 +1,21 @@
 -- The type that an element names.
 use Prim.Native.Nat.{ℕ, _<_, _≤_}
-use mathlib.Core.Path.{_≡_, refl, ap, sym, _∙_, subst}
-use mathlib.Core.Bool.{Bool, true, false, cond}
+use mathlib.Core.Path.{_≡_, refl, _∙_, subst}
+use mathlib.Core.Bool.{Bool}
 use mathlib.Core.List.{List, [], _∷_}
 use mathlib.Core.Option.{Option, none, some}
 use native.Mathlib.Omega.{arith}
-use borrow.Author.Tests.{eqb-true, eqb-false, eq-eqb, ne-eqb}
-use lib.Dec.{eqb}
 use lib.ListN.{length, drop}
-use Rattle.rules.specs.Basics.{bytes, same, find, ifSome}
+use Rattle.rules.specs.Basics.{bytes, same, find}
 use Rattle.rules.specs.Parsers.{ok}
 use Rattle.rules.specs.Markup.{Attribute, lookup, value}
 use Rattle.rules.specs.Types.{Kind, nameOf, typeAmong}
+use Rattle.rules.proofs.Tests.{same-sym}
 use Rattle.markup.specs.Attributes.{Finds, absent, present}
 use Rattle.markup.specs.declared.tag.Found.{Found}
 use Rattle.markup.specs.declared.tag.Found.the-variants.{Quoted, Absent}
 use Rattle.element.specs.Places.{FoundOn, found-on}
 use Rattle.datatype.specs.Meaning.{namedAmong}
-
-eqb-sym : (a b : ℕ) → eqb a b ≡ eqb b a
-eqb-sym a b = go (eqb a b) refl
-  where
-    go : (x : Bool) → eqb a b ≡ x → x ≡ eqb b a
-    go true e = sym (eq-eqb b a (sym (eqb-true a b e)))
-    go false e = sym (ne-eqb b a (λ z. eqb-false a b e (sym z)))
-
-pub same-sym : (a b : List ℕ) → same a b ≡ same b a
-unfolding same
-same-sym [] [] = refl
-same-sym [] (d ∷ b) = refl
-same-sym (c ∷ a) [] = refl
-same-sym (c ∷ a) (d ∷ b) = rw (eqb-sym c d, same-sym a b)
 
 pub swapped : {r : Bool} (a b : List ℕ) → r ≡ same a b → r ≡ same b a
 swapped a b e = e ∙ same-sym a b

@@ -18,7 +18,7 @@ use Rattle.element.specs.Places.{Nexts, no-next, next-one}
 use Rattle.element.specs.declared.attribute.Turn.{Turn}
 use Rattle.element.specs.declared.attribute.Turn.the-variants.{One, End}
 use Rattle.datatype.specs.Tables.{pick, formAmong, columnsOf}
-use Rattle.datatype.proofs.Naming.{same-sym}
+use Rattle.rules.proofs.Tests.{same-sym}
 use Rattle.judge.specs.Faults.{AttributeFaultsFrom, OwnFrom}
 
 -- the first of the faults so far, of one fault more and of those after it

@@ -24,3 +24,5 @@ pub mod ListingCases
 pub mod Fitting
 pub mod Meaning
 pub mod ListingPromise
+pub mod Comparing
+pub mod ComparisonPromise

@@ -32,7 +32,7 @@ use Rattle.rules.proofs.Members.{set-intervals, clear-set}
 use Rattle.rules.proofs.ListingCases.{check-faultless, check-offset, listing-unlisted, listing-unclear, listing-too-many, listing-no-room, listing-answered, listing-faulty, faulty-early}
 
 -- refusals are told from one another, and from an answer, by the lowest eight bits
-small : (r : Refusal) → (1 ≤ number r) × (number r ≤ 11)
+pub small : (r : Refusal) → (1 ≤ number r) × (number r ≤ 11)
 small OFFSET = omega arith
 small TOO-LONG = omega arith
 small NOT-UTF-8 = omega arith

@@ -6,26 +6,19 @@ use mathlib.Core.List.{List, [], _∷_, _++_, flatMap, append-eq-nil-iff}
 use mathlib.Core.Option.{Option, none, some}
 use native.Mathlib.Omega.{arith}
 use native.Mathlib.Nat.{zero-add, add-zero, add-assoc}
-use borrow.Author.Tests.{eqb-true, not-true, not-false}
+use borrow.Author.Tests.{not-true, not-false}
 use lib.Dec.{ltb}
 use lib.ListN.{length, length-append}
 use Rattle.rules.specs.Basics.{isSome, ifSome, find, bytes, same}
-use Rattle.rules.specs.Refusal.{Refusal, SHAPE, UNKNOWN-BOUND, Outcome, answered, refused, _andThen_, both}
+use Rattle.rules.specs.Refusal.{Refusal, SHAPE, RULE, UNKNOWN-BOUND, Outcome, answered, refused, _andThen_, both, _when_}
 use Rattle.rules.specs.Markup.{Attribute, Nodes, end, node, Element, lookup}
 use Rattle.rules.specs.Invariants.{isNull, low, high, Endpoint, valued, infinite, unknown, endpointOf}
 use Rattle.rules.specs.Types.{Kind, TS, IVL-TS, QSU-TS, QSI-TS, QSD-TS, nameOf, memberTypes, allTypes, hasType, typeAmong, ChildKind, always, typed, Child, lineOf}
-use Rattle.rules.specs.Judge.{Standing, top, member, inside, attributeFaults, elementFaults, kindOf, standingOf, nextChild, childFaults, topFaults}
+use Rattle.rules.specs.Judge.{Standing, top, member, inside, attributeFaults, breaksNull, elementFaults, kindOf, standingOf, nextChild, childFaults, topFaults}
 use Rattle.rules.specs.Sets.{_upto_, Op, union, intersection, difference, Expression, interval, combine, intervals}
 use Rattle.rules.specs.Listing.{boundRead, operationOf, setFrom, membersOf, joined, setOf, intervalCount, intervalsWritten}
 use Rattle.rules.specs.ListingPromise.{isUnknown, isUnclear, hasUnclear, isClear, isListed}
-use Rattle.rules.proofs.Tests.{clash, both-true}
-
-pub same-true : (a b : List ℕ) → same a b ≡ true → a ≡ b
-unfolding same
-same-true [] [] e = refl
-same-true [] (d ∷ b) e = clash (cc)
-same-true (c ∷ a) [] e = clash (cc)
-same-true (c ∷ a) (d ∷ b) e = let (f, g) = both-true _ _ e in cc (eqb-true c d f, same-true a b g)
+use Rattle.rules.proofs.Tests.{clash, same-true}
 
 -- every child of a list has this kind
 abbrev AllOf : ChildKind → List Child → Type 0
@@ -60,17 +53,24 @@ module _ (shift : ℕ) (k : Kind) (ck : ChildKind) (all : AllOf ck (lineOf k .ch
           let (f, g) = append-eq-nil-iff .0 e in
           (ap (faultsAs shift attrs kids) (sym (found-kind _ (lineOf k .children) c all d)) ∙ f, (c .to, g))
 
--- attributes and children of an element without fault
+-- attributes and children of an element without fault, and the invariant of its kind
 pub element-faultless : (shift : ℕ) (p : Standing) (k : Kind) (attrs : List Attribute) (kids : Nodes) (within : Kind → List Refusal)
-    → elementFaults shift p (some k) attrs kids within ≡ [] → (flatMap (attributeFaults shift p k) attrs ≡ []) × (within k ≡ [])
+    → elementFaults shift p (some k) attrs kids within ≡ []
+    → (flatMap (attributeFaults shift p k) attrs ≡ []) × (within k ≡ []) × (lineOf k .invariant shift attrs kids ≡ false)
 unfolding elementFaults
-element-faultless shift p k attrs kids within e = go _ _ _ _ e
+element-faultless shift p k attrs kids within e =
+    let (a, c, d) = go _ _ _ _ e in
+    (a, c, unbroken (lineOf k .invariant shift attrs kids) (breaksNull k attrs kids) d)
   where
-    go : (a b c d : List Refusal) → a ++ b ++ c ++ d ≡ [] → (a ≡ []) × (c ≡ [])
+    go : (a b c d : List Refusal) → a ++ b ++ c ++ d ≡ [] → (a ≡ []) × (c ≡ []) × (d ≡ [])
     go a b c d e =
         let (f, g) = append-eq-nil-iff {p = a ++ b ++ c} .0 e in
         let (h, i) = append-eq-nil-iff {p = a ++ b} .0 f in
-        (append-eq-nil-iff {p = a} .0 h .0, i)
+        (append-eq-nil-iff {p = a} .0 h .0, i, g)
+
+    unbroken : (a b : Bool) → (RULE when (a || b)) ≡ [] → a ≡ false
+    unbroken true b e = clash (cc)
+    unbroken false b e = refl
 
 abbrev typeName : List ℕ
 typeName = bytes "xsi:type"
@@ -102,7 +102,7 @@ module _ (shift : ℕ) where
   no-type attrs e k = rw e
 
   time-faultless : (attrs : List Attribute) (kids : Nodes) → faultsAs shift attrs kids (always TS) ≡ [] → (lookup typeName attrs ≡ none) × (kids ≡ end)
-  time-faultless attrs kids e = let (f, g) = element-faultless shift inside TS attrs kids _ e in (untyped attrs f, childless (isNull attrs) kids g)
+  time-faultless attrs kids e = let (f, g, h) = element-faultless shift inside TS attrs kids _ e in (untyped attrs f, childless (isNull attrs) kids g)
 
   -- the bounds of an interval are no intervals
   bounds-count : (null : Bool) (stage : ℕ) (kids : Nodes) → childFaults shift IVL-TS null stage kids ≡ [] → (intervalCount kids ≡ 0) × (hasUnclear shift kids ≡ false)
@@ -208,7 +208,8 @@ module _ (shift : ℕ) where
         rw (← add-assoc, ← or-assoc b (isUnclear shift attrs kids || hasUnclear shift kids))
         (joined-written k s o later rest g (combined-written o w (set-written attrs kids j t h (λ k s e o. members-written k s o kids e))))
 
-type-is : (attrs : List Attribute) (k : Kind) → hasType attrs k ≡ true → lookup typeName attrs ≡ some (nameOf k)
+-- the type that an element has is the one that it names
+pub type-is : (attrs : List Attribute) (k : Kind) → hasType attrs k ≡ true → lookup typeName attrs ≡ some (nameOf k)
 type-is attrs k = go (lookup typeName attrs)
   where
     go : (o : Option (List ℕ)) → ifSome o (same (nameOf k)) false ≡ true → o ≡ some (nameOf k)

@@ -16,3 +16,4 @@ pub mod Listing
 pub mod Comparison
 pub mod Services
 pub mod ListingPromise
+pub mod ComparisonPromise
