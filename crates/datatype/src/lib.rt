@@ -1,4 +1,4 @@
-// Data types: what an element of a record is, what it says, and its faults, by the table of types.
+// Data types: what an element of a record is, what it may carry and hold by the table of types, and what it says.
 
 pub mod bounds;
 pub mod kind;
