@@ -1,5 +1,5 @@
 -- What the code answers on a record and leaves in the lent list, in the words of the rules ("Sets of times").
-use Prim.Native.Nat.{ℕ}
+use Prim.Native.Nat.{ℕ, _≤_}
 use mathlib.Core.Path.{_≡_}
 use mathlib.Core.List.{List, flatMap}
 use lib.ListN.{length}
@@ -15,10 +15,10 @@ abbrev pub listedMeant : Listed → Outcome ℕ
 listedMeant (Count n) = answered n
 listedMeant (Refused r) = refused (refusalOf r)
 
--- a refusal leaves the list as it was
-abbrev pub Kept : Listed → (before after : List ℕ) → Type 0
-Kept (Count n) before after = Unit {0}
-Kept (Refused r) before after = after ≡ before
+-- whatever the text is: a count is small, and a refusal leaves the list as it was
+abbrev pub AnswerOn : Listed → (before after : List ℕ) → Type 0
+AnswerOn (Count n) before after = n ≤ 32
+AnswerOn (Refused r) before after = after ≡ before
 
 -- the answer, and the lent list before and after, are those of these stretches or of this refusal
 pub record Answers (o : Outcome (List Interval)) (before : List ℕ) (r : Listed) (after : List ℕ) : Type 0 where

@@ -11,7 +11,7 @@ ghost use Rattle.rules.specs.Listing.{listElement};
 ghost use Rattle.rules.specs.Services.{roomOf};
 ghost use Rattle.rules.specs.ListingPromise.{isListed, isMeant};
 ghost use Rattle.interval.specs.Meaning.{placeOf};
-ghost use Rattle.listing.specs.Answers.{Kept, Answers};
+ghost use Rattle.listing.specs.Answers.{AnswerOn, Answers};
 
 pub mod bound;
 pub mod place;
@@ -56,7 +56,7 @@ pub fn is_meant(s: &[u8], shift: u64, n: u64, gap: bool) -> bool
 // leaves the list as it was.
 pub fn list(s: &[u8], shift: u64, out: &mut [u8]) -> Listed
     requires { ⌜ shift ≤ 1680 ⌝ }
-    ensures kept { λ r. ⌜ Kept r (now (out .entry)) (now (out .exit)) ⌝ }
+    ensures on { λ r. ⌜ AnswerOn r (now (out .entry)) (now (out .exit)) ⌝ }
     ensures tells { λ r. ⌜ ((e : Element) → document (now (s .entry)) ≡ some e → topFaults shift e ≡ [] → isListed e ≡ true → Answers (listElement shift (roomOf (now (out .entry))) e) (now (out .entry)) r (now (out .exit))) ⌝ }
 {
     let at = root(s);

@@ -33,7 +33,7 @@ same-length c = search needs
 
 returns-4 : tie.Need-returns-4
 returns-4 c = let g : length (c .before .before .before .before .before .before .before .before .before .before .evaluate .result .set .items) ≡ 32 = search length-mapped in
-    (tt, λ e d f l. answers-count (c .before .before .before .before .before .before .before .before .before .before .before .before .before .before .args .shift) e (c .before .before .before .before .before .before .before .before .before .before .before .before .before .before .args .out .now) f l (c .before .before .before .before .before .before .before .before .before .before .evaluate .ensures .1 e (c .before .before .before .before .before .before .before .before .before .before .before .root .ensures .1 e d)) (not-false _ (c .before .before .before .before .before .before .before .before .if1 .left)) (c .before .before .before .before .before .before .before .before .before .before .evaluate .ensures .0) (omega (arith, c .before .before .before .before .before .before .if2 .left)) g (omega (arith, c .before .before .before .before .if3 .left)) (c .before .before .write-list .ensures))
+    (c .before .before .before .before .before .before .before .before .before .before .evaluate .ensures .0 .canonical .fits, λ e d f l. answers-count (c .before .before .before .before .before .before .before .before .before .before .before .before .before .before .args .shift) e (c .before .before .before .before .before .before .before .before .before .before .before .before .before .before .args .out .now) f l (c .before .before .before .before .before .before .before .before .before .before .evaluate .ensures .1 e (c .before .before .before .before .before .before .before .before .before .before .before .root .ensures .1 e d)) (not-false _ (c .before .before .before .before .before .before .before .before .if1 .left)) (c .before .before .before .before .before .before .before .before .before .before .evaluate .ensures .0) (omega (arith, c .before .before .before .before .before .before .if2 .left)) g (omega (arith, c .before .before .before .before .if3 .left)) (c .before .before .write-list .ensures))
 
 pub list-spec : {M : Type 1} → statement M
 list-spec =
