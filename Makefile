@@ -1,9 +1,10 @@
 # Rigcactus: the library, the program over it, and what tries them. All that is built lies below target/.
 #
 #     make          the library (proved first) and the program, target/host/rigcactus
-#     make run      cuts names in several scripts and reads timestamps, for a reader to look at
+#     make run      cuts names in several scripts, reads timestamps and checks records, for a reader to look at
 #     make test     tries the library, the header and the program
-#     make bench    compares speed with Rust's standard library and with glibc
+#     make bench    compares speed with Rust's standard library, with glibc and with expat
+#     make compare-expat    compares the reader of markup with expat on a million texts; it needs expat
 #     make clean    removes target/
 
 RUSTC ?= rustc
@@ -13,16 +14,20 @@ RUSTFLAGS = --edition 2021 -O -D warnings
 LINK_RUST = -L native=target/staticlib -l static=rigcactus
 
 archive = target/staticlib/librigcactus.a
+markup_archive = target/staticlib/libmarkup_bench.a
 header = include/rigcactus.h
 program = target/host/rigcactus
+records = $(wildcard tests/records/*.txt)
 proved = $(shell find crates \( -name '*.rt' -o -name '*.antt' \) -not -path '*/must-fail/*') crates.txt
-services = rigcactus_cut rigcactus_tick
-c_api = target/tests/c_api_1 target/tests/c_api_2
-tests = target/tests/header_c $(c_api) target/tests/services
+# The services that the archive has. Adding one here has tests/services.rs try it.
+services = rigcactus_cut rigcactus_tick rigcactus_check
+c_api = target/tests/c_api_1 target/tests/c_api_2 target/tests/c_api_3
+tests = target/tests/header_c $(c_api) target/tests/services target/tests/markup_stack target/tests/markup_reader
 places = 0 16 32 48
 cxx = $(shell command -v $(CXX) 2> /dev/null)
+expat = $(shell $(CC) -include expat.h -fsyntax-only -x c /dev/null 2> /dev/null && echo yes)
 
-.PHONY: all run test bench clean
+.PHONY: all run test bench compare-expat clean
 .DELETE_ON_ERROR:
 .SECONDARY:
 
@@ -34,6 +39,11 @@ $(archive): $(proved)
 	@echo 'proving and building $@'
 	@rt staticlib rigcactus > target/staticlib.out 2>&1 || { cat target/staticlib.out; exit 1; }
 
+$(markup_archive): $(proved)
+	@mkdir -p target
+	@echo 'proving and building $@'
+	@rt staticlib markup_bench > target/staticlib.out 2>&1 || { cat target/staticlib.out; exit 1; }
+
 $(program): host/rigcactus.c $(header) $(archive)
 	@mkdir -p $(@D)
 	$(CC) $(CFLAGS) -Iinclude -o $@ $< $(archive)
@@ -43,6 +53,8 @@ run: $(program)
 	@examples/cut.sh
 	@echo
 	@examples/tick.sh
+	@echo
+	@examples/check.sh
 
 test: $(program) $(tests) $(if $(cxx),target/tests/header_cxx)
 	tests/run
@@ -63,12 +75,29 @@ target/tests/c_api_%.c: docs/C-API.md
 $(c_api): %: %.c $(header) $(archive)
 	$(CC) $(CFLAGS) -Wpedantic -Iinclude -o $@ $< $(archive)
 
-target/tests/services: tests/services.rs tests/cut.rs tests/tick.rs tests/lent.rs tests/random.rs $(archive)
+target/tests/services: $(wildcard tests/*.rs) $(records) $(archive) Makefile
 	@mkdir -p $(@D)
-	$(RUSTC) $(RUSTFLAGS) -o $@ $< $(LINK_RUST)
+	$(RUSTC) $(RUSTFLAGS) $(services:%=--cfg %) -o $@ tests/services.rs $(LINK_RUST)
 
-# The bench is linked with the services at four places, since their speed depends on that.
-bench: $(places:%=target/bench/%/cut) $(places:%=target/bench/%/tick)
+target/tests/markup_stack: tests/markup/stack.c $(markup_archive)
+	@mkdir -p $(@D)
+	$(CC) $(CFLAGS) -o $@ $< $(markup_archive)
+
+target/tests/markup_reader: tests/markup/reader.rs tests/random.rs $(markup_archive)
+	@mkdir -p $(@D)
+	$(RUSTC) $(RUSTFLAGS) -o $@ $< -L native=target/staticlib -l static=markup_bench
+
+# Not among the tests: expat is asked for nowhere else.
+compare-expat: target/tests/compare_expat
+	target/tests/compare_expat
+
+target/tests/compare_expat: tests/markup/expat.c $(markup_archive)
+	@mkdir -p $(@D)
+	$(CC) $(CFLAGS) -o $@ $< $(markup_archive) -lexpat
+
+# The bench is linked with the services at four places, since their speed depends on that. Without expat nothing is there to compare
+# checking with.
+bench: $(places:%=target/bench/%/cut) $(places:%=target/bench/%/tick) $(if $(expat),$(places:%=target/bench/%/check))
 	@bench/times
 	@bench/instructions
 
@@ -80,6 +109,9 @@ target/bench/%/cut: bench/cut.rs target/bench/%/librigcactus.a
 
 target/bench/%/tick: bench/tick.c $(header) target/bench/%/librigcactus.a
 	$(CC) $(CFLAGS) -Iinclude -o $@ $< $(@D)/librigcactus.a
+
+target/bench/%/check: bench/check.c $(header) target/bench/%/librigcactus.a
+	$(CC) $(CFLAGS) -Iinclude -o $@ $< $(@D)/librigcactus.a -lexpat
 
 clean:
 	rm -rf target

@@ -20,8 +20,9 @@ struct command {
     const char *arguments;    /* as the usage text has them */
     const char *summary;      /* one line of the usage text */
     int argument_count;
+    bool takes_more;          /* whether there may be more arguments than that */
     bool takes_offset;        /* whether --offset MINUTES may follow the arguments */
-    int (*run)(char **arguments, int64_t offset);
+    int (*run)(int argument_count, char **arguments, int64_t offset);
 };
 
 /* An input. One byte over the limit is enough to be refused, so no more than that is ever held. */
@@ -52,13 +53,23 @@ static int say_refused(uint64_t answer)
 
 /* ---- Input and output --------------------------------------------------------------------------------------------- */
 
-/* Reads standard input to its end, or to one byte over the limit. */
-static int read_input(struct input *input)
+/* Reads a stream to its end, or to one byte over the limit. */
+static int read_stream(FILE *from, const char *name, struct input *input)
 {
-    input->length = fread(input->bytes, 1, sizeof input->bytes, stdin);
-    if (ferror(stdin))
-        return say(FAILED, "cannot read standard input: %s", strerror(errno));
+    input->length = fread(input->bytes, 1, sizeof input->bytes, from);
+    if (ferror(from))
+        return say(FAILED, "cannot read %s: %s", name, strerror(errno));
     return ACCEPTED;
+}
+
+static int read_file(const char *name, struct input *input)
+{
+    FILE *file = fopen(name, "rb");
+    if (file == NULL)
+        return say(FAILED, "cannot read %s: %s", name, strerror(errno));
+    int status = read_stream(file, name, input);
+    fclose(file);
+    return status;
 }
 
 /* Sees that all that was written to standard output is out. */
@@ -157,15 +168,16 @@ static const char *unit_name(int precision)
 
 /* ---- Commands ----------------------------------------------------------------------------------------------------- */
 
-static int run_cut(char **arguments, int64_t offset)
+static int run_cut(int argument_count, char **arguments, int64_t offset)
 {
+    (void)argument_count;
     (void)offset;
     uint64_t room;
     if (!read_number(arguments[0], &room))
         return say(BAD_USAGE, "ROOM is a number of bytes from 0 to 18446744073709551615, and not '%s'", arguments[0]);
 
     struct input input;
-    int status = read_input(&input);
+    int status = read_stream(stdin, "standard input", &input);
     if (status != ACCEPTED)
         return status;
 
@@ -177,8 +189,9 @@ static int run_cut(char **arguments, int64_t offset)
     return finish_output();
 }
 
-static int run_tick(char **arguments, int64_t offset)
+static int run_tick(int argument_count, char **arguments, int64_t offset)
 {
+    (void)argument_count;
     int64_t tick;
     uint64_t answer = rigcactus_tick((const uint8_t *)arguments[0], strlen(arguments[0]), offset, &tick);
     if (rigcactus_refusal(answer) != RIGCACTUS_ACCEPTED)
@@ -193,9 +206,42 @@ static int run_tick(char **arguments, int64_t offset)
     return finish_output();
 }
 
+/* Checks the record of a file, and writes a line that says what came of it. */
+static int check_file(const char *name, int64_t offset)
+{
+    struct input input;
+    int status = read_file(name, &input);
+    if (status != ACCEPTED)
+        return status;
+
+    int refusal = rigcactus_refusal(rigcactus_check(input.bytes, input.length, offset));
+    printf("%s: %s", name, rigcactus_refusal_name(refusal));
+    if (refusal == RIGCACTUS_ACCEPTED) {
+        putchar('\n');
+        return ACCEPTED;
+    }
+    printf(" (%d)\n", refusal);
+    return REFUSED;
+}
+
+/* Goes through all files. What ends worst decides how the program ends. */
+static int run_check(int argument_count, char **arguments, int64_t offset)
+{
+    int worst = ACCEPTED;
+    for (int i = 0; i < argument_count; i++) {
+        int status = check_file(arguments[i], offset);
+        worst = status > worst ? status : worst;
+    }
+    int status = finish_output();
+    return status > worst ? status : worst;
+}
+
 static const struct command commands[] = {
-    {"cut", "ROOM < FILE", "print the longest beginning of FILE that is whole characters and fits ROOM bytes", 1, false, run_cut},
-    {"tick", "TEXT [--offset MINUTES]", "print the tick of the timestamp TEXT, its precision, and its instant in UTC", 1, true, run_tick},
+    {"cut", "ROOM < FILE", "print the longest beginning of FILE that is whole characters and fits ROOM bytes", 1, false, false, run_cut},
+    {"tick", "TEXT [--offset MINUTES]", "print the tick of the timestamp TEXT, its precision, and its instant in UTC", 1, false, true,
+     run_tick},
+    {"check", "FILE.. [--offset MINUTES]", "print for the record in each FILE whether it is accepted, or what it is refused for", 1, true,
+     true, run_check},
 };
 
 static const size_t command_count = sizeof commands / sizeof commands[0];
@@ -214,7 +260,7 @@ static void write_usage(FILE *to)
             "\n"
             "FILE is read as it is, a line feed at its end included, up to %d bytes. TEXT is the argument's bytes.\n"
             "MINUTES is the agreed offset from UTC, -%d to %d, for timestamps that carry none; it is 0 if not given.\n"
-            "What is refused is named on standard error, with its number.\n"
+            "What is refused is named, with its number: by check in the line of its FILE, else on standard error.\n"
             "\n"
             "Exit status: 0 accepted, 1 refused, 2 bad usage, 3 reading or writing failed.\n",
             RIGCACTUS_MOST_BYTES, RIGCACTUS_MOST_OFFSET, RIGCACTUS_MOST_OFFSET);
@@ -228,19 +274,30 @@ static const struct command *find_command(const char *name)
     return NULL;
 }
 
+/* Whether so many words can be a command's arguments. Where there may be many, none of them looks like an option. */
+static bool fits(const struct command *command, int word_count, char **words)
+{
+    if (!command->takes_more)
+        return word_count == command->argument_count;
+    for (int i = 0; i < word_count; i++)
+        if (strncmp(words[i], "--", 2) == 0)
+            return false;
+    return word_count >= command->argument_count;
+}
+
 /* Runs a command on the words that follow its name. */
 static int run(const struct command *command, int word_count, char **words)
 {
     int64_t offset = 0;
-    if (command->takes_offset && word_count == command->argument_count + 2 && strcmp(words[word_count - 2], "--offset") == 0) {
+    if (command->takes_offset && word_count >= command->argument_count + 2 && strcmp(words[word_count - 2], "--offset") == 0) {
         const char *minutes = words[word_count - 1];
         if (!read_signed_number(minutes, &offset))
             return say(BAD_USAGE, "MINUTES is a number, as 120 or -210, and not '%s'", minutes);
         word_count -= 2;
     }
-    if (word_count != command->argument_count)
+    if (!fits(command, word_count, words))
         return say(BAD_USAGE, "usage: rigcactus %s %s", command->name, command->arguments);
-    return command->run(words, offset);
+    return command->run(word_count, words, offset);
 }
 
 int main(int argc, char **argv)

@@ -154,6 +154,27 @@ uint64_t rigcactus_cut(const uint8_t *text, size_t text_len, uint64_t room);
  */
 uint64_t rigcactus_tick(const uint8_t *text, size_t text_len, int64_t offset, int64_t *tick);
 
+/*
+ * Checks a record: whether it is one XML element that holds one value of type TS, IVL_TS, QSU_TS, QSI_TS, QSD_TS, MO, II, CD
+ * or EN, as its attribute xsi:type says, written as the rules ask and with no invariant broken. A null value, with its
+ * nullFlavor, is a value too.
+ *
+ * record, record_len    the record, in UTF-8, at most RIGCACTUS_MOST_BYTES. White space may stand before it and after it, and
+ *                       nothing else: no byte order mark, no prolog, no zero byte.
+ * offset                the agreed offset, in minutes east of UTC, -RIGCACTUS_MOST_OFFSET to RIGCACTUS_MOST_OFFSET, for timestamps
+ *                       that carry none. It decides whether the low of an interval is after its high. Another one is refused
+ *                       also where it is not needed.
+ *
+ * The answer has a refusal and nothing else: it is 0 if the record is accepted.
+ *
+ * Refusals: RIGCACTUS_OFFSET, RIGCACTUS_TOO_LONG, RIGCACTUS_NOT_UTF8, RIGCACTUS_MARKUP, RIGCACTUS_TYPE, RIGCACTUS_SHAPE,
+ * RIGCACTUS_VALUE, RIGCACTUS_RULE: the first that applies anywhere in the record.
+ *
+ * <t xsi:type="MO" value="12.50" currency="EUR"/> is accepted; with value="12,50" it is RIGCACTUS_VALUE, without currency
+ * RIGCACTUS_RULE.
+ */
+uint64_t rigcactus_check(const uint8_t *record, size_t record_len, int64_t offset);
+
 #ifdef __cplusplus
 }
 #endif

@@ -168,6 +168,43 @@ static void check_tick_limits(void)
     CHECK(is_refused_tick(digits, 16385, 841, RIGCACTUS_OFFSET));
 }
 
+static int is_checked(const char *record, int64_t offset, int refusal)
+{
+    uint64_t answer = rigcactus_check((const uint8_t *)record, strlen(record), offset);
+    return rigcactus_refusal(answer) == refusal && answer >> 8 == 0;
+}
+
+/* One record for each number. */
+static void check_check(void)
+{
+    CHECK(is_checked("<t xsi:type=\"MO\" value=\"12.50\" currency=\"EUR\"/>", 0, RIGCACTUS_ACCEPTED));
+    CHECK(is_checked("<t xsi:type=\"MO\" value=\"12.50\" currency=\"EUR\"/>", 841, RIGCACTUS_OFFSET));
+    CHECK(is_checked("<t xsi:type=\"MO\" value=\"12.50\" currency=\"EUR\xFF\"/>", 0, RIGCACTUS_NOT_UTF8));
+    CHECK(is_checked("<t xsi:type=\"MO\" value=\"12.50\" currency=\"EUR\">", 0, RIGCACTUS_MARKUP));
+    CHECK(is_checked("<t value=\"12.50\" currency=\"EUR\"/>", 0, RIGCACTUS_TYPE));
+    CHECK(is_checked("<t xsi:type=\"MO\" value=\"12.50\" currency=\"EUR\" root=\"1.2\"/>", 0, RIGCACTUS_SHAPE));
+    CHECK(is_checked("<t xsi:type=\"MO\" value=\"12,50\" currency=\"EUR\"/>", 0, RIGCACTUS_VALUE));
+    CHECK(is_checked("<t xsi:type=\"MO\" value=\"12.50\"/>", 0, RIGCACTUS_RULE));
+}
+
+/* No bytes are no element. Both sides of the limits; nothing lent is written. */
+static void check_check_limits(void)
+{
+    static const char record[] = "<t xsi:type=\"TS\" value=\"2024\"/>";
+    static uint8_t padded[RIGCACTUS_MOST_BYTES + 1];
+    static uint8_t kept[RIGCACTUS_MOST_BYTES + 1];
+    memset(padded, ' ', sizeof padded);
+    memcpy(padded, record, strlen(record));
+    memcpy(kept, padded, sizeof padded);
+    CHECK(rigcactus_check(NULL, 0, 0) == RIGCACTUS_MARKUP);
+    CHECK(rigcactus_check(NULL, 0, -841) == RIGCACTUS_OFFSET);
+    CHECK(rigcactus_check(padded, 16384, 840) == RIGCACTUS_ACCEPTED);
+    CHECK(rigcactus_check(padded, 16385, -840) == RIGCACTUS_TOO_LONG);
+    CHECK(rigcactus_check(padded, 16385, INT64_MIN) == RIGCACTUS_OFFSET);
+    CHECK(rigcactus_check(padded, strlen(record) - 1, 0) == RIGCACTUS_MARKUP);
+    CHECK(memcmp(padded, kept, sizeof padded) == 0);
+}
+
 int main(void)
 {
     check_refusals();
@@ -178,5 +215,7 @@ int main(void)
     check_tick();
     check_tick_units();
     check_tick_limits();
+    check_check();
+    check_check_limits();
     return failures == 0 ? 0 : 1;
 }

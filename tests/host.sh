@@ -4,6 +4,7 @@ set -u
 cd "$(dirname "$0")/.." || exit 2
 program=$PWD/target/host/rigcactus
 names=$PWD/examples/names
+records=$PWD/examples/records
 
 folder=$(mktemp -d)
 trap 'rm -rf "$folder"' EXIT
@@ -119,6 +120,39 @@ expect 1 '' 'rigcactus: refused: VALUE (7)' tick "$(head -c 16384 /dev/zero | tr
 expect 1 '' 'rigcactus: refused: TOO LONG (2)' tick "$(head -c 16385 /dev/zero | tr '\0' 1)"
 expect 1 '' 'rigcactus: refused: OFFSET (1)' tick "$(head -c 16385 /dev/zero | tr '\0' 1)" --offset 841
 
+# Records: a line for each file, by its name as it was given.
+: > in
+for type in arrival badge deposit escorted guest guest-not-asked pass reason stay visits; do
+  cp "$records/$type.xml" .
+  expect 0 "$type.xml: ACCEPTED\n" '' check "$type.xml"
+done
+for refusal in 'NOT UTF-8 (3)' 'MARKUP (4)' 'TYPE (5)' 'SHAPE (6)' 'VALUE (7)' 'RULE (8)'; do
+  name=${refusal% (*}
+  name=${name,,}
+  cp "$records/refused-${name// /-}.xml" "${name// /-}"
+  expect 1 "${name// /-}: $refusal\n" '' check "${name// /-}"
+done
+expect 0 'pass.xml: ACCEPTED\nstay.xml: ACCEPTED\n./pass.xml: ACCEPTED\n' '' check pass.xml stay.xml ./pass.xml
+expect 1 'type: TYPE (5)\npass.xml: ACCEPTED\nrule: RULE (8)\n' '' check type pass.xml rule
+: > empty
+expect 1 'empty: MARKUP (4)\n' '' check empty
+{ cat deposit.xml; head -c $((16384 - $(wc -c < deposit.xml))) /dev/zero | tr '\0' ' '; } > longest
+{ cat longest; printf ' '; } > longer
+expect 1 'longest: ACCEPTED\nlonger: TOO LONG (2)\n/dev/zero: TOO LONG (2)\n' '' check longest longer /dev/zero
+
+# The agreed offset: one hour east the day begins before the instant that the high is, and not after.
+printf '<t xsi:type="IVL_TS" lowClosed="true" highClosed="true"><low value="20240501"/><high value="2024043023+00"/></t>' > crossed
+expect 1 'crossed: RULE (8)\n' '' check crossed
+expect 0 'crossed: ACCEPTED\n' '' check crossed --offset 60
+expect 1 'crossed: RULE (8)\n' '' check crossed --offset 59
+expect 1 'crossed: RULE (8)\n' '' check crossed --offset -840
+expect 1 'pass.xml: OFFSET (1)\nstay.xml: OFFSET (1)\n' '' check pass.xml stay.xml --offset 841
+
+# Files that cannot be read: the others are checked all the same.
+expect 3 '' 'rigcactus: cannot read none: No such file or directory' check none
+expect 3 'type: TYPE (5)\npass.xml: ACCEPTED\n' 'rigcactus: cannot read none: No such file or directory' check type none pass.xml
+expect 3 '' 'rigcactus: cannot read .: Is a directory' check .
+
 # Bad usage.
 printf 'abc' > in
 expect 2 '' '*'
@@ -141,10 +175,20 @@ for minutes in '' ' 3' '3 ' - + -- --3 +-3 3- 0x3 1.5 9223372036854775808 -92233
   expect 2 '' '*' tick 2024 --offset "$minutes"
 done
 
+expect 2 '' '*' check
+expect 2 '' '*' check --offset 0
+expect 2 '' '*' check --offset 0 pass.xml
+expect 2 '' '*' check pass.xml --offset
+expect 2 '' '*' check pass.xml --offset x
+expect 2 '' '*' check pass.xml --raw
+expect 2 '' '*' check pass.xml --offset 0 stay.xml
+expect 2 '' '*' check pass.xml --offset 0 --offset 0
+
 # Help, which is not an error.
 "$program" --help > out 2> err || fail '--help ended with an error'
 grep -q '^  cut ROOM < FILE$' out || fail '--help does not name the command cut'
 grep -q '^  tick TEXT \[--offset MINUTES\]$' out || fail '--help does not name the command tick'
+grep -q '^  check FILE.. \[--offset MINUTES\]$' out || fail '--help does not name the command check'
 [ ! -s err ] || fail '--help wrote to standard error'
 
 # Reading and writing that fail.
@@ -154,5 +198,7 @@ printf 'abc' | "$program" cut 3 > /dev/full 2> err
 [ $? -eq 3 ] || fail 'cut 3 to a full device did not end with 3'
 "$program" tick 2024 > /dev/full 2> err
 [ $? -eq 3 ] || fail 'tick 2024 to a full device did not end with 3'
+"$program" check pass.xml > /dev/full 2> err
+[ $? -eq 3 ] || fail 'check pass.xml to a full device did not end with 3'
 
 [ "$failures" -eq 0 ]

@@ -1,15 +1,21 @@
 //! Compares the services, as a host links them, with other implementations on the same inputs: Rust's standard library, or one that
 //! stands in the service's file here.
 //!
-//!     services [--cases N] [--seed S] [--only-made]
+//!     services [--cases N] [--seed S] [--only-made] [--service NAME]
 //!
-//! N is how many texts are made for each service (1000000), from the seed S (1). The same N and S make the same texts. Besides, every
-//! text of some kinds is tried, as every short one and every day, unless --only-made is given. A table says how often each answer
-//! occurred. The exit status is 1 where a service and the other implementation differ, and 2 for bad usage.
+//! N is how many texts or records are made for each service (1000000), from the seed S (1). The same N and S make the same ones. Besides,
+//! every text of some kinds is tried, as every short one and every day, unless --only-made is given. NAME is the one service to try. A
+//! table says how often each answer occurred. The exit status is 1 where a service and the other implementation differ, or where some
+//! answer hardly occurred, and 2 for bad usage.
 
+mod check;
 mod cut;
+mod faults;
 mod lent;
+mod markup;
 mod random;
+mod records;
+mod table;
 mod tick;
 
 use std::process::ExitCode;
@@ -18,16 +24,21 @@ pub struct Options {
     pub cases: u64,
     pub seed: u64,
     pub only_made: bool,
+    service: Option<String>,
 }
 
+/// What tries each service, and says whether it agrees with the other implementation.
+const SERVICES: [(&str, fn(&Options) -> bool); 3] = [("cut", cut::run), ("tick", tick::run), ("check", check::run)];
+
 fn options() -> Option<Options> {
-    let mut options = Options { cases: 1_000_000, seed: 1, only_made: false };
+    let mut options = Options { cases: 1_000_000, seed: 1, only_made: false, service: None };
     let mut words = std::env::args().skip(1);
     while let Some(word) = words.next() {
         match word.as_str() {
             "--cases" => options.cases = words.next()?.parse().ok()?,
             "--seed" => options.seed = words.next()?.parse().ok()?,
             "--only-made" => options.only_made = true,
+            "--service" => options.service = Some(words.next().filter(|word| SERVICES.iter().any(|(name, _)| name == word))?),
             _ => return None,
         }
     }
@@ -36,9 +47,14 @@ fn options() -> Option<Options> {
 
 fn main() -> ExitCode {
     let Some(options) = options() else {
-        eprintln!("usage: services [--cases N] [--seed S] [--only-made]");
+        eprintln!("usage: services [--cases N] [--seed S] [--only-made] [--service NAME]");
         return ExitCode::from(2);
     };
-    let alike = [cut::run(&options), tick::run(&options)];
-    if alike.contains(&false) { ExitCode::from(1) } else { ExitCode::SUCCESS }
+    let mut alike = true;
+    for (name, run) in SERVICES {
+        if options.service.as_ref().is_none_or(|only| only == name) {
+            alike &= run(&options);
+        }
+    }
+    if alike { ExitCode::SUCCESS } else { ExitCode::from(1) }
 }

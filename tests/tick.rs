@@ -62,10 +62,10 @@ impl Day {
 }
 
 /// How many days come before each day of years 1 to 9999.
-struct Calendar(Vec<Option<i64>>);
+pub struct Calendar(Vec<Option<i64>>);
 
 impl Calendar {
-    fn new() -> Calendar {
+    pub fn new() -> Calendar {
         let mut before = vec![None; 10_000 * 12 * 31];
         let mut day = FIRST_DAY;
         while day.year <= 9999 {
@@ -117,7 +117,7 @@ fn zone_minutes(zone: &str) -> Option<i64> {
 }
 
 /// The tick and the precision of a text: it is taken apart at its sign and at its point, and missing digits are filled up.
-fn read(text: &str, agreed: i64, calendar: &Calendar) -> Option<(i64, u64)> {
+pub fn read(text: &str, agreed: i64, calendar: &Calendar) -> Option<(i64, u64)> {
     let (local, zone) = text.split_at(text.find(['+', '-']).unwrap_or(text.len()));
     let (whole, fraction) = match local.split_once('.') {
         Some((whole, fraction)) => (whole, Some(fraction)),
@@ -298,7 +298,7 @@ impl Trial {
 const BYTES: &[u8] = b"0123456789+-./:,ZTz \0\n\x7F\x80\xB0\xFF";
 
 /// An agreed offset: one that may be, mostly; else one at a limit, or one of all there are.
-fn agreed_offset(random: &mut Random) -> i64 {
+pub fn agreed_offset(random: &mut Random) -> i64 {
     const EDGES: [i64; 14] = [-842, -841, -840, -839, 839, 840, 841, 842, i64::MIN, i64::MAX, 1 << 32, (1 << 32) + 60, -(1 << 32), 0];
     match random.below(16) {
         0 => random.one_of(&EDGES),
@@ -307,7 +307,7 @@ fn agreed_offset(random: &mut Random) -> i64 {
     }
 }
 
-fn year(random: &mut Random) -> usize {
+pub fn year(random: &mut Random) -> usize {
     match random.below(8) {
         0 => 1,
         1 => 9999,
@@ -318,7 +318,7 @@ fn year(random: &mut Random) -> usize {
 }
 
 /// A written offset that may be.
-fn zone(random: &mut Random) -> String {
+pub fn zone(random: &mut Random) -> String {
     let sign = random.one_of(&['+', '-']);
     let minutes = if random.once_in(8) { 840 } else { random.from(0, 840) };
     if random.once_in(2) {
@@ -336,7 +336,7 @@ fn far_zone(random: &mut Random) -> String {
 }
 
 /// The numbers MM, DD, hh, mm, ss of a time in a year.
-fn parts(random: &mut Random, year: usize) -> [usize; 5] {
+pub fn parts(random: &mut Random, year: usize) -> [usize; 5] {
     let month = random.from(1, 12);
     let last = month_length(year, month);
     let day = if random.once_in(4) { last } else { random.from(1, last) };

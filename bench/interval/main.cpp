@@ -1,8 +1,14 @@
-// Set operations against Boost.ICL's interval_set, in one run on the same intervals. Times are the best of several rounds.
+// Set operations against Boost.ICL's interval_set, in one run on the same intervals.
+//
+//     interval                     times both sides, each the best of many rounds in turn, and prints the ratios
+//     interval SIDE WHAT TIMES     runs one side alone: SIDE is rigcactus or boost, WHAT pairs or joins (for counting instructions)
 #include <boost/icl/interval_set.hpp>
+#include <algorithm>
 #include <chrono>
 #include <cstdint>
 #include <cstdio>
+#include <cstdlib>
+#include <cstring>
 
 extern "C" uint64_t interval_bench_pairs(const uint64_t *ticks, size_t len, uint64_t times);
 extern "C" uint64_t interval_bench_joins(const uint64_t *ticks, size_t len, uint64_t times);
@@ -39,32 +45,34 @@ uint64_t boost_joins(const uint64_t *ticks, size_t, uint64_t times) {
 
 typedef uint64_t (*Work)(const uint64_t *, size_t, uint64_t);
 
-double nanoseconds(Work work, const uint64_t *ticks, uint64_t times) {
-    double best = 0;
-    for (int round = 0; round < 9; round++) {
-        auto start = std::chrono::steady_clock::now();
-        volatile uint64_t kept = work(ticks, 64, times);
-        (void)kept;
-        double took = std::chrono::duration<double, std::nano>(std::chrono::steady_clock::now() - start).count() / times;
-        if (round == 0 || took < best) best = took;
-    }
-    return best;
+enum { ROUNDS = 2000, CALLS = 20 };
+
+// Nanoseconds of a call, in a round of some.
+double round_time(Work work, const uint64_t *ticks) {
+    auto start = std::chrono::steady_clock::now();
+    volatile uint64_t kept = work(ticks, 64, CALLS);
+    (void)kept;
+    return std::chrono::duration<double, std::nano>(std::chrono::steady_clock::now() - start).count() / CALLS;
 }
 
-bool compare(const char *name, Work ours, Work theirs, const uint64_t *ticks, uint64_t times) {
+bool compare(const char *name, Work ours, Work theirs, const uint64_t *ticks) {
     for (uint64_t k = 1; k <= 3; k++)
         if (ours(ticks, 64, k) != theirs(ticks, 64, k)) {
             std::printf("%s: the outcomes differ\n", name);
             return false;
         }
-    double a = nanoseconds(ours, ticks, times), b = nanoseconds(theirs, ticks, times);
+    double a = 1e18, b = 1e18;
+    for (int round = 0; round < ROUNDS; round++) {
+        a = std::min(a, round_time(ours, ticks));
+        b = std::min(b, round_time(theirs, ticks));
+    }
     std::printf("%s: %.0f ns, Boost.ICL %.0f ns, ratio %.2f\n", name, a, b, a / b);
     return true;
 }
 
 }
 
-int main() {
+int main(int argc, char **argv) {
     // sets that overlap: [100 k, 100 k + 60) and [100 k + 30, 100 k + 90)
     uint64_t pairs[64], joins[64];
     for (int k = 0; k < 16; k++) {
@@ -78,7 +86,14 @@ int main() {
         joins[2 * k] = 1000 + 100 * ((13 * k) % 32);
         joins[2 * k + 1] = joins[2 * k] + 60;
     }
-    bool same = compare("two sets of 16 combined", interval_bench_pairs, boost_pairs, pairs, 20000);
-    same &= compare("32 intervals joined one after another", interval_bench_joins, boost_joins, joins, 2000);
+    if (argc == 4) {
+        bool ours = std::strcmp(argv[1], "rigcactus") == 0, pair = std::strcmp(argv[2], "pairs") == 0;
+        Work work = pair ? (ours ? interval_bench_pairs : boost_pairs) : (ours ? interval_bench_joins : boost_joins);
+        volatile uint64_t kept = work(pair ? pairs : joins, 64, std::strtoull(argv[3], nullptr, 10));
+        (void)kept;
+        return 0;
+    }
+    bool same = compare("two sets of 16 combined", interval_bench_pairs, boost_pairs, pairs);
+    same &= compare("32 intervals joined one after another", interval_bench_joins, boost_joins, joins);
     return same ? 0 : 1;
 }

@@ -7,7 +7,7 @@ use native.Mathlib.Omega.{arith}
 use borrow.Author.Tests.{eq-eqb, ne-eqb, eqb-true, eqb-false}
 use lib.Dec.{eqb}
 use lib.ListN.{length, drop, getD, length-drop, drop-of-length-le}
-use Rattle.rules.specs.Basics.{same}
+use Rattle.rules.specs.Basics.{isEmpty, same}
 use Rattle.rules.specs.Parsers.{ok, byte}
 use Rattle.rules.specs.Markup.{char, text, value}
 use Rattle.rules.proofs.Parsers.{map-ok}
@@ -77,6 +77,11 @@ chars-some {s} {v} z h = go (subst (λ (y : Char). Chars s v y) z h)
   where
     go : {v : List ℕ} {c e : ℕ} → Chars s v (Is c e) → (w : List ℕ) × (v ≡ c ∷ w) × TextAt s e w
     go (chars c e w x) = (w, refl, x)
+
+-- there is no character exactly where the text is empty
+pub chars-empty : {s : List ℕ} {v : List ℕ} {r : Char} → Chars s v r → isNothing r ≡ isEmpty v
+chars-empty no-chars = refl
+chars-empty (chars c e w x) = refl
 
 -- b says whether the text whose characters stand from i on is t from k on
 abbrev pub Says : List ℕ → List ℕ → (i k : ℕ) → Bool → Type 0

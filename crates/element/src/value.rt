@@ -18,8 +18,8 @@ pub fn start(s: &[u8], at: usize) -> usize
     ensures within { λ r. ⌜ r ≤ length (now (s .entry)) ⌝ }
     ensures tells { λ r. ⌜ ((v after : List ℕ) → value (drop at (now (s .entry))) ≡ ok v after → TextAt (now (s .entry)) r v) ⌝ }
 {
-    let quote = read_byte(s, at, b'"');
-    let Read::At(i) = quote else {
+    let opening = read_byte(s, at, b'"');
+    let Read::At(i) = opening else {
         return at;
     };
     i
@@ -31,8 +31,8 @@ pub fn next(s: &[u8], at: usize) -> Char
     ensures on { λ r. ⌜ CharOn (now (s .entry)) at r ⌝ }
     ensures tells { λ r. ⌜ ((v : List ℕ) → TextAt (now (s .entry)) at v → Chars (now (s .entry)) v r) ⌝ }
 {
-    let quote = read_byte(s, at, b'"');
-    if let Read::At(_) = quote {
+    let closing = read_byte(s, at, b'"');
+    if let Read::At(_) = closing {
         return Char::Nothing;
     }
     read_char(s, at)
@@ -43,12 +43,9 @@ pub fn is_empty(s: &[u8], at: usize) -> bool
     requires { ⌜ at ≤ length (now s) ⌝ }
     ensures { λ r. ⌜ ((v after : List ℕ) → value (drop at (now (s .entry))) ≡ ok v after → r ≡ isEmpty v) ⌝ }
 {
-    let i = start(s, at);
-    let first = next(s, i);
-    match first {
-        Char::Is(_, _) => false,
-        Char::Nothing => true,
-    }
+    let from = start(s, at);
+    let first = next(s, from);
+    is_nothing(first)
 }
 
 // Whether the value at a position is a given text.

@@ -1,1 +1,4 @@
 pub mod Meaning
+pub mod Parted
+pub mod Words
+pub mod Amounts

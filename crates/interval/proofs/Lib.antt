@@ -3,6 +3,7 @@ pub mod Places
 pub mod Sweep
 pub mod Items
 pub mod Members
+pub mod Joining
 pub mod Drawing
 pub mod Unique
 pub mod Writing

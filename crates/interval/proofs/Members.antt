@@ -36,6 +36,14 @@ module _ (s : Stretches) (long : length (s .items) ≡ 32) (c : Canonical s) (n 
       → isIn (map intervalOf (drop k (used s))) (placeOf n gap) ≡ isIn (map intervalOf (drop (k + 1) (used s))) (placeOf n gap)
   contains-next x e w = isIn-next s long (c .fits) k lt (placeOf n gap) ∙ rw (← found, ← e, w) refl
 
+-- an interval whose first edge is not below its second has no place
+pub outside : (v : Interval) (x : ℕ) → highEdge (v .high) ≤ lowEdge (v .low) → isWithin v x ≡ false
+outside v x h =
+    ⊎-elim
+    (λ (p : lowEdge (v .low) ≤ x). rw (le-leb (lowEdge (v .low)) x p, le-ltb x (highEdge (v .high)) (omega arith)))
+    (λ (p : x < lowEdge (v .low)). rw (lt-leb (lowEdge (v .low)) x p))
+    (le-or-lt (lowEdge (v .low)) x)
+
 -- the set of one interval: one stretch if its first edge is below its second, else none
 module _ (v : Interval) (t : Ticked (v .low)) (u : Ticked (v .high)) where
   pub single-one : (s : Stretches) → length (s .items) ≡ 32 → lowEdge (v .low) < highEdge (v .high)
@@ -56,13 +64,6 @@ module _ (v : Interval) (t : Ticked (v .low)) (u : Ticked (v .high)) where
   pub single-none : (s : Stretches) → Holds (λ x. false) 0 s → highEdge (v .high) ≤ lowEdge (v .low) → Holds (holds (intervalOf v)) 1 s
   single-none s e h = record {
     canonical = e .canonical;
-    places = λ x. e .places x ∙ sym (holds-edges v t u x ∙ outside (spot x));
+    places = λ x. e .places x ∙ sym (holds-edges v t u x ∙ outside v (spot x) h);
     short = omega (arith, e .short);
   }
-    where
-      outside : (x : ℕ) → leb (lowEdge (v .low)) x && ltb x (highEdge (v .high)) ≡ false
-      outside x =
-          ⊎-elim
-          (λ (p : lowEdge (v .low) ≤ x). rw (le-leb (lowEdge (v .low)) x p, le-ltb x (highEdge (v .high)) (omega arith)))
-          (λ (p : x < lowEdge (v .low)). rw (lt-leb (lowEdge (v .low)) x p))
-          (le-or-lt (lowEdge (v .low)) x)

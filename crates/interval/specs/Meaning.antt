@@ -1,12 +1,12 @@
 -- What the code's bounds, intervals and sets mean, in the words of the rules ("Sets of times").
 use Prim.Native.Nat.{ℕ, _^_, _≤_, _<_}
 use mathlib.Core.Path.{_≡_}
-use mathlib.Core.Bool.{Bool, true, false}
+use mathlib.Core.Bool.{Bool, true, false, _||_}
 use mathlib.Core.List.{List, [], _∷_, map}
 use lib.ListN.{take}
 use lib.IntN.{ℤ, subℕ}
 use Rattle.rules.specs.Timestamp.{beforeStart}
-use Rattle.rules.specs.Sets.{Place, at, gapAfter, Bound as PageBound, unbounded, openAt, closedAt, Interval as PageInterval, _upto_, Op as PageOp, union, intersection, difference, apply, isIn}
+use Rattle.rules.specs.Sets.{Place, at, gapAfter, Bound as PageBound, unbounded, openAt, closedAt, Interval as PageInterval, _upto_, Op as PageOp, union, intersection, difference, apply, holds, isIn}
 use Rattle.rules.proofs.Canonical.{Canonical as Rises}
 use Rattle.interval.specs.declared.Bound.{Bound}
 use Rattle.interval.specs.declared.Bound.the-variants.{Unbounded, Open, Closed}
@@ -72,6 +72,10 @@ pub record Holds (p : Place → Bool) (most : ℕ) (r : Stretches) : Type 0 wher
 -- the places of the outcome of an operation on two sets
 abbrev pub applied : Op → Stretches → Stretches → Place → Bool
 applied op a b x = apply (opOf op) (isIn (stretchesOf a) x) (isIn (stretchesOf b) x)
+
+-- the places of a set and those of an interval
+abbrev pub joinedBy : Stretches → Interval → Place → Bool
+joinedBy s v x = isIn (stretchesOf s) x || holds (intervalOf v) x
 
 -- the answer says whether the two sets have the same places
 pub record SaysSame (a b : Stretches) (r : Bool) : Type 0 where

@@ -7,8 +7,9 @@ ghost use lib.ListN.{getD, length};
 ghost use Rattle.rules.specs.Sets.{holds, isIn, apply as pageApply};
 ghost use Rattle.rules.specs.Listing.{listNumbers};
 ghost use Rattle.rules.specs.Services.{lowBytes, eightBytes, overwrite};
-ghost use Rattle.interval.specs.Meaning.{Ticked, intervalOf, opOf, placeOf, used, stretchesOf, Canonical, Holds, applied, SaysSame};
+ghost use Rattle.interval.specs.Meaning.{Ticked, intervalOf, opOf, placeOf, used, stretchesOf, Canonical, Holds, applied, joinedBy, SaysSame};
 ghost use Rattle.interval.specs.Edges.{top, lowEdge, highEdge, LowAt, HighAt, edges, numberOf, isWithin, odd, passedAt, padded, Inputs, Edged, Merged, Drawn, SaysEqual};
+ghost use Rattle.interval.specs.Joining.{lowerOf, higherOf, Passed, Joins, Replaced};
 ghost use Rattle.interval.specs.Writing.{kindOf, bitsOf, placed, boundBytes, intervalBytes};
 
 // A bound of an interval. A tick (the page's term) is counted from fourteen hours before 0001-01-01 00:00, so that none is negative.
@@ -282,11 +283,128 @@ fn from_edges(e: &[u64; 65], n: usize) -> Stretches
     s
 }
 
-// Union, intersection or difference of two sets.
+// The lower of two low bounds.
+fn lower(a: Bound, b: Bound) -> Bound
+    requires { ⌜ Ticked a ⌝ ∗ ⌜ Ticked b ⌝ }
+    ensures { λ r. ⌜ r ≡ lowerOf a b ⌝ }
+{
+    if low_edge(a) <= low_edge(b) {
+        return a;
+    }
+    b
+}
+
+// The higher of two high bounds.
+fn higher(a: Bound, b: Bound) -> Bound
+    requires { ⌜ Ticked a ⌝ ∗ ⌜ Ticked b ⌝ }
+    ensures { λ r. ⌜ r ≡ higherOf a b ⌝ }
+{
+    if high_edge(b) <= high_edge(a) {
+        return a;
+    }
+    b
+}
+
+// How many stretches of a set end before an interval, with a place between.
+fn count_before(s: Stretches, v: Interval) -> usize
+    requires { ⌜ Canonical s ⌝ ∗ ⌜ Ticked (v .low) ⌝ }
+    ensures { λ r. ⌜ Passed s v r ⌝ }
+{
+    let low = v.low;
+    let from = low_edge(low);
+    let mut k = 0;
+    while k < s.count {
+        let w = s.items[k];
+        let high = w.high;
+        if from <= high_edge(high) {
+            return k;
+        }
+        k += 1;
+    }
+    k
+}
+
+// An interval joined with stretches that it meets: the whole, and the place of the first stretch after it.
+struct Joint {
+    whole: Interval,
+    next: usize,
+}
+
+// An interval joined with the stretches from the p-th on that begin before it ends, or where it does.
+fn join_from(s: Stretches, p: usize, v: Interval) -> Joint
+    requires { ⌜ Canonical s ⌝ ∗ ⌜ p ≤ s .count ⌝ ∗ ⌜ Ticked (v .low) ⌝ ∗ ⌜ Ticked (v .high) ⌝ }
+    ensures { λ r. ⌜ Joins s v p r ⌝ }
+{
+    let mut low = v.low;
+    let mut high = v.high;
+    let mut k = p;
+    while k < s.count {
+        let w = s.items[k];
+        let first = w.low;
+        let last = w.high;
+        if high_edge(high) < low_edge(first) {
+            return Joint {
+                whole: Interval { low, high },
+                next: k,
+            };
+        }
+        low = lower(low, first);
+        high = higher(high, last);
+        k += 1;
+    }
+    Joint {
+        whole: Interval { low, high },
+        next: k,
+    }
+}
+
+// The set with an interval in place of its stretches from the p-th up to the one at q.
+fn replace(s: Stretches, p: usize, q: usize, v: Interval) -> Stretches
+    requires { ⌜ s .count < 32 ⌝ ∗ ⌜ (p ≤ q) × (q ≤ s .count) ⌝ }
+    ensures { λ r. ⌜ Replaced s p q v r ⌝ }
+{
+    let mut r = s;
+    r.items[p] = v;
+    let mut n = p + 1;
+    let mut k = q;
+    while k < s.count {
+        let w = s.items[k];
+        r.items[n] = w;
+        n += 1;
+        k += 1;
+    }
+    r.count = n;
+    r
+}
+
+// The union of a set and the places of one interval.
+pub fn with_interval(s: Stretches, v: Interval) -> Stretches
+    requires { ⌜ Canonical s ⌝ ∗ ⌜ s .count < 32 ⌝ ∗ ⌜ Ticked (v .low) ⌝ ∗ ⌜ Ticked (v .high) ⌝ }
+    ensures { λ r. ⌜ Holds (joinedBy s v) (s .count + 1) r ⌝ }
+{
+    let low = v.low;
+    let high = v.high;
+    if high_edge(high) <= low_edge(low) {
+        return s;
+    }
+    let p = count_before(s, v);
+    let joint = join_from(s, p, v);
+    let whole = joint.whole;
+    let next = joint.next;
+    replace(s, p, next, whole)
+}
+
+// Union, intersection or difference of two sets. The union with one stretch, which is the most usual, takes a shorter way.
 pub fn combine(op: Op, a: Stretches, b: Stretches) -> Stretches
     requires { ⌜ Canonical a ⌝ ∗ ⌜ Canonical b ⌝ ∗ ⌜ a .count + b .count ≤ 32 ⌝ }
     ensures { λ r. ⌜ Holds (applied op a b) (a .count + b .count) r ⌝ }
 {
+    if let Op::Union = op {
+        if b.count == 1 {
+            let v = b.items[0];
+            return with_interval(a, v);
+        }
+    }
     let x = edge_numbers(a);
     let y = edge_numbers(b);
     let mut out = [TOP; 65];

@@ -3,11 +3,15 @@ ghost use mathlib.Core.Path.{_≡_};
 ghost use mathlib.Core.Bool.{true};
 ghost use Prim.Native.Nat.{_<_, _≤_, _^_};
 ghost use lib.IntN.{subℕ};
+ghost use Rattle.rules.specs.Basics.{ifSome};
+ghost use Rattle.rules.specs.Refusal.{number as pageNumber};
 ghost use Rattle.rules.specs.Timestamp.{beforeStart};
 ghost use Rattle.rules.specs.Check.{isOffset, shiftBy};
-ghost use Rattle.rules.specs.Services.{packed, cutAnswer, tickAnswer, tickAfter};
+ghost use Rattle.rules.specs.Services.{packed, checkAnswer, cutAnswer, tickAnswer, tickAfter};
+ghost use Rattle.refusal.specs.Meaning.{faultOf};
 ghost use Rattle.timestamp.specs.Moments.{outcomeOf};
 use refusal::Refusal;
+use refusal::Verdict;
 use timestamp::Timestamp;
 
 // The longest input that is read, in bytes.
@@ -41,6 +45,27 @@ fn shift_of(offset: i64) -> u64
     ensures { λ r. ⌜ (r ≡ shiftBy offset) × (r ≤ 1680) ⌝ }
 {
     1680 - ((offset + 840) as u64)
+}
+
+// The number of a verdict's refusal, 0 if it is none.
+fn verdict_number(v: Verdict) -> u64
+    ensures { λ r. ⌜ r ≡ ifSome (faultOf v) pageNumber 0 ⌝ }
+{
+    match v {
+        Verdict::Accepted => 0,
+        Verdict::Refused(r) => refusal::number(r),
+    }
+}
+
+// Checks a record. Bits 0 to 7 of the answer are the refusal's number, 0 if the record is accepted; the other bits are 0.
+#[no_mangle]
+pub extern "C" fn rigcactus_check(record: &[u8], offset: i64) -> u64
+    ensures { λ r. ⌜ r ≡ checkAnswer offset (now («record» .entry)) ⌝ }
+{
+    if !is_offset(offset) {
+        return refusal::number(Refusal::Offset);
+    }
+    verdict_number(judge::fault(record, shift_of(offset)))
 }
 
 // The page's signed tick of a moment's start.

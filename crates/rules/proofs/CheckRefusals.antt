@@ -1,4 +1,5 @@
--- Checking a record gives the refusals 1 to 8 alone; 9 to 11 are given by listing only.
+-- The refusals that a judged element can give are TYPE, SHAPE, VALUE and RULE. So checking a record gives 1 to 8 alone, and what is found before
+-- an element is judged comes first.
 use Prim.Native.Nat.{ℕ, _≤_}
 use mathlib.Core.Path.{_≡_, refl}
 use mathlib.Core.Bool.{Bool, true, false, not, _&&_, _||_, cond}
@@ -21,119 +22,128 @@ use Rattle.rules.specs.Utf8.{isUtf8}
 use Rattle.rules.proofs.Tests.{clash}
 use Rattle.rules.proofs.Precedence.{first-is, unless-refused, check-refused}
 
--- all are numbered 8 at most
-data AreEarly : List Refusal → Type 0 where
-  none-left : AreEarly []
-  one-more : {r : Refusal} {rs : List Refusal} → leb (number r) 8 ≡ true → AreEarly rs → AreEarly (r ∷ rs)
+-- all pass a test
+pub data Pass (p : Refusal → Bool) : List Refusal → Type 0 where
+  none-left : Pass p []
+  one-more : {r : Refusal} {rs : List Refusal} → p r ≡ true → Pass p rs → Pass p (r ∷ rs)
 
-early-one : (r : Refusal) → leb (number r) 8 ≡ true → AreEarly (r ∷ [])
-early-one r h = one-more h none-left
+module _ (p : Refusal → Bool) where
+  pass-one : (r : Refusal) → p r ≡ true → Pass p (r ∷ [])
+  pass-one r h = one-more h none-left
 
-early-append : {a b : List Refusal} → AreEarly a → AreEarly b → AreEarly (a ++ b)
-early-append none-left k = k
-early-append (one-more h l) k = one-more h (early-append l k)
+  pub pass-append : {a b : List Refusal} → Pass p a → Pass p b → Pass p (a ++ b)
+  pass-append none-left k = k
+  pass-append (one-more h l) k = one-more h (pass-append l k)
 
-early-when : (r : Refusal) (b : Bool) → leb (number r) 8 ≡ true → AreEarly (r when b)
-early-when r true h = early-one r h
-early-when r false h = none-left
+  pub pass-when : (r : Refusal) (b : Bool) → p r ≡ true → Pass p (r when b)
+  pass-when r true h = pass-one r h
+  pass-when r false h = none-left
 
-early-value : (b : Bool) → AreEarly (VALUE when b)
-early-value b = early-when VALUE b refl
+  pass-member : {r : Refusal} {rs : List Refusal} → Pass p rs → List·Memᴰ r rs → p r ≡ true
+  pass-member {r} (one-more {r = x} h l) (List·Memᴰ·head e) = rw e h
+  pass-member (one-more h l) (List·Memᴰ·tail m) = pass-member l m
 
-early-member : {r : Refusal} {rs : List Refusal} → AreEarly rs → List·Memᴰ r rs → number r ≤ 8
-early-member {r} (one-more {r = x} h l) (List·Memᴰ·head e) = rw e (leb-true (number x) 8 h)
-early-member (one-more h l) (List·Memᴰ·tail m) = early-member l m
+  pub first-passes : {r : Refusal} {rs : List Refusal} → Pass p rs → firstOf rs ≡ some r → p r ≡ true
+  first-passes {r} {rs} h e = pass-member h (first-is rs r .0 e .0)
 
-first-early : {r : Refusal} {rs : List Refusal} → AreEarly rs → firstOf rs ≡ some r → number r ≤ 8
-first-early {r} {rs} h e = early-member h (first-is rs r .0 e .0)
+  pass-flatMap : {A : Type 0} (f : A → List Refusal) → ((a : A) → Pass p (f a)) → (l : List A) → Pass p (flatMap f l)
+  unfolding flatMap
+  pass-flatMap f h [] = none-left
+  pass-flatMap f h (a ∷ l) = pass-append (h a) (pass-flatMap f h l)
 
-early-flatMap : {A : Type 0} (f : A → List Refusal) → ((a : A) → AreEarly (f a)) → (l : List A) → AreEarly (flatMap f l)
-unfolding flatMap
-early-flatMap f h [] = none-left
-early-flatMap f h (a ∷ l) = early-append (h a) (early-flatMap f h l)
+  pass-faults : {A : Type 0} (o : Outcome A) → ((r : Refusal) → o ≡ refused r → p r ≡ true) → Pass p (faultsOf o)
+  pass-faults (answered a) h = none-left
+  pass-faults (refused r) h = pass-one r (h r refl)
 
-early-faults : {A : Type 0} (o : Outcome A) → ((r : Refusal) → o ≡ refused r → number r ≤ 8) → AreEarly (faultsOf o)
-early-faults (answered a) h = none-left
-early-faults (refused r) h = early-one r (le-leb (number r) 8 (h r refl))
+module _ (test : Refusal → Bool) (type : test TYPE ≡ true) (shape : test SHAPE ≡ true) (value : test VALUE ≡ true) (rule : test RULE ≡ true) where
+  value-when : (b : Bool) → Pass test (VALUE when b)
+  value-when b = pass-when test VALUE b value
 
-written-early : (w : Written) → AreEarly (writtenFaults w)
-unfolding writtenFaults
-written-early w = early-append (early-append (early-value (not (isDate w))) (early-value (not (isClock w)))) (early-value (not (isZone (w .zone))))
+  written-passes : (w : Written) → Pass test (writtenFaults w)
+  unfolding writtenFaults
+  written-passes w = pass-append test (pass-append test (value-when (not (isDate w))) (value-when (not (isClock w)))) (value-when (not (isZone (w .zone))))
 
-read-early : (shift : ℕ) (text : List ℕ) → AreEarly (faultsOf (readTimestamp shift text))
-unfolding readTimestamp
-read-early shift text = go (whole timestamp text)
-  where
-    go : (o : Option Written) → AreEarly (faultsOf (ifSome o (λ w. answered (momentOf shift w) unless writtenFaults w) (refused VALUE)))
-    go none = early-one VALUE refl
-    go (some w) = early-faults (answered (momentOf shift w) unless writtenFaults w)
-        (λ r e. first-early (written-early w) (unless-refused (answered (momentOf shift w)) (writtenFaults w) r .0 e))
-
-form-early : (shift : ℕ) (f : Form) (text : List ℕ) → AreEarly (formFaults shift f text)
-unfolding formFaults
-form-early shift anyText text = none-left
-form-early shift nonEmpty text = early-value (isEmpty text)
-form-early shift flavor text = early-value (not (isFlavor text))
-form-early shift Form.timestamp text = read-early shift text
-form-early shift flag text = early-value (not (isFlag text))
-form-early shift amount text = early-value (not (isSome (whole amountText text)))
-form-early shift currency text = early-value (not (isCurrency text))
-form-early shift root text = early-value (not (isRoot text))
-form-early shift partType text = early-value (not (isPartType text))
-form-early shift qualifiers text = early-value (not (isQualifiers text))
-
-attribute-early : (shift : ℕ) (p : Standing) (k : Kind) (a : Attribute) → AreEarly (attributeFaults shift p k a)
-unfolding attributeFaults
-attribute-early shift p k a =
-    go (isTop p && begins (bytes "xmlns") (a .name)) (find (λ c. same (c .name) (a .name)) (typeColumns p ++ nullColumns k ++ lineOf k .columns))
-  where
-    go : (b : Bool) (o : Option Column) → AreEarly (cond b [] (ifSome o (λ c. formFaults shift (c .form) (a .value)) (SHAPE ∷ [])))
-    go true o = none-left
-    go false none = early-one SHAPE refl
-    go false (some c) = form-early shift (c .form) (a .value)
-
-element-early : (shift : ℕ) (p : Standing) (o : Option Kind) (attrs : List Attribute) (kids : Nodes) (within : Kind → List Refusal)
-    → ((k : Kind) → AreEarly (within k)) → AreEarly (elementFaults shift p o attrs kids within)
-unfolding elementFaults
-element-early shift p none attrs kids within h = early-one TYPE refl
-element-early shift p (some k) attrs kids within h =
-    early-append
-    (early-append
-    (early-append (early-flatMap (attributeFaults shift p k) (attribute-early shift p k) attrs) (early-when SHAPE (exists (lacks attrs) (lineOf k .columns)) refl))
-    (h k))
-    (early-when RULE (lineOf k .invariant shift attrs kids || breaksNull k attrs kids) refl)
-
-module _ (shift : ℕ) where
-  children-early : (k : Kind) (null : Bool) (stage : ℕ) (ns : Nodes) → AreEarly (childFaults shift k null stage ns)
-  unfolding childFaults
-  children-early k null stage end = early-when SHAPE (not null && ltb stage (lineOf k .enough)) refl
-  children-early k null stage (node n attrs kids rest) =
-      early-append (go (nextChild k stage n) (λ j. children-early j (isNull attrs) 0 kids)) (children-early k null (ifSome (nextChild k stage n) (λ c. c .to) stage) rest)
+  read-passes : (shift : ℕ) (text : List ℕ) → Pass test (faultsOf (readTimestamp shift text))
+  unfolding readTimestamp
+  read-passes shift text = go (whole timestamp text)
     where
-      go : (o : Option Child) → ((j : Kind) → AreEarly (childFaults shift j (isNull attrs) 0 kids))
-          → AreEarly (ifSome o (λ c. elementFaults shift (standingOf (c .kind)) (kindOf (c .kind) attrs) attrs kids (λ j. childFaults shift j (isNull attrs) 0 kids)) (SHAPE ∷ []))
-      go none h = early-one SHAPE refl
-      go (some c) h = element-early shift (standingOf (c .kind)) (kindOf (c .kind) attrs) attrs kids (λ j. childFaults shift j (isNull attrs) 0 kids) h
+      go : (o : Option Written) → Pass test (faultsOf (ifSome o (λ w. answered (momentOf shift w) unless writtenFaults w) (refused VALUE)))
+      go none = pass-one test VALUE value
+      go (some w) = pass-faults test (answered (momentOf shift w) unless writtenFaults w)
+          (λ r e. first-passes test (written-passes w) (unless-refused (answered (momentOf shift w)) (writtenFaults w) r .0 e))
 
-  top-early : (o : Outcome Element) → ((r : Refusal) → o ≡ refused r → leb (number r) 8 ≡ true) → AreEarly (faultsIn (topFaults shift) o)
-  top-early (answered e) h =
-      element-early shift top (typeAmong allTypes (e .attrs)) (e .attrs) (e .kids) (λ k. childFaults shift k (isNull (e .attrs)) 0 (e .kids))
-      (λ k. children-early k (isNull (e .attrs)) 0 (e .kids))
-  top-early (refused r) h = early-one r (h r refl)
+  form-passes : (shift : ℕ) (f : Form) (text : List ℕ) → Pass test (formFaults shift f text)
+  unfolding formFaults
+  form-passes shift anyText text = none-left
+  form-passes shift nonEmpty text = value-when (isEmpty text)
+  form-passes shift flavor text = value-when (not (isFlavor text))
+  form-passes shift Form.timestamp text = read-passes shift text
+  form-passes shift flag text = value-when (not (isFlag text))
+  form-passes shift amount text = value-when (not (isSome (whole amountText text)))
+  form-passes shift currency text = value-when (not (isCurrency text))
+  form-passes shift root text = value-when (not (isRoot text))
+  form-passes shift partType text = value-when (not (isPartType text))
+  form-passes shift qualifiers text = value-when (not (isQualifiers text))
+
+  attribute-passes : (shift : ℕ) (p : Standing) (k : Kind) (a : Attribute) → Pass test (attributeFaults shift p k a)
+  unfolding attributeFaults
+  attribute-passes shift p k a =
+      go (isTop p && begins (bytes "xmlns") (a .name)) (find (λ c. same (c .name) (a .name)) (typeColumns p ++ nullColumns k ++ lineOf k .columns))
+    where
+      go : (b : Bool) (o : Option Column) → Pass test (cond b [] (ifSome o (λ c. formFaults shift (c .form) (a .value)) (SHAPE ∷ [])))
+      go true o = none-left
+      go false none = pass-one test SHAPE shape
+      go false (some c) = form-passes shift (c .form) (a .value)
+
+  element-passes : (shift : ℕ) (p : Standing) (o : Option Kind) (attrs : List Attribute) (kids : Nodes) (within : Kind → List Refusal)
+      → ((k : Kind) → Pass test (within k)) → Pass test (elementFaults shift p o attrs kids within)
+  unfolding elementFaults
+  element-passes shift p none attrs kids within h = pass-one test TYPE type
+  element-passes shift p (some k) attrs kids within h =
+      pass-append test
+      (pass-append test
+      (pass-append test (pass-flatMap test (attributeFaults shift p k) (attribute-passes shift p k) attrs) (pass-when test SHAPE (exists (lacks attrs) (lineOf k .columns)) shape))
+      (h k))
+      (pass-when test RULE (lineOf k .invariant shift attrs kids || breaksNull k attrs kids) rule)
+
+  children-pass : (shift : ℕ) (k : Kind) (null : Bool) (stage : ℕ) (ns : Nodes) → Pass test (childFaults shift k null stage ns)
+  unfolding childFaults
+  children-pass shift k null stage end = pass-when test SHAPE (not null && ltb stage (lineOf k .enough)) shape
+  children-pass shift k null stage (node n attrs kids rest) =
+      pass-append test (go (nextChild k stage n) (λ j. children-pass shift j (isNull attrs) 0 kids)) (children-pass shift k null (ifSome (nextChild k stage n) (λ c. c .to) stage) rest)
+    where
+      go : (o : Option Child) → ((j : Kind) → Pass test (childFaults shift j (isNull attrs) 0 kids))
+          → Pass test (ifSome o (λ c. elementFaults shift (standingOf (c .kind)) (kindOf (c .kind) attrs) attrs kids (λ j. childFaults shift j (isNull attrs) 0 kids)) (SHAPE ∷ []))
+      go none h = pass-one test SHAPE shape
+      go (some c) h = element-passes shift (standingOf (c .kind)) (kindOf (c .kind) attrs) attrs kids (λ j. childFaults shift j (isNull attrs) 0 kids) h
+
+  -- the faults of a record's element
+  pub top-passes : (shift : ℕ) (e : Element) → Pass test (topFaults shift e)
+  top-passes shift e =
+      element-passes shift top (typeAmong allTypes (e .attrs)) (e .attrs) (e .kids) (λ k. childFaults shift k (isNull (e .attrs)) 0 (e .kids))
+      (λ k. children-pass shift k (isNull (e .attrs)) 0 (e .kids))
+
+  -- those of a record, if there is one element
+  pub element-or-markup : (shift : ℕ) (input : List ℕ) → test MARKUP ≡ true → Pass test (faultsIn (topFaults shift) (elementOf input))
+  element-or-markup shift input h = go (document input)
+    where
+      go : (o : Option Element) → Pass test (faultsIn (topFaults shift) (ifSome o answered (refused MARKUP)))
+      go none = pass-one test MARKUP h
+      go (some e) = top-passes shift e
 
 module _ (offset : ℤ) (input : List ℕ) where
-  record-early : AreEarly (recordFaults offset input)
-  unfolding recordFaults
-  record-early =
-      early-append
-      (early-append
-      (early-append (early-when OFFSET (not (isOffset offset)) refl) (early-when TOO-LONG (isTooLong input) refl))
-      (early-when NOT-UTF-8 (not (isUtf8 input)) refl))
-      (top-early (shiftBy offset) (elementOf input) (λ r. go (document input)))
-    where
-      go : (o : Option Element) {r : Refusal} → ifSome o answered (refused MARKUP) ≡ refused r → leb (number r) 8 ≡ true
-      go none {r} e = let z : MARKUP ≡ r = cc in rw (← z)
-      go (some d) e = clash (cc)
+  eight : Refusal → Bool
+  eight r = leb (number r) 8
+
+  record-passes : Pass eight (recordFaults offset input)
+  unfolding recordFaults eight
+  record-passes =
+      pass-append eight
+      (pass-append eight
+      (pass-append eight (pass-when eight OFFSET (not (isOffset offset)) refl) (pass-when eight TOO-LONG (isTooLong input) refl))
+      (pass-when eight NOT-UTF-8 (not (isUtf8 input)) refl))
+      (element-or-markup eight refl refl refl refl (shiftBy offset) input refl)
 
   pub check-refusals : {r : Refusal} → check offset input ≡ refused r → number r ≤ 8
-  check-refusals {r} e = first-early record-early (check-refused offset input r .0 e)
+  unfolding eight
+  check-refusals {r} e = leb-true (number r) 8 (first-passes eight record-passes (check-refused offset input r .0 e))

@@ -1,9 +1,9 @@
 -- Timestamps, amounts, currencies, OIDs and qualifiers hold no byte that references stand for.
-use Prim.Native.Nat.{ℕ, zero, suc, _≤_}
+use Prim.Native.Nat.{ℕ, zero, suc}
 use Prim.Native.String.{String}
 use mathlib.Core.Path.{_≡_, refl, sym, _∙_, ap, ap₂}
-use mathlib.Core.Logic.{_⊎_, inl, inr}
-use mathlib.Core.Bool.{Bool, true, false, not, _&&_, _||_, cond, or-assoc}
+use mathlib.Core.Logic.{inl, inr}
+use mathlib.Core.Bool.{Bool, true, false, not, _||_, cond, or-assoc}
 use mathlib.Core.List.{List, [], _∷_}
 use mathlib.Core.Option.{Option, none, some}
 use native.Mathlib.Omega.{arith}
@@ -13,7 +13,7 @@ use lib.IntN.{negℤ}
 use lib.ListN.{length}
 use Rattle.rules.specs.Basics.{exists, every, same, onto, split, words, bytes, oneOf, isFrom, isDigit, decimal}
 use Rattle.rules.specs.Refusal.{VALUE, refused}
-use Rattle.rules.specs.Parsers.{Parsed, bad, ok, Parser, next, else, pure, guard, _>>=_, _>>_, _or_, one, times, upTo, byte, whole}
+use Rattle.rules.specs.Parsers.{ok, Parser, pure, guard, _>>=_, _>>_, _or_, one, times, upTo, byte, whole}
 use Rattle.rules.specs.Timestamp.{Zone, noZone, digits, twoDigits, point, hours, zone, timestamp, plus, minus, readTimestamp}
 use Rattle.rules.specs.Forms.{amountText, isCurrency, isPlainNumber, isOid, isRoot, isQualifiers}
 use Rattle.rules.proofs.Tests.{clash, both-true, isFrom-true, every-true}
@@ -170,7 +170,7 @@ pub no-currency : (t : List ℕ) → exists isReferenced t ≡ true → isCurren
 no-currency = refuses isCurrency (exists isReferenced) λ t e.
     every-no (isFrom 65 90) isReferenced capital-unreferenced t (both-true (eqb (length t) 3) _ e .1)
 
-plain-digits : (w : List ℕ) → isPlainNumber w ≡ true → every isDigit w ≡ true
+pub plain-digits : (w : List ℕ) → isPlainNumber w ≡ true → every isDigit w ≡ true
 unfolding isPlainNumber every
 plain-digits [] e = refl
 plain-digits (c ∷ []) e = rw e
@@ -182,7 +182,7 @@ plain-digits (c ∷ d ∷ s) e =
 number-unreferenced : (w : List ℕ) → isPlainNumber w ≡ true → exists isReferenced w ≡ false
 number-unreferenced w e = every-no isDigit isReferenced digit-unreferenced w (plain-digits w e)
 
-oid-numbers : (l : List (List ℕ)) → isOid l ≡ true → every isPlainNumber l ≡ true
+pub oid-numbers : (l : List (List ℕ)) → isOid l ≡ true → every isPlainNumber l ≡ true
 unfolding isOid
 oid-numbers [] e = clash (cc)
 oid-numbers (a ∷ []) e = clash (cc)

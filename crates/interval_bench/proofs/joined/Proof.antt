@@ -1,73 +1,68 @@
--- `interval_bench::joined` meets its contract.
-use borrow.Author.Needs.{needs}
+-- `interval_bench::joined` meets its contract. The loop's invariant: the intervals 0 to k are joined.
+use Prim.Native.Nat.{_+_, _-_, _≤_}
+use mathlib.Core.Path.{_≡_}
 use native.Mathlib.Omega.{arith}
-use Prim.Native.Nat.{_-_, _≤_}
-use Rattle.interval.specs.Meaning.{Canonical}
+use Rattle.rules.specs.Sets.{meant}
+use Rattle.interval.specs.Meaning.{Holds}
+use Rattle.interval_bench.specs.Counts.{joinedTo}
+use Rattle.interval_bench.proofs.Joining.{joined-first, joined-more}
 use Rattle.interval_bench.proofs.joined.Statement.{statement}
 use Rattle.interval_bench.proofs.joined.Tie as tie
+use Rattle.interval_bench.proofs.joined.Reads as reads
+use Rattle.interval_bench.proofs.joined.Lts as lts
+use Rattle.interval.proofs.single.Reads as single-reads
+use Rattle.interval.proofs.with_interval.Reads as with-interval-reads
+use Rattle.interval_bench.proofs.piece.Reads as piece-reads
 
 abbrev Inv-loop : tie.InvT-loop
-Inv-loop ticks from count s₀ k₀ s k = (k ≤ count) × Canonical s × (s .count ≤ k)
+Inv-loop ticks from last s₀ k₀ s k = (k ≤ last) × Holds (meant (joinedTo ticks from k)) (k + 1) s
 
 abbrev μ-loop : tie.MeasureT-loop
-μ-loop ticks from count s₀ k₀ s k = count - k
+μ-loop ticks from last s₀ k₀ s k = last - k
 
-empty-requires : tie.Need-empty-requires Inv-loop μ-loop
-empty-requires c κs = search needs
+-- src/lib.rt:38:34
+piece-requires : tie.Need-piece-requires Inv-loop μ-loop
+piece-requires c κs = omega (arith, c .before .pre .1)
 
-loop-holds : tie.Need-loop-holds Inv-loop μ-loop
-loop-holds c = (omega arith, c .empty .ensures .canonical, c .empty .ensures .short)
-
-add-tick : tie.Need-add-tick Inv-loop μ-loop
-add-tick c = search needs
-
-add-tick-2 : tie.Need-add-tick-2 Inv-loop μ-loop
-add-tick-2 c = search needs
-
-mul-tick : tie.Need-mul-tick Inv-loop μ-loop
-mul-tick c = search needs
-
-shared-slice-read-tick : tie.Need-shared-slice-read-tick Inv-loop μ-loop
-shared-slice-read-tick c = search needs
-
-tick-requires : tie.Need-tick-requires Inv-loop μ-loop
-tick-requires c κs = search needs
-
-add-tick-3 : tie.Need-add-tick-3 Inv-loop μ-loop
-add-tick-3 c = search needs
-
-add-tick-4 : tie.Need-add-tick-4 Inv-loop μ-loop
-add-tick-4 c = search needs
-
-add-tick-5 : tie.Need-add-tick-5 Inv-loop μ-loop
-add-tick-5 c = search needs
-
-mul-tick-2 : tie.Need-mul-tick-2 Inv-loop μ-loop
-mul-tick-2 c = search needs
-
-shared-slice-read-tick-2 : tie.Need-shared-slice-read-tick-2 Inv-loop μ-loop
-shared-slice-read-tick-2 c = search needs
-
-tick-requires-2 : tie.Need-tick-requires-2 Inv-loop μ-loop
-tick-requires-2 c κs = search needs
-
+-- src/lib.rt:38:9
 single-requires : tie.Need-single-requires Inv-loop μ-loop
-single-requires c κs = (omega (arith, c .before .before .tick .ensures), omega (arith, c .tick2 .ensures))
+single-requires c κs = (c .piece .ensures .low, c .piece .ensures .high)
 
-combine-requires : tie.Need-combine-requires Inv-loop μ-loop
-combine-requires c κs = (c .before .before .before .before .before .before .loop .inv .1, (c .single .ensures .canonical, omega (arith, c .before .before .before .before .before .before .loop .inv .2, c .single .ensures .short, c .before .before .before .before .before .before .before .before .before .pre .0, c .before .before .before .before .before .loop-test .taken)))
+-- src/lib.rt:40:5
+loop-holds : tie.Need-loop-holds Inv-loop μ-loop
+loop-holds c = (omega arith, joined-first (c .before .before .before .args .ticks .now) (c .before .before .before .args .from) (c .before .piece .result) (c .single .result) (c .before .piece .ensures) (c .single .ensures))
 
+-- src/lib.rt:41:9
 add-k : tie.Need-add-k Inv-loop μ-loop
-add-k c = omega (arith, c .before .before .before .before .before .before .loop-test .taken, c .before .before .before .before .before .before .before .before .before .before .pre .0)
+add-k c = omega (arith, c .before .before .before .before .before .pre .0)
 
+-- src/lib.rt:42:53
+add-piece : tie.Need-add-piece Inv-loop μ-loop
+add-piece c = omega (arith, c .before .before .before .before .before .pre .1)
+
+-- src/lib.rt:42:53
+add-piece-2 : tie.Need-add-piece-2 Inv-loop μ-loop
+add-piece-2 c = omega (arith, c .before .before .before .before .before .pre .1)
+
+-- src/lib.rt:42:40
+piece-requires-2 : tie.Need-piece-requires-2 Inv-loop μ-loop
+piece-requires-2 c κs = omega (arith, c .before .before .before .before .before .pre .1)
+
+-- src/lib.rt:42:9
+with-interval-requires : tie.Need-with-interval-requires Inv-loop μ-loop
+with-interval-requires c κs = (c .before .before .loop .inv .1 .canonical, (omega (arith, c .before .before .loop .inv .1 .short, c .before .before .before .before .before .before .pre .0, c .before .loop-test .taken), (c .piece2 .ensures .low, c .piece2 .ensures .high)))
+
+-- src/lib.rt:40:5
 loop-less : tie.Need-loop-less Inv-loop μ-loop
-loop-less c = omega (arith, c .before .before .before .before .before .before .loop-test .taken)
+loop-less c = omega (arith, c .before .before .loop-test .taken)
 
+-- src/lib.rt:40:5
 loop-again : tie.Need-loop-again Inv-loop μ-loop
-loop-again c = (omega (arith, c .before .before .before .before .before .before .loop-test .taken), c .combine .ensures .canonical, omega (arith, c .combine .ensures .short, c .before .before .before .before .before .before .before .loop .inv .2, c .before .single .ensures .short))
+loop-again c = (omega (arith, c .before .before .loop-test .taken), joined-more (c .before .before .before .before .before .before .before .args .ticks .now) (c .before .before .before .before .before .before .before .args .from) (c .before .before .before .loop .k) (c .before .before .before .loop .s) (c .with-interval .result) (c .before .piece2 .result) (c .before .before .before .loop .inv .1) (c .before .piece2 .ensures) (c .with-interval .ensures))
 
+-- src/lib.rt:34:1
 returns : tie.Need-returns Inv-loop μ-loop
-returns c = (c .before .loop .inv .1, omega (arith, c .before .loop .inv .2))
+returns c = let e : c .before .loop .k ≡ c .before .before .before .before .before .args .last = omega (arith, c .loop-test .left) in rw e at (c .before .loop .inv .1)
 
 pub joined-spec : {M : Type 1} → statement M
 joined-spec =
@@ -75,22 +70,14 @@ joined-spec =
     (tie.spec
     Inv-loop
     μ-loop
-    empty-requires
-    loop-holds
-    add-tick
-    add-tick-2
-    mul-tick
-    shared-slice-read-tick
-    tick-requires
-    add-tick-3
-    add-tick-4
-    add-tick-5
-    mul-tick-2
-    shared-slice-read-tick-2
-    tick-requires-2
+    piece-requires
     single-requires
-    combine-requires
+    loop-holds
     add-k
+    add-piece
+    add-piece-2
+    piece-requires-2
+    with-interval-requires
     loop-less
     loop-again
     returns)

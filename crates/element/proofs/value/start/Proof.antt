@@ -13,8 +13,8 @@ read-byte-requires : tie.Need-read-byte-requires
 read-byte-requires c κs = search needs
 
 -- src/value.rt:23:18
-enum-known-quote : tie.Need-enum-known-quote
-enum-known-quote c = search needs
+enum-known-opening : tie.Need-enum-known-opening
+enum-known-opening c = search needs
 
 -- src/value.rt:24:9
 enum-told : tie.Need-enum-told
@@ -27,7 +27,7 @@ returns c = (c .before .before .before .before .pre, λ v a q. text-none (answer
 -- src/value.rt:17:1
 returns-2 : tie.Need-returns-2
 returns-2 c =
-    (found (c .before .quote .given .1) (c .before .before .before .read-byte .ensures) .high, text-start (found (c .before .quote .given .1) (c .before .before .before .read-byte .ensures)))
+    (found (c .before .opening .given .1) (c .before .before .before .read-byte .ensures) .high, text-start (found (c .before .opening .given .1) (c .before .before .before .read-byte .ensures)))
 
 pub start-spec : {M : Type 1} → statement M
-start-spec = tie.close (tie.spec read-byte-requires enum-known-quote enum-told returns returns-2)
+start-spec = tie.close (tie.spec read-byte-requires enum-known-opening enum-told returns returns-2)

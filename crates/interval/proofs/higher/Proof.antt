@@ -1,0 +1,30 @@
+-- `interval::higher` meets its contract.
+use native.Mathlib.Omega.{arith}
+use borrow.Author.Tests.{le-leb, lt-leb}
+use borrow.Author.Needs.{needs}
+use Rattle.interval.specs.Edges.{highEdge}
+use borrow.Author.Needs.{needs}
+use Rattle.interval.proofs.higher.Statement.{statement}
+use Rattle.interval.proofs.higher.Tie as tie
+use Rattle.interval.proofs.higher.Reads as reads
+use Rattle.interval.proofs.higher.Lts as lts
+use Rattle.interval.proofs.high_edge.Reads as high-edge-reads
+
+-- src/lib.rt:306:8
+high-edge-requires : tie.Need-high-edge-requires
+high-edge-requires c κs = search needs
+
+-- src/lib.rt:306:24
+high-edge-requires-2 : tie.Need-high-edge-requires-2
+high-edge-requires-2 c κs = search needs
+
+-- src/lib.rt:307:9
+returns : tie.Need-returns
+returns c = rw (le-leb (highEdge (c .before .before .before .args .b)) (highEdge (c .before .before .before .args .a)) (omega (arith, c .before .before .high-edge .ensures, c .before .high-edge2 .ensures, c .if1 .taken)))
+
+-- src/lib.rt:302:1
+returns-2 : tie.Need-returns-2
+returns-2 c = rw (lt-leb (highEdge (c .before .before .before .args .b)) (highEdge (c .before .before .before .args .a)) (omega (arith, c .before .before .high-edge .ensures, c .before .high-edge2 .ensures, c .if1 .left)))
+
+pub higher-spec : {M : Type 1} → statement M
+higher-spec = tie.close (tie.spec high-edge-requires high-edge-requires-2 returns returns-2)

@@ -1,0 +1,30 @@
+-- `interval::lower` meets its contract.
+use native.Mathlib.Omega.{arith}
+use borrow.Author.Tests.{le-leb, lt-leb}
+use borrow.Author.Needs.{needs}
+use Rattle.interval.specs.Edges.{lowEdge}
+use borrow.Author.Needs.{needs}
+use Rattle.interval.proofs.lower.Statement.{statement}
+use Rattle.interval.proofs.lower.Tie as tie
+use Rattle.interval.proofs.lower.Reads as reads
+use Rattle.interval.proofs.lower.Lts as lts
+use Rattle.interval.proofs.low_edge.Reads as low-edge-reads
+
+-- src/lib.rt:295:8
+low-edge-requires : tie.Need-low-edge-requires
+low-edge-requires c κs = search needs
+
+-- src/lib.rt:295:23
+low-edge-requires-2 : tie.Need-low-edge-requires-2
+low-edge-requires-2 c κs = search needs
+
+-- src/lib.rt:296:9
+returns : tie.Need-returns
+returns c = rw (le-leb (lowEdge (c .before .before .before .args .a)) (lowEdge (c .before .before .before .args .b)) (omega (arith, c .before .before .low-edge .ensures, c .before .low-edge2 .ensures, c .if1 .taken)))
+
+-- src/lib.rt:291:1
+returns-2 : tie.Need-returns-2
+returns-2 c = rw (lt-leb (lowEdge (c .before .before .before .args .a)) (lowEdge (c .before .before .before .args .b)) (omega (arith, c .before .before .low-edge .ensures, c .before .low-edge2 .ensures, c .if1 .left)))
+
+pub lower-spec : {M : Type 1} → statement M
+lower-spec = tie.close (tie.spec low-edge-requires low-edge-requires-2 returns returns-2)

@@ -1,0 +1,3 @@
+pub mod AttributeFaults
+pub mod ElementFaults
+pub mod Inputs

@@ -1,0 +1,19 @@
+-- `judge::refused_if` meets its contract.
+use Rattle.rules.specs.Refusal.{firstOf}
+use Rattle.judge.proofs.refused_if.Statement.{statement}
+use Rattle.judge.proofs.refused_if.Tie as tie
+use Rattle.judge.proofs.refused_if.Reads as reads
+use Rattle.judge.proofs.refused_if.Lts as lts
+
+-- src/lib.rt:49:9
+returns : tie.Need-returns
+unfolding firstOf
+returns c = rw (c .if1 .taken)
+
+-- src/lib.rt:45:1
+returns-2 : tie.Need-returns-2
+unfolding firstOf
+returns-2 c = rw (c .if1 .left)
+
+pub refused-if-spec : {M : Type 1} → statement M
+refused-if-spec = tie.close (tie.spec returns returns-2)

@@ -1,0 +1,49 @@
+-- The first fault of what stands from a position of a record on, in the words of the rules ("The refusal ladder").
+use Prim.Native.Nat.{ℕ}
+use mathlib.Core.Path.{_≡_}
+use mathlib.Core.Bool.{Bool, not, _||_}
+use mathlib.Core.List.{List, [], _∷_, _++_, flatMap}
+use mathlib.Core.Option.{Option}
+use Rattle.rules.specs.Basics.{ifSome, exists}
+use Rattle.rules.specs.Refusal.{Refusal, TOO-LONG, NOT-UTF-8, SHAPE, RULE, firstOf, faultsIn, _when_}
+use Rattle.rules.specs.Markup.{Attribute, Nodes, Element}
+use Rattle.rules.specs.Invariants.{isNull}
+use Rattle.rules.specs.Types.{Kind, lineOf}
+use Rattle.rules.specs.Judge.{Standing, attributeFaults, carries, lacks, breaksNull, elementFaults, kindOf, standingOf, childFaults, topFaults}
+use Rattle.rules.specs.Utf8.{isUtf8}
+use Rattle.rules.specs.Check.{isTooLong, elementOf}
+use Rattle.markup.specs.Attributes.{AttributesAt}
+use Rattle.element.specs.Places.{NodesAt}
+use Rattle.datatype.specs.Tables.{Step}
+
+-- the first fault of the attributes of an element of a kind, from a position on
+abbrev pub AttributeFaultsFrom : List ℕ → (shift : ℕ) → Standing → Kind → (at : ℕ) → Option Refusal → Type 0
+AttributeFaultsFrom s shift p k at o = (l : List Attribute) → AttributesAt s at l → o ≡ firstOf (flatMap (attributeFaults shift p k) l)
+
+-- whether one of the attributes from a position on is on the line of a kind
+abbrev pub OwnFrom : List ℕ → Kind → (at : ℕ) → Bool → Type 0
+OwnFrom s k at b = (l : List Attribute) → AttributesAt s at l → b ≡ exists (carries l) (lineOf k .columns)
+
+-- the first fault of the children from a position on, of an element of a kind, where its row stands at a stage
+abbrev pub ChildFaultsFrom : List ℕ → (shift depth : ℕ) → Kind → (null : Bool) → (stage at : ℕ) → Option Refusal → Type 0
+ChildFaultsFrom s shift depth k null stage at o = (l : Nodes) → NodesAt s at depth l → o ≡ firstOf (childFaults shift k null stage l)
+
+-- the faults of an element of a kind, but for those of its children
+abbrev pub ownFaults : (shift : ℕ) → Standing → Kind → Element → List Refusal
+ownFaults shift p k v =
+    flatMap (attributeFaults shift p k) (v .attrs)
+    ++ SHAPE when exists (lacks (v .attrs)) (lineOf k .columns)
+    ++ RULE when (lineOf k .invariant shift (v .attrs) (v .kids) || breaksNull k (v .attrs) (v .kids))
+
+-- every fault of an element, of the kind k if it has one, and of what is inside it
+abbrev pub judged : (shift : ℕ) → Standing → Option Kind → Element → List Refusal
+judged shift p k v = elementFaults shift p k (v .attrs) (v .kids) (λ j. childFaults shift j (isNull (v .attrs)) 0 (v .kids))
+
+-- every fault of a child, by the step that it is; one that is none is SHAPE
+abbrev pub childJudged : (shift : ℕ) → Option Step → Element → List Refusal
+childJudged shift o v = ifSome o (λ t. judged shift (standingOf (t .kind)) (kindOf (t .kind) (v .attrs)) v) (SHAPE ∷ [])
+
+-- every fault of any bytes as a record, but for OFFSET
+abbrev pub inputFaults : (shift : ℕ) → List ℕ → List Refusal
+inputFaults shift input =
+    TOO-LONG when isTooLong input ++ NOT-UTF-8 when not (isUtf8 input) ++ faultsIn (topFaults shift) (elementOf input)

@@ -1,0 +1,306 @@
+//! A second judge of records, written from the rules page alone: it goes through the tree that a record is and collects all its faults.
+//! The number that is due is the smallest.
+
+use std::collections::BTreeSet;
+
+use crate::markup::{self, Element};
+use crate::tick::{self, Calendar};
+
+/// The refusals that a record can get by itself, with the page's numbers, in the page's order.
+#[derive(Clone, Copy, PartialEq, Eq, PartialOrd, Ord, Debug)]
+pub enum Fault {
+    Offset = 1,
+    TooLong = 2,
+    NotUtf8 = 3,
+    Markup = 4,
+    Type = 5,
+    Shape = 6,
+    Value = 7,
+    Rule = 8,
+}
+
+pub const MOST_BYTES: usize = 16_384;
+
+/// The names of refusals, by number.
+pub const NAMES: [&str; 9] = ["ACCEPTED", "OFFSET", "TOO LONG", "NOT UTF-8", "MARKUP", "TYPE", "SHAPE", "VALUE", "RULE"];
+
+pub const TYPES: [&str; 9] = ["TS", "IVL_TS", "QSU_TS", "QSI_TS", "QSD_TS", "MO", "II", "CD", "EN"];
+
+pub const FLAVORS: [&str; 15] =
+    ["NI", "INV", "DER", "OTH", "NINF", "PINF", "UNC", "MSK", "NA", "UNK", "ASKU", "NAV", "NASK", "QS", "TRC"];
+
+pub const PART_TYPES: [&str; 4] = ["FAM", "GIV", "TITLE", "DEL"];
+
+pub const QUALIFIERS: [&str; 13] = ["LS", "AC", "NB", "PR", "HON", "BR", "AD", "SP", "MID", "CL", "IN", "PFX", "SFX"];
+
+/// Where an element stands, as far as `xsi:type` and `xmlns` go by it.
+#[derive(Clone, Copy, PartialEq)]
+enum Standing {
+    Top,
+    InSet,
+    Elsewhere,
+}
+
+/// All that is wrong with a record; its tree, where it has one.
+pub struct Judged {
+    pub faults: BTreeSet<Fault>,
+    pub tree: Option<Element>,
+}
+
+impl Judged {
+    /// The number that is due.
+    pub fn number(&self) -> u64 {
+        self.faults.first().map_or(0, |fault| *fault as u64)
+    }
+}
+
+/// Judges a record. What stands in a record can be asked only of one that is markup, and ticks only at an offset that may be.
+pub fn judge(record: &[u8], offset: i64, calendar: &Calendar) -> Judged {
+    let mut judge = Judge { faults: BTreeSet::new(), offset, calendar };
+    let text = std::str::from_utf8(record);
+    let tree = text.ok().and_then(markup::read);
+    judge.claim((-840..=840).contains(&offset), Fault::Offset);
+    judge.claim(record.len() <= MOST_BYTES, Fault::TooLong);
+    judge.claim(text.is_ok(), Fault::NotUtf8);
+    judge.claim(tree.is_some(), Fault::Markup);
+    if let Some(top) = tree.as_ref().filter(|_| !judge.faults.contains(&Fault::Offset)) {
+        judge.top(top);
+    }
+    Judged { faults: judge.faults, tree }
+}
+
+pub fn is_null(element: &Element) -> bool {
+    element.get("nullFlavor").is_some()
+}
+
+struct Judge<'a> {
+    faults: BTreeSet<Fault>,
+    offset: i64,
+    calendar: &'a Calendar,
+}
+
+impl Judge<'_> {
+    /// Notes a fault unless the claim holds.
+    fn claim(&mut self, holds: bool, otherwise: Fault) {
+        if !holds {
+            self.faults.insert(otherwise);
+        }
+    }
+
+    /// The text of an attribute, if there is one, has its form.
+    fn form(&mut self, element: &Element, name: &str, has_form: impl Fn(&str) -> bool) {
+        self.claim(element.get(name).is_none_or(has_form), Fault::Value);
+    }
+
+    // ---- What all elements have in common ----------------------------------------------------------------------------
+
+    /// Judges the attributes of an element against those of its own that it may carry, and `nullFlavor`.
+    fn attributes(&mut self, element: &Element, standing: Standing, own: &[&str]) {
+        for (name, _) in &element.attributes {
+            let allowed = match name.as_str() {
+                "xsi:type" => standing != Standing::Elsewhere,
+                "nullFlavor" => true,
+                n if n.starts_with("xmlns") => standing == Standing::Top,
+                n => own.contains(&n),
+            };
+            self.claim(allowed, Fault::Shape);
+        }
+        self.form(element, "nullFlavor", |text| FLAVORS.contains(&text));
+        let carries_own = own.iter().any(|name| element.get(name).is_some());
+        self.claim(!(is_null(element) && carries_own), Fault::Rule);
+    }
+
+    /// The children that are allowed, from left to right: `may_follow` is asked of the allowed ones before and of a name.
+    fn children<'e>(&mut self, element: &'e Element, may_follow: impl Fn(&[&Element], &str) -> bool) -> Vec<&'e Element> {
+        let mut allowed = Vec::new();
+        for child in &element.children {
+            if may_follow(&allowed, &child.name) {
+                allowed.push(child);
+            } else {
+                self.claim(false, Fault::Shape);
+            }
+        }
+        self.claim(!(is_null(element) && !allowed.is_empty()), Fault::Rule);
+        allowed
+    }
+
+    fn no_children(&mut self, element: &Element) {
+        self.children(element, |_, _| false);
+    }
+
+    // ---- Types -------------------------------------------------------------------------------------------------------
+
+    fn top(&mut self, element: &Element) {
+        let standing = Standing::Top;
+        match element.get("xsi:type") {
+            Some("TS") => self.point(element, standing),
+            Some("MO") => self.money(element),
+            Some("II") => self.identifier(element),
+            Some("CD") => self.code(element),
+            Some("EN") => self.name(element),
+            _ => self.set(element, standing),
+        }
+    }
+
+    /// An interval or a set of times.
+    fn set(&mut self, element: &Element, standing: Standing) {
+        match element.get("xsi:type") {
+            Some("IVL_TS") => self.interval(element, standing),
+            Some("QSU_TS" | "QSI_TS") => self.terms(element, standing),
+            Some("QSD_TS") => self.difference(element, standing),
+            _ => self.claim(false, Fault::Type),
+        }
+    }
+
+    fn point(&mut self, element: &Element, standing: Standing) {
+        self.attributes(element, standing, &["value"]);
+        self.no_children(element);
+        let (offset, calendar) = (self.offset, self.calendar);
+        self.form(element, "value", |text| tick::read(text, offset, calendar).is_some());
+        self.claim(element.get("value").is_some() || is_null(element), Fault::Rule);
+    }
+
+    fn interval(&mut self, element: &Element, standing: Standing) {
+        self.attributes(element, standing, &["lowClosed", "highClosed"]);
+        self.form(element, "lowClosed", |text| text == "true" || text == "false");
+        self.form(element, "highClosed", |text| text == "true" || text == "false");
+        let bounds = self.children(element, |before, name| match name {
+            "low" => before.is_empty(),
+            "high" => before.iter().all(|b| b.name != "high"),
+            _ => false,
+        });
+        for bound in &bounds {
+            self.point(bound, Standing::Elsewhere);
+            let (flag, unbounded, never) = match bound.name.as_str() {
+                "low" => (element.get("lowClosed"), "NINF", "PINF"),
+                _ => (element.get("highClosed"), "PINF", "NINF"),
+            };
+            let flavor = bound.get("nullFlavor");
+            self.claim(flavor.is_some() || flag.is_some(), Fault::Rule);
+            self.claim(!(flavor == Some(unbounded) && flag == Some("true")), Fault::Rule);
+            self.claim(flavor != Some(never), Fault::Rule);
+        }
+        if let [low, high] = bounds[..] {
+            let crossed = self.tick(low).zip(self.tick(high)).is_some_and(|(low, high)| low > high);
+            self.claim(!crossed, Fault::Rule);
+        }
+    }
+
+    /// The tick of a bound that has a value.
+    fn tick(&self, bound: &Element) -> Option<i64> {
+        tick::read(bound.get("value")?, self.offset, self.calendar).map(|(tick, _)| tick)
+    }
+
+    fn terms(&mut self, element: &Element, standing: Standing) {
+        self.attributes(element, standing, &[]);
+        let terms = self.children(element, |_, name| name == "term");
+        self.claim(is_null(element) || !terms.is_empty(), Fault::Shape);
+        for term in terms {
+            self.set(term, Standing::InSet);
+        }
+    }
+
+    fn difference(&mut self, element: &Element, standing: Standing) {
+        self.attributes(element, standing, &[]);
+        let sides = self.children(element, |before, name| match before.len() {
+            0 => name == "minuend",
+            1 => name == "subtrahend",
+            _ => false,
+        });
+        self.claim(is_null(element) || sides.len() == 2, Fault::Shape);
+        for side in sides {
+            self.set(side, Standing::InSet);
+        }
+    }
+
+    fn money(&mut self, element: &Element) {
+        self.attributes(element, Standing::Top, &["value", "currency"]);
+        self.no_children(element);
+        self.form(element, "value", |text| ten_thousandths(text).is_some());
+        self.form(element, "currency", |text| text.len() == 3 && text.bytes().all(|b| b.is_ascii_uppercase()));
+        let (value, currency) = (element.get("value").is_some(), element.get("currency").is_some());
+        self.claim(value == currency && (value || is_null(element)), Fault::Rule);
+    }
+
+    fn identifier(&mut self, element: &Element) {
+        self.attributes(element, Standing::Top, &["root", "extension"]);
+        self.no_children(element);
+        self.form(element, "root", is_oid);
+        self.form(element, "extension", is_filled);
+        self.claim(element.get("root").is_some() || is_null(element), Fault::Rule);
+    }
+
+    fn code(&mut self, element: &Element) {
+        self.attributes(element, Standing::Top, &["code", "codeSystem", "codeSystemName", "codeSystemVersion"]);
+        self.form(element, "codeSystem", is_oid);
+        for name in ["code", "codeSystemName", "codeSystemVersion"] {
+            self.form(element, name, is_filled);
+            self.claim(element.get(name).is_none() || element.get("codeSystem").is_some(), Fault::Rule);
+        }
+        let display_names = self.children(element, |before, name| name == "displayName" && before.is_empty());
+        for display_name in &display_names {
+            self.display_name(display_name);
+            self.claim(element.get("code").is_some(), Fault::Rule);
+        }
+        let says_something = element.get("code").is_some() || element.get("codeSystem").is_some();
+        self.claim(is_null(element) || says_something, Fault::Rule);
+    }
+
+    /// This one takes no `nullFlavor`.
+    fn display_name(&mut self, element: &Element) {
+        self.claim(element.attributes.len() == 1 && element.get("value").is_some(), Fault::Shape);
+        self.claim(element.children.is_empty(), Fault::Shape);
+        self.form(element, "value", is_filled);
+    }
+
+    fn name(&mut self, element: &Element) {
+        self.attributes(element, Standing::Top, &[]);
+        let parts = self.children(element, |_, name| name == "part");
+        self.claim(is_null(element) || !parts.is_empty(), Fault::Shape);
+        for part in parts {
+            self.attributes(part, Standing::Elsewhere, &["value", "type", "qualifier"]);
+            self.no_children(part);
+            self.form(part, "type", |text| PART_TYPES.contains(&text));
+            self.form(part, "qualifier", |text| text.split(' ').all(|q| QUALIFIERS.contains(&q)));
+            let qualifiers: Vec<&str> = part.get("qualifier").unwrap_or("").split(' ').collect();
+            self.claim(is_null(part) || part.get("value").is_some_and(is_filled), Fault::Rule);
+            self.claim(!(qualifiers.contains(&"PFX") && qualifiers.contains(&"SFX")), Fault::Rule);
+        }
+    }
+}
+
+// ---- Forms of texts ------------------------------------------------------------------------------------------------
+
+fn is_filled(text: &str) -> bool {
+    !text.is_empty()
+}
+
+fn are_digits(text: &str, least: usize, most: usize) -> bool {
+    (least..=most).contains(&text.len()) && text.bytes().all(|b| b.is_ascii_digit())
+}
+
+/// The amount that a text writes.
+pub fn ten_thousandths(text: &str) -> Option<i64> {
+    let (negative, unsigned) = match text.strip_prefix('-') {
+        Some(rest) => (true, rest),
+        None => (false, text),
+    };
+    let (whole, fraction) = unsigned.split_once('.').unwrap_or((unsigned, "0"));
+    if !are_digits(whole, 1, 12) || !are_digits(fraction, 1, 4) {
+        return None;
+    }
+    let amount: i64 = format!("{whole}{fraction:0<4}").parse().ok()?;
+    Some(if negative { -amount } else { amount })
+}
+
+fn is_oid(text: &str) -> bool {
+    let numbers: Vec<&str> = text.split('.').collect();
+    let is_number = |n: &&str| are_digits(n, 1, 128) && (!n.starts_with('0') || n.len() == 1);
+    let two_at_least = numbers.len() >= 2;
+    let first_two_fit = |first: &str, second: &str| match first {
+        "0" | "1" => second.len() <= 2 && second.parse().is_ok_and(|s: u64| s <= 39),
+        "2" => true,
+        _ => false,
+    };
+    text.len() <= 128 && two_at_least && numbers.iter().all(is_number) && first_two_fit(numbers[0], numbers[1])
+}
