@@ -46,14 +46,15 @@ module _ (offset : ℤ) (input list : List ℕ) where
   serves-refusal : {q : Refusal} → listing offset (roomOf list) input ≡ refused q → Serves (number q) list
   serves-refusal h = record { answers = rw h; leaves = rw h }
 
+  -- the check refused: a fault up to TYPE is given whatever the type
+  pub serves-early : (r : Refusal) → check offset input ≡ refused r → number r ≤ 5 → Serves (number r) list
+  unfolding rankIn
+  serves-early r faulty h = serves-refusal (listing-faulty-early offset (roomOf list) input r faulty (omega (arith, number-is r)))
+
   -- `b` says whether the record's type can be listed, if it has an element
   module _ {b : Bool} (told : (e : Element) → document input ≡ some e → b ≡ isListed e) where
     module _ (r : Refusal) (faulty : check offset input ≡ refused r) where
-      -- the check refused: a fault up to TYPE is given whatever the type
-      pub serves-early : number r ≤ 5 → Serves (number r) list
-      unfolding rankIn
-      serves-early h = serves-refusal (listing-faulty-early offset (roomOf list) input r faulty (omega (arith, number-is r)))
-
+      -- the check refused, and the type can be listed
       pub serves-listed : b ≡ true → Serves (number r) list
       serves-listed t = go (document input) refl
         where
@@ -61,7 +62,7 @@ module _ (offset : ℤ) (input list : List ℕ) where
           go none d = serves-refusal (listing-faulty-markup offset (roomOf list) input r faulty d)
           go (some e) d = serves-refusal (listing-faulty-listed offset (roomOf list) input r faulty e d (sym (told e d) ∙ t))
 
-      -- a later one gives way to TYPE
+      -- else a fault from TYPE on gives way to it
       pub serves-unlisted : b ≡ false → 5 ≤ number r → Serves 5 list
       unfolding rankIn
       serves-unlisted t h = go (document input) refl
