@@ -1,0 +1,24 @@
+-- `comparison::times::compare_moments` meets its contract.
+use Rattle.rules.specs.Comparison.{compareMoments}
+use Rattle.comparison.proofs.times.compare_moments.Statement.{statement}
+use Rattle.comparison.proofs.times.compare_moments.Tie as tie
+use Rattle.comparison.proofs.times.compare_moments.Reads as reads
+use Rattle.comparison.proofs.times.compare_moments.Lts as lts
+
+-- src/times.rt:25:9
+returns : tie.Need-returns
+unfolding compareMoments
+returns c = rw (c .if1 .taken)
+
+-- src/times.rt:28:9
+returns-2 : tie.Need-returns-2
+unfolding compareMoments
+returns-2 c = rw (c .before .before .before .before .before .if1 .left, c .if2 .taken)
+
+-- src/times.rt:21:1
+returns-3 : tie.Need-returns-3
+unfolding compareMoments
+returns-3 c = rw (c .before .before .before .before .before .if1 .left, c .if2 .left)
+
+pub compare-moments-spec : {M : Type 1} → statement M
+compare-moments-spec = tie.close (tie.spec returns returns-2 returns-3)

@@ -1,0 +1,74 @@
+// Comparison of timestamps and of intervals of times.
+ghost use mathlib.Core.Path.{_≡_};
+ghost use mathlib.Core.Bool.{Bool};
+ghost use Prim.Native.Nat.{ℕ, _≤_};
+ghost use lib.ListN.{length};
+ghost use Rattle.rules.specs.Markup.{Element};
+ghost use Rattle.rules.specs.Comparison.{compareMoments, compareEndpoints, compareTimes};
+ghost use Rattle.rules.specs.Invariants.{valued, infinite};
+ghost use Rattle.timestamp.specs.Moments.{momentOf};
+ghost use Rattle.element.specs.Places.{ElementAt};
+ghost use Rattle.datatype.specs.Bounds.{endpointMeant};
+ghost use Rattle.comparison.specs.Meaning.{answerMeant};
+use crate::Answer;
+use crate::also;
+use crate::answer_if;
+use datatype::bounds;
+use datatype::bounds::Endpoint;
+use timestamp::Moment;
+
+// Yes if precision and tick are the same; no if the spans share no tick; else unknown.
+fn compare_moments(a: Moment, b: Moment) -> Answer
+    ensures { λ r. ⌜ answerMeant r ≡ compareMoments (momentOf a) (momentOf b) ⌝ }
+{
+    if (a.precision == b.precision) & (a.start == b.start) {
+        return Answer::Yes;
+    }
+    if (a.start < b.next) & (b.start < a.next) {
+        return Answer::Unknown;
+    }
+    Answer::No
+}
+
+// A value against what another side says; `flags` says whether the flags are the same.
+fn compare_valued(flags: bool, a: Moment, b: Endpoint) -> Answer
+    ensures { λ r. ⌜ answerMeant r ≡ compareEndpoints flags (valued (momentOf a)) (endpointMeant b) ⌝ }
+{
+    match b {
+        Endpoint::Valued(m) => also(compare_moments(a, m), answer_if(flags)),
+        Endpoint::Infinite => Answer::No,
+        Endpoint::Unknown => Answer::Unknown,
+    }
+}
+
+// No bound against what another side says.
+fn compare_infinite(b: Endpoint) -> Answer
+    ensures { λ r. ⌜ ((flags : Bool) → answerMeant r ≡ compareEndpoints flags infinite (endpointMeant b)) ⌝ }
+{
+    match b {
+        Endpoint::Valued(_) => Answer::No,
+        Endpoint::Infinite => Answer::Yes,
+        Endpoint::Unknown => Answer::Unknown,
+    }
+}
+
+// What two sides say: unbounded equals unbounded and differs from a value; nothing said is unknown.
+fn compare_endpoints(flags: bool, a: Endpoint, b: Endpoint) -> Answer
+    ensures { λ r. ⌜ answerMeant r ≡ compareEndpoints flags (endpointMeant a) (endpointMeant b) ⌝ }
+{
+    match a {
+        Endpoint::Valued(m) => compare_valued(flags, m, b),
+        Endpoint::Infinite => compare_infinite(b),
+        Endpoint::Unknown => Answer::Unknown,
+    }
+}
+
+// TS: the values of the elements at two positions.
+pub fn compare_times(s: &[u8], at: usize, t: &[u8], other: usize, shift: u64) -> Answer
+    requires { ⌜ at ≤ length (now s) ⌝ ∗ ⌜ other ≤ length (now t) ⌝ ∗ ⌜ shift ≤ 1680 ⌝ }
+    ensures { λ r. ⌜ ((d e : ℕ) (v w : Element) → ElementAt (now (s .entry)) at d v → ElementAt (now (t .entry)) other e w → answerMeant r ≡ compareTimes shift v w) ⌝ }
+{
+    let a = bounds::valued(s, at, shift);
+    let b = bounds::valued(t, other, shift);
+    compare_endpoints(true, a, b)
+}
