@@ -3,6 +3,8 @@ ghost use mathlib.Core.Path.{_≡_};
 ghost use Rattle.rules.specs.Comparison.{answer, _also_};
 ghost use Rattle.comparison.specs.Meaning.{answerMeant};
 
+pub mod texts;
+
 // Yes, no, or unknown.
 pub enum Answer {
     Yes,
