@@ -4,17 +4,19 @@ ghost use mathlib.Core.Bool.{Bool};
 ghost use Prim.Native.Nat.{ℕ, _≤_};
 ghost use lib.ListN.{length};
 ghost use Rattle.rules.specs.Markup.{Element};
-ghost use Rattle.rules.specs.Comparison.{compareMoments, compareEndpoints, compareTimes};
+ghost use Rattle.rules.specs.Comparison.{sameAttribute, compareMoments, compareEndpoints, compareTimes, compareSides, compareIntervals};
 ghost use Rattle.rules.specs.Invariants.{valued, infinite};
 ghost use Rattle.timestamp.specs.Moments.{momentOf};
 ghost use Rattle.element.specs.Places.{ElementAt};
-ghost use Rattle.datatype.specs.Bounds.{endpointMeant};
+ghost use Rattle.datatype.specs.Bounds.{sideMeant, endpointMeant};
 ghost use Rattle.comparison.specs.Meaning.{answerMeant};
 use crate::Answer;
 use crate::also;
 use crate::answer_if;
+use crate::texts::same_attribute;
 use datatype::bounds;
 use datatype::bounds::Endpoint;
+use datatype::bounds::Side;
 use timestamp::Moment;
 
 // Yes if precision and tick are the same; no if the spans share no tick; else unknown.
@@ -71,4 +73,51 @@ pub fn compare_times(s: &[u8], at: usize, t: &[u8], other: usize, shift: u64) ->
     let a = bounds::valued(s, at, shift);
     let b = bounds::valued(t, other, shift);
     compare_endpoints(true, a, b)
+}
+
+// Whether the flags of two intervals on a side are the same.
+fn same_flag(s: &[u8], at: usize, t: &[u8], other: usize, side: Side) -> bool
+    requires { ⌜ at ≤ length (now s) ⌝ ∗ ⌜ other ≤ length (now t) ⌝ }
+    ensures { λ r. ⌜ ((d e : ℕ) (v w : Element) → ElementAt (now (s .entry)) at d v → ElementAt (now (t .entry)) other e w → r ≡ sameAttribute (sideMeant side .flag) (v .attrs) (w .attrs)) ⌝ }
+{
+    match side {
+        Side::Low => same_attribute(s, at, t, other, b"lowClosed"),
+        Side::High => same_attribute(s, at, t, other, b"highClosed"),
+    }
+}
+
+// A side of two intervals.
+fn compare_sides(
+    s: &[u8],
+    at: usize,
+    t: &[u8],
+    other: usize,
+    depth: usize,
+    side: Side,
+    shift: u64,
+) -> Answer
+    requires { ⌜ at ≤ length (now s) ⌝ ∗ ⌜ other ≤ length (now t) ⌝ ∗ ⌜ 1 ≤ depth ⌝ ∗ ⌜ shift ≤ 1680 ⌝ }
+    ensures { λ r. ⌜ ((v w : Element) → ElementAt (now (s .entry)) at depth v → ElementAt (now (t .entry)) other depth w → answerMeant r ≡ compareSides (sideMeant side) shift v w) ⌝ }
+{
+    let flags = same_flag(s, at, t, other, side);
+    let a = bounds::endpoint_of(s, at, depth, side, shift);
+    let b = bounds::endpoint_of(t, other, depth, side, shift);
+    compare_endpoints(flags, a, b)
+}
+
+// IVL_TS: lows, highs, and flags of sides where both are valued.
+pub fn compare_intervals(
+    s: &[u8],
+    at: usize,
+    t: &[u8],
+    other: usize,
+    depth: usize,
+    shift: u64,
+) -> Answer
+    requires { ⌜ at ≤ length (now s) ⌝ ∗ ⌜ other ≤ length (now t) ⌝ ∗ ⌜ 1 ≤ depth ⌝ ∗ ⌜ shift ≤ 1680 ⌝ }
+    ensures { λ r. ⌜ ((v w : Element) → ElementAt (now (s .entry)) at depth v → ElementAt (now (t .entry)) other depth w → answerMeant r ≡ compareIntervals shift v w) ⌝ }
+{
+    let low = compare_sides(s, at, t, other, depth, Side::Low, shift);
+    let high = compare_sides(s, at, t, other, depth, Side::High, shift);
+    also(low, high)
 }

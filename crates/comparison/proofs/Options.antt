@@ -1,0 +1,20 @@
+-- Absence is equal only to absence.
+use mathlib.Core.Path.{_≡_, refl, _∙_}
+use mathlib.Core.Bool.{Bool, false, not}
+use mathlib.Core.Option.{Option, none, some}
+use Rattle.rules.specs.Basics.{isSome}
+use Rattle.rules.specs.Comparison.{sameOption}
+
+module _ {A : Type 0} (test : A → A → Bool) where
+  pub left-absent : {o : Option A} {r : Bool} (p : Option A) → o ≡ none → r ≡ not (isSome p) → r ≡ sameOption test o p
+  left-absent p z e = e ∙ rw z (go p)
+    where
+      go : (p : Option A) → not (isSome p) ≡ sameOption test none p
+      go none = refl
+      go (some a) = refl
+
+  pub right-absent : {o p : Option A} {a : A} → o ≡ some a → p ≡ none → false ≡ sameOption test o p
+  right-absent z e = rw (z, e)
+
+  pub both-present : {o p : Option A} {a b : A} {r : Bool} → o ≡ some a → p ≡ some b → r ≡ test a b → r ≡ sameOption test o p
+  both-present z y e = rw (z, y) e
