@@ -4,6 +4,7 @@ ghost use Rattle.rules.specs.Comparison.{answer, _also_};
 ghost use Rattle.comparison.specs.Meaning.{answerMeant};
 
 pub mod texts;
+pub mod values;
 
 // Yes, no, or unknown.
 pub enum Answer {
