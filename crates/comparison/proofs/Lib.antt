@@ -1,1 +1,3 @@
 pub mod Options
+pub mod Answers
+pub mod Signs

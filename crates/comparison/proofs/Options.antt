@@ -18,3 +18,6 @@ module _ {A : Type 0} (test : A → A → Bool) where
 
   pub both-present : {o p : Option A} {a b : A} {r : Bool} → o ≡ some a → p ≡ some b → r ≡ test a b → r ≡ sameOption test o p
   both-present z y e = rw (z, y) e
+
+  pub carried : {o p o′ p′ : Option A} {r : Bool} → r ≡ sameOption test o p → o ≡ o′ → p ≡ p′ → r ≡ sameOption test o′ p′
+  carried e z y = e ∙ rw (z, y)

@@ -14,6 +14,7 @@ ghost use Rattle.comparison.specs.Meaning.{answerMeant, comparedMeant};
 
 pub mod texts;
 pub mod times;
+pub mod values;
 
 use datatype::kind::Kind;
 use datatype::reading::has_text;

@@ -1,0 +1,16 @@
+-- Answers by tests.
+use mathlib.Core.Path.{_≡_, sym, _∙_}
+use mathlib.Core.Bool.{Bool, true, false, _&&_, _||_, cond}
+
+pub both-tests : {a b p q : Bool} → a ≡ p → b ≡ q → (a && b) ≡ (p && q)
+both-tests e f = rw (e, f)
+
+pub either-test : {a b p q : Bool} → a ≡ p → b ≡ q → (a || b) ≡ (p || q)
+either-test e f = rw (e, f)
+
+module _ {A : Type 0} {b p : Bool} (e : b ≡ p) where
+  pub chosen : {x y : A} (z : A) → b ≡ true → x ≡ y → x ≡ cond p y z
+  chosen z t h = rw (sym e ∙ t) h
+
+  pub passed-over : (y z : A) → b ≡ false → z ≡ cond p y z
+  passed-over y z t = rw (sym e ∙ t)
