@@ -1,3 +1,4 @@
 pub mod Options
 pub mod Answers
 pub mod Signs
+pub mod Joined

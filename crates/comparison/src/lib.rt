@@ -3,6 +3,7 @@ ghost use mathlib.Core.Path.{_≡_};
 ghost use Rattle.rules.specs.Comparison.{answer, _also_};
 ghost use Rattle.comparison.specs.Meaning.{answerMeant};
 
+pub mod names;
 pub mod texts;
 pub mod values;
 
