@@ -12,5 +12,5 @@ module _ {A : Type 0} {b p : Bool} (e : b ≡ p) where
   pub chosen : {x y : A} (z : A) → b ≡ true → x ≡ y → x ≡ cond p y z
   chosen z t h = rw (sym e ∙ t) h
 
-  pub passed-over : (y z : A) → b ≡ false → z ≡ cond p y z
-  passed-over y z t = rw (sym e ∙ t)
+  pub left-over : {x z : A} (y : A) → b ≡ false → x ≡ z → x ≡ cond p y z
+  left-over y t h = rw (sym e ∙ t) h

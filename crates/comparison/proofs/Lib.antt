@@ -2,3 +2,4 @@ pub mod Options
 pub mod Answers
 pub mod Signs
 pub mod Types
+pub mod Joined

@@ -12,6 +12,7 @@ ghost use Rattle.element.specs.Places.{ElementAt};
 ghost use Rattle.datatype.specs.Meaning.{kindMeant};
 ghost use Rattle.comparison.specs.Meaning.{answerMeant, comparedMeant};
 
+pub mod names;
 pub mod texts;
 pub mod times;
 pub mod values;

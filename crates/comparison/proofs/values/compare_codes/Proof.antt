@@ -1,7 +1,7 @@
 -- `comparison::values::compare_codes` meets its contract.
-use mathlib.Core.Path.{_∙_, ap}
+use mathlib.Core.Path.{refl, _∙_, ap}
 use Rattle.rules.specs.Comparison.{answer}
-use Rattle.comparison.proofs.Answers.{both-tests, chosen, passed-over}
+use Rattle.comparison.proofs.Answers.{both-tests, chosen, left-over}
 use borrow.Author.Needs.{needs}
 use Rattle.comparison.proofs.values.compare_codes.Statement.{statement}
 use Rattle.comparison.proofs.values.compare_codes.Tie as tie
@@ -53,7 +53,7 @@ returns c = λ d e n v w g h. chosen (both-tests (c .before .before .before .bef
 
 -- src/values.rt:85:1
 returns-2 : tie.Need-returns-2
-returns-2 c = λ d e n v w g h. passed-over (both-tests (c .before .before .before .has .ensures d v g) (c .before .has2 .ensures e w h)) _ _ (c .if1 .left)
+returns-2 c = λ d e n v w g h. left-over (both-tests (c .before .before .before .has .ensures d v g) (c .before .has2 .ensures e w h)) _ (c .if1 .left) refl
 
 pub compare-codes-spec : {M : Type 1} → statement M
 compare-codes-spec =
