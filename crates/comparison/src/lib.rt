@@ -5,9 +5,9 @@ ghost use mathlib.Core.Option.{none, some};
 ghost use Prim.Native.Nat.{ℕ, _≤_};
 ghost use lib.ListN.{length};
 ghost use Rattle.rules.specs.Basics.{ifSome};
-ghost use Rattle.rules.specs.Markup.{Element};
+ghost use Rattle.rules.specs.Markup.{Element, document};
 ghost use Rattle.rules.specs.Types.{hasType};
-ghost use Rattle.rules.specs.Comparison.{Unknown as unknown, answer, _also_};
+ghost use Rattle.rules.specs.Comparison.{Unknown as unknown, answer, _also_, comparerOf, comparerFor, orUnknown};
 ghost use Rattle.element.specs.Places.{ElementAt};
 ghost use Rattle.datatype.specs.Meaning.{kindMeant};
 ghost use Rattle.comparison.specs.Meaning.{answerMeant, comparedMeant};
@@ -18,7 +18,11 @@ pub mod times;
 pub mod values;
 
 use datatype::kind::Kind;
+use datatype::kind::Named;
+use datatype::kind::type_of;
 use datatype::reading::has_text;
+use datatype::reading::is_null;
+use element::root;
 
 // Yes, no, or unknown.
 pub enum Answer {
@@ -91,4 +95,45 @@ fn unknown_if(compared: Compared, null: bool) -> Compared
         }
         Compared::Other => Compared::Other,
     }
+}
+
+// How many elements may be open at once.
+const DEPTH: usize = 8;
+
+// The answer on two values of a kind, neither null, or that values of the kind are not compared.
+fn compare_kind(s: &[u8], at: usize, t: &[u8], other: usize, kind: Kind, shift: u64) -> Compared
+    requires { ⌜ at ≤ length (now s) ⌝ ∗ ⌜ other ≤ length (now t) ⌝ ∗ ⌜ shift ≤ 1680 ⌝ }
+    ensures { λ r. ⌜ ((v w : Element) → ElementAt (now (s .entry)) at 8 v → ElementAt (now (t .entry)) other 8 w → comparedMeant r ≡ ifSome (comparerOf (kindMeant kind)) (λ f. some (f shift v w)) none) ⌝ }
+{
+    match kind {
+        Kind::Ts => Compared::Is(times::compare_times(s, at, t, other, shift)),
+        Kind::IvlTs => Compared::Is(times::compare_intervals(s, at, t, other, DEPTH, shift)),
+        Kind::QsuTs => Compared::Other,
+        Kind::QsiTs => Compared::Other,
+        Kind::QsdTs => Compared::Other,
+        Kind::Mo => Compared::Is(values::compare_money(s, at, t, other)),
+        Kind::Ii => Compared::Is(values::compare_identifiers(s, at, t, other)),
+        Kind::Cd => Compared::Is(values::compare_codes(s, at, t, other)),
+        Kind::En => Compared::Is(names::compare_names(s, at, t, other, DEPTH)),
+        Kind::DisplayName => Compared::Other,
+        Kind::Part => Compared::Other,
+    }
+}
+
+// The answer on two documents, or that they are not compared; `shift` is 840 less the agreed offset in minutes.
+pub fn compare(s: &[u8], t: &[u8], shift: u64) -> Compared
+    requires { ⌜ shift ≤ 1680 ⌝ }
+    ensures { λ r. ⌜ ((v w : Element) → document (now (s .entry)) ≡ some v → document (now (t .entry)) ≡ some w → comparedMeant r ≡ ifSome (comparerFor v w) (λ f. some (orUnknown f shift v w)) none) ⌝ }
+{
+    let at = root(s);
+    let other = root(t);
+    let named = type_of(s, at, true);
+    let Named::Is(kind) = named else {
+        return Compared::Other;
+    };
+    if has_type(t, other, kind) {
+        let null = is_null(s, at) | is_null(t, other);
+        return unknown_if(compare_kind(s, at, t, other, kind, shift), null);
+    }
+    Compared::Other
 }
