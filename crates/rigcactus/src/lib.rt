@@ -1,17 +1,20 @@
 // The services, as a host in C calls them. Each asks nothing of its caller, and its answer is the rules' for every input.
 ghost use mathlib.Core.Path.{_≡_};
 ghost use mathlib.Core.Bool.{true};
-ghost use Prim.Native.Nat.{_<_, _≤_, _^_};
+ghost use Prim.Native.Nat.{_+_, _*_, _^_, _<_, _≤_};
 ghost use lib.IntN.{subℕ};
 ghost use Rattle.rules.specs.Basics.{ifSome};
-ghost use Rattle.rules.specs.Refusal.{number as pageNumber, firstOf};
+ghost use Rattle.rules.specs.Refusal.{TYPE, number as pageNumber, firstOf};
 ghost use Rattle.rules.specs.Timestamp.{beforeStart};
 ghost use Rattle.rules.specs.Check.{isOffset, shiftBy};
-ghost use Rattle.rules.specs.Services.{packed, checkAnswer, listAnswer, listAfter, cutAnswer, tickAnswer, tickAfter};
+ghost use Rattle.rules.specs.Services.{packed, checkAnswer, compareAnswer, answerNumber, listAnswer, listAfter, cutAnswer, tickAnswer, tickAfter};
 ghost use Rattle.refusal.specs.Meaning.{faultOf};
 ghost use Rattle.timestamp.specs.Moments.{outcomeOf};
+ghost use Rattle.comparison.specs.Meaning.{answerMeant, comparedMeant};
 ghost use Rattle.listing.specs.Answers.{Few, packedListed};
 ghost use Rattle.rigcactus.specs.Faults.{listingFaults};
+use comparison::Answer;
+use comparison::Compared;
 use listing::Listed;
 use refusal::Refusal;
 use refusal::Verdict;
@@ -111,6 +114,48 @@ pub extern "C" fn rigcactus_list(record: &[u8], offset: i64, list: &mut [u8]) ->
     }
     let listed = listing::list(record, shift, list);
     listed_number(listed)
+}
+
+// The number of an answer.
+fn answer_number(answer: Answer) -> u64
+    ensures { λ r. ⌜ (r ≡ answerNumber (answerMeant answer)) × (r ≤ 3) ⌝ }
+{
+    match answer {
+        Answer::Yes => 1,
+        Answer::No => 2,
+        Answer::Unknown => 3,
+    }
+}
+
+// The packed answer on two records that were accepted.
+fn compared_number(compared: Compared) -> u64
+    ensures { λ r. ⌜ r ≡ ifSome (comparedMeant compared) (λ a. answerNumber a * 2 ^ 16) (pageNumber TYPE + 2 * 2 ^ 8) ⌝ }
+{
+    match compared {
+        Compared::Is(answer) => answer_number(answer) * 65_536,
+        Compared::Other => 5 + 512,
+    }
+}
+
+// Compares two records. Bits 0 to 7 of the answer are the refusal's number, 0 if both are accepted; bits 8 to 15 the record refused, 1 or 2,
+// else 0; bits 16 to 23 are 1 for yes, 2 for no, 3 for unknown, 0 after a refusal.
+#[no_mangle]
+pub extern "C" fn rigcactus_compare(first: &[u8], second: &[u8], offset: i64) -> u64
+    ensures { λ r. ⌜ r ≡ compareAnswer offset (now (first .entry)) (now (second .entry)) ⌝ }
+{
+    if !is_offset(offset) {
+        return refusal::number(Refusal::Offset) + 256;
+    }
+    let shift = shift_of(offset);
+    let one = judge::fault(first, shift);
+    if let Verdict::Refused(r) = one {
+        return refusal::number(r) + 256;
+    }
+    let other = judge::fault(second, shift);
+    if let Verdict::Refused(r) = other {
+        return refusal::number(r) + 512;
+    }
+    compared_number(comparison::compare(first, second, shift))
 }
 
 // The page's signed tick of a moment's start.

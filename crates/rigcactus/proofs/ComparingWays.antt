@@ -1,0 +1,58 @@
+-- The ways through the comparison service.
+use Prim.Native.Nat.{ℕ, _+_, _*_, _^_}
+use mathlib.Core.Path.{_≡_, refl, sym, _∙_, ap}
+use mathlib.Core.Bool.{true, false}
+use mathlib.Core.List.{List}
+use mathlib.Core.Option.{Option, none, some}
+use lib.IntN.{ℤ}
+use Rattle.rules.specs.Basics.{ifSome}
+use Rattle.rules.specs.Refusal.{Refusal, OFFSET, TYPE, number, firstOf, Outcome, answered, refused}
+use Rattle.rules.specs.Markup.{Element, document}
+use Rattle.rules.specs.Check.{isOffset, shiftBy, recordFaults, check}
+use Rattle.rules.specs.Comparison.{Answer, Comparer, comparerFor, orUnknown}
+use Rattle.rules.specs.Services.{comparison, compared, refusedSecond, answerNumber, comparedNumber, compareAnswer}
+use Rattle.rules.proofs.Tests.{clash}
+use Rattle.rules.proofs.Precedence.{check-refused, check-answered}
+use Rattle.judge.specs.Faults.{inputFaults}
+use Rattle.rigcactus.proofs.Checking.{record-offset, record-input}
+
+-- a record that is judged to be refused, or to be accepted
+module _ (offset : ℤ) (input : List ℕ) {shift : ℕ} (fine : isOffset offset ≡ true) (by : shift ≡ shiftBy offset) where
+  first-fault : {o : Option Refusal} → o ≡ firstOf (inputFaults shift input) → firstOf (recordFaults offset input) ≡ o
+  first-fault h = record-input offset input fine ∙ ap (λ (n : ℕ). firstOf (inputFaults n input)) (sym by) ∙ sym h
+
+  pub judged-refused : (r : Refusal) → some r ≡ firstOf (inputFaults shift input) → check offset input ≡ refused r
+  judged-refused r h = check-refused offset input r .1 (first-fault h)
+
+  pub judged-accepted : none ≡ firstOf (inputFaults shift input) → (e : Element) × (check offset input ≡ answered e)
+  judged-accepted h = go (check offset input) refl
+    where
+      go : (o : Outcome Element) → check offset input ≡ o → (e : Element) × (check offset input ≡ answered e)
+      go (answered e) a = (e, a)
+      go (refused r) f = let z : _≡_ {A = Option Refusal} none (some r) = sym (first-fault h) ∙ check-refused offset input r .0 f in clash (cc)
+
+module _ (offset : ℤ) (first second : List ℕ) where
+  pub compare-offset : isOffset offset ≡ false → number OFFSET + 256 ≡ compareAnswer offset first second
+  unfolding comparison
+  compare-offset e = rw (check-refused offset first OFFSET .1 (record-offset offset first e))
+
+  pub compare-first : (r : Refusal) → check offset first ≡ refused r → number r + 256 ≡ compareAnswer offset first second
+  unfolding comparison
+  compare-first r f = rw f
+
+  module _ (a : Element) (accepted : check offset first ≡ answered a) where
+    pub compare-second : (r : Refusal) → check offset second ≡ refused r → number r + 512 ≡ compareAnswer offset first second
+    unfolding comparison
+    compare-second r f = rw (accepted, f)
+
+    pub compare-both : (b : Element) → check offset second ≡ answered b → {shift : ℕ} → shift ≡ shiftBy offset → {c : Option Answer}
+        → ((v w : Element) → document first ≡ some v → document second ≡ some w → c ≡ ifSome (comparerFor v w) (λ f. some (orUnknown f shift v w)) none)
+        → ifSome c (λ x. answerNumber x * 2 ^ 16) (number TYPE + 2 * 2 ^ 8) ≡ compareAnswer offset first second
+    unfolding comparison
+    compare-both b f {shift} by {c} h =
+        rw (accepted, f, h a b (check-answered offset first a .0 accepted .0) (check-answered offset second b .0 f .0), by) (go (comparerFor a b))
+      where
+        go : (f : Option Comparer) → ifSome (ifSome f (λ f. some (orUnknown f (shiftBy offset) a b)) none) (λ x. answerNumber x * 2 ^ 16) (number TYPE + 2 * 2 ^ 8)
+            ≡ comparedNumber (ifSome f (λ f. compared (orUnknown f (shiftBy offset) a b)) (refusedSecond TYPE))
+        go none = refl
+        go (some f) = refl
