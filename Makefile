@@ -1,7 +1,8 @@
 # Rigcactus: the library, the program over it, and what tries them. All that is built lies below target/.
 #
 #     make          the library (proved first) and the program, target/host/rigcactus
-#     make run      cuts names in several scripts, reads timestamps, checks records and lists the times of passes, for a reader to look at
+#     make run      cuts names in several scripts, reads timestamps, checks and compares records, lists the times of passes, for a reader
+#                   to look at
 #     make test     tries the library, the header and the program
 #     make bench    compares speed with Rust's standard library, with glibc and with expat
 #     make compare-expat    compares the reader of markup with expat on a million texts; it needs expat
@@ -20,8 +21,8 @@ program = target/host/rigcactus
 records = $(wildcard tests/records/*.txt)
 proved = $(shell find crates \( -name '*.rt' -o -name '*.antt' \) -not -path '*/must-fail/*') crates.txt
 # The services that the archive has. Adding one here has tests/services.rs try it.
-services = rigcactus_cut rigcactus_tick rigcactus_check rigcactus_list
-c_api = $(patsubst %,target/tests/c_api_%,1 2 3 4)
+services = rigcactus_cut rigcactus_tick rigcactus_check rigcactus_list rigcactus_compare
+c_api = $(patsubst %,target/tests/c_api_%,1 2 3 4 5)
 tests = target/tests/header_c $(c_api) target/tests/services target/tests/markup_stack target/tests/markup_reader
 places = 0 16 32 48
 cxx = $(shell command -v $(CXX) 2> /dev/null)
@@ -57,6 +58,8 @@ run: $(program)
 	@examples/check.sh
 	@echo
 	@examples/list.sh
+	@echo
+	@examples/compare.sh
 
 test: $(program) $(tests) $(if $(cxx),target/tests/header_cxx)
 	tests/run
@@ -99,7 +102,8 @@ target/tests/compare_expat: tests/markup/expat.c $(markup_archive)
 
 # The bench is linked with the services at four places, since their speed depends on that. Without expat nothing is there to compare
 # checking with.
-bench: $(places:%=target/bench/%/cut) $(places:%=target/bench/%/tick) $(if $(expat),$(places:%=target/bench/%/check)) $(places:%=target/bench/%/list)
+benches = cut tick $(if $(expat),check) list compare
+bench: $(foreach bench,$(benches),$(places:%=target/bench/%/$(bench)))
 	@bench/times
 	@bench/instructions
 
@@ -116,6 +120,9 @@ target/bench/%/check: bench/check.c $(header) target/bench/%/librigcactus.a
 	$(CC) $(CFLAGS) -Iinclude -o $@ $< $(@D)/librigcactus.a -lexpat
 
 target/bench/%/list: bench/list.c $(header) target/bench/%/librigcactus.a
+	$(CC) $(CFLAGS) -Iinclude -o $@ $< $(@D)/librigcactus.a
+
+target/bench/%/compare: bench/compare.c $(header) target/bench/%/librigcactus.a
 	$(CC) $(CFLAGS) -Iinclude -o $@ $< $(@D)/librigcactus.a
 
 clean:

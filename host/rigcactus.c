@@ -298,6 +298,36 @@ static int run_list(int argument_count, char **arguments, const struct options *
     return finish_output();
 }
 
+/* The words for what a comparison answers. */
+static const char *comparison_name(int comparison)
+{
+    switch (comparison) {
+    case RIGCACTUS_YES: return "yes";
+    case RIGCACTUS_NO: return "no";
+    default: return "unknown";
+    }
+}
+
+static int run_compare(int argument_count, char **arguments, const struct options *options)
+{
+    (void)argument_count;
+    struct input inputs[2];
+    for (int i = 0; i < 2; i++) {
+        int status = read_file(arguments[i], &inputs[i]);
+        if (status != ACCEPTED)
+            return status;
+    }
+    uint64_t answer = rigcactus_compare(inputs[0].bytes, inputs[0].length, inputs[1].bytes, inputs[1].length, options->offset);
+    int refusal = rigcactus_refusal(answer);
+    if (refusal != RIGCACTUS_ACCEPTED) {
+        bool is_first = rigcactus_refused_record(answer) == 1;
+        return say(REFUSED, "refused: %s (%d), the %s record, %s", rigcactus_refusal_name(refusal), refusal, is_first ? "first" : "second",
+                   arguments[is_first ? 0 : 1]);
+    }
+    puts(comparison_name(rigcactus_comparison(answer)));
+    return finish_output();
+}
+
 static const struct command commands[] = {
     {"cut", "ROOM < FILE", "print the longest beginning of FILE that is whole characters and fits ROOM bytes", 1, false, false, false,
      run_cut},
@@ -307,6 +337,8 @@ static const struct command commands[] = {
      true, false, run_check},
     {"list", "FILE [--offset MINUTES] [--raw]", "print the times that the set in FILE means, a line for each stretch", 1, false, true, true,
      run_list},
+    {"compare", "FILE FILE [--offset MINUTES]", "print whether the records in both FILEs have the same value: yes, no or unknown", 2, false,
+     true, false, run_compare},
 };
 
 static const size_t command_count = sizeof commands / sizeof commands[0];
@@ -327,7 +359,8 @@ static void write_usage(FILE *to)
             "MINUTES is the agreed offset from UTC, -%d to %d, for timestamps that carry none; it is 0 if not given.\n"
             "list writes times as clocks at that offset show them; with --raw as four numbers: low kind, low tick, high kind, high\n"
             "tick. Kinds are 0 unbounded, 1 not included, 2 included.\n"
-            "What is refused is named, with its number: by check in the line of its FILE, else on standard error.\n"
+            "What is refused is named, with its number: by check in the line of its FILE, else on standard error. All of yes, no and\n"
+            "unknown count as accepted.\n"
             "\n"
             "Exit status: 0 accepted, 1 refused, 2 bad usage, 3 reading or writing failed.\n",
             RIGCACTUS_MOST_BYTES, RIGCACTUS_MOST_OFFSET, RIGCACTUS_MOST_OFFSET);

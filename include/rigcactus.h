@@ -5,7 +5,8 @@
  * says either that the input is accepted, with a result, or why it is refused, with no result:
  *
  *     bits 0 to 7     the refusal's number, 0 if accepted; rigcactus_refusal takes it out
- *     bits 8 to 63    the result; each service says what it is and what takes it out
+ *     bits 8 to 63    the result; each service says what it is and what takes it out. After a refusal they are 0, but for
+ *                     rigcactus_compare, which says in bits 8 to 15 which record is refused
  *
  *     uint64_t answer = rigcactus_cut(name, name_len, 24);
  *     if (rigcactus_refusal(answer) == RIGCACTUS_ACCEPTED)
@@ -133,6 +134,25 @@ static inline size_t rigcactus_count(uint64_t answer)
     return answer >> 8;
 }
 
+/* What an answer of rigcactus_compare says of two values. */
+enum rigcactus_comparisons {
+    RIGCACTUS_YES = 1,     /* they are the same */
+    RIGCACTUS_NO = 2,      /* they are not */
+    RIGCACTUS_UNKNOWN = 3  /* what is written does not say */
+};
+
+/* The comparison that an answer of rigcactus_compare holds, one of enum rigcactus_comparisons; 0 after a refusal. */
+static inline int rigcactus_comparison(uint64_t answer)
+{
+    return (answer >> 16) & 0xFF;
+}
+
+/* The record that an answer of rigcactus_compare refuses: 1 for the first, 2 for the second; 0 if both are accepted. */
+static inline int rigcactus_refused_record(uint64_t answer)
+{
+    return (answer >> 8) & 0xFF;
+}
+
 /* ---- Lists -------------------------------------------------------------------------------------------------------- */
 
 /* The kinds of a stretch's bounds: whether it has one, and whether the tick there belongs to the stretch. */
@@ -251,6 +271,30 @@ uint64_t rigcactus_check(const uint8_t *record, size_t record_len, int64_t offse
  * 638502480000000, 1, 638502480000000, 1, 638503776000000.
  */
 uint64_t rigcactus_list(const uint8_t *record, size_t record_len, int64_t offset, uint8_t *list, size_t list_len);
+
+/*
+ * Compares two records of one type: TS, IVL_TS, MO, II, CD or EN. rigcactus_comparison of the answer is RIGCACTUS_YES, RIGCACTUS_NO
+ * or RIGCACTUS_UNKNOWN. Where either value is null it is unknown, for two nulls too; else:
+ *
+ * TS        yes if tick and precision are the same; no if the spans of time that they mean share no tick; else unknown.
+ * IVL_TS    the lows, the highs, and the flags of a side where both have a value: a no makes no, else an unknown makes unknown.
+ *           Unbounded equals unbounded and differs from a value; against a missing or null bound all is unknown.
+ * MO        amount and currency. 12.5 and 12.50 are the same amount, and so are 0 and -0.
+ * II        root and extension; that there is none equals only that there is none.
+ * CD        code and codeSystem; unknown if either has no code. Names, version and display name do not count.
+ * EN        no if the counts of parts differ, else the parts in order, by type and value, as for IVL_TS; a null part is unknown.
+ *
+ * first, first_len      the first record, as for rigcactus_check.
+ * second, second_len    the second record. The two may overlap, or be the same.
+ * offset                the agreed offset, as for rigcactus_check, for both.
+ *
+ * Refusals: those of rigcactus_check, for the first record, and if there are none for the second; then RIGCACTUS_TYPE against the
+ * second if the types differ or are set types, also where a value is null. rigcactus_refused_record of the answer is the record:
+ * 1 or 2; for RIGCACTUS_OFFSET it is 1.
+ *
+ * <t xsi:type="TS" value="20240501"/> and <t xsi:type="TS" value="2024050112"/> are unknown: the one may be any time of the day.
+ */
+uint64_t rigcactus_compare(const uint8_t *first, size_t first_len, const uint8_t *second, size_t second_len, int64_t offset);
 
 #ifdef __cplusplus
 }

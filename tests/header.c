@@ -43,7 +43,10 @@ static void check_refusals(void)
     CHECK(is_name(12, "UNLISTED") && is_name(255, "UNLISTED") && is_name(-1, "UNLISTED"));
 }
 
-/* Bits 0 to 7 are the refusal; the other bits are the length or the count, or bits 8 to 15 the precision. */
+/*
+ * Bits 0 to 7 are the refusal; the other bits are the length or the count, or bits 8 to 15 the precision, or bits 8 to 15 the record and
+ * bits 16 to 23 the comparison.
+ */
 static void check_helpers(void)
 {
     CHECK(rigcactus_refusal(0) == RIGCACTUS_ACCEPTED && rigcactus_length(0) == 0);
@@ -54,6 +57,10 @@ static void check_helpers(void)
     CHECK(rigcactus_precision(0) == 0 && rigcactus_precision(7) == 0);
     CHECK(rigcactus_precision(0x400) == 4 && rigcactus_precision(0x1200) == 18);
     CHECK(rigcactus_precision(0x3412FF) == 0x12 && rigcactus_precision(UINT64_MAX) == 255);
+    CHECK(RIGCACTUS_YES == 1 && RIGCACTUS_NO == 2 && RIGCACTUS_UNKNOWN == 3);
+    CHECK(rigcactus_comparison(0x10000) == RIGCACTUS_YES && rigcactus_refused_record(0x10000) == 0 && rigcactus_refusal(0x10000) == 0);
+    CHECK(rigcactus_comparison(0x205) == 0 && rigcactus_refused_record(0x205) == 2 && rigcactus_refusal(0x205) == RIGCACTUS_TYPE);
+    CHECK(rigcactus_comparison(UINT64_MAX) == 255 && rigcactus_refused_record(UINT64_MAX) == 255);
     CHECK(rigcactus_count(0) == 0 && rigcactus_count(11) == 0);
     CHECK(rigcactus_count(0x2000) == 32 && rigcactus_count(UINT64_MAX) == (UINT64_MAX >> 8));
 }
@@ -313,6 +320,60 @@ static void check_list_refusals(void)
     CHECK(rigcactus_list((const uint8_t *)many, sizeof many, 0, lent, 1024) == RIGCACTUS_TOO_LONG && is_kept(0));
 }
 
+static uint64_t comparison_of(const char *first, const char *second, int64_t offset)
+{
+    return rigcactus_compare((const uint8_t *)first, strlen(first), (const uint8_t *)second, strlen(second), offset);
+}
+
+/* An answer, and nothing else in it. */
+static int is_compared(const char *first, const char *second, int comparison)
+{
+    return comparison_of(first, second, 0) == (uint64_t)comparison << 16 && comparison_of(second, first, 0) == (uint64_t)comparison << 16;
+}
+
+static int is_refused_pair(const char *first, const char *second, int64_t offset, int record, int refusal)
+{
+    uint64_t answer = comparison_of(first, second, offset);
+    return rigcactus_refused_record(answer) == record && rigcactus_refusal(answer) == refusal && answer >> 16 == 0;
+}
+
+#define MONEY(value) "<t xsi:type=\"MO\" value=\"" value "\" currency=\"EUR\"/>"
+#define TIME(value) "<t xsi:type=\"TS\" value=\"" value "\"/>"
+
+static void check_compare(void)
+{
+    CHECK(is_compared(MONEY("12.5"), MONEY("12.50"), RIGCACTUS_YES));
+    CHECK(is_compared(MONEY("12.5"), MONEY("12.51"), RIGCACTUS_NO));
+    CHECK(is_compared(MONEY("12.5"), "<t xsi:type=\"MO\" nullFlavor=\"NI\"/>", RIGCACTUS_UNKNOWN));
+    CHECK(is_compared(TIME("20240501"), TIME("2024050112"), RIGCACTUS_UNKNOWN));
+    CHECK(is_compared(TIME("20240501"), TIME("2024050212"), RIGCACTUS_NO));
+    CHECK(is_compared(TIME("2024050102+02"), TIME("2024050100"), RIGCACTUS_YES));
+    CHECK(comparison_of(TIME("2024050102+02"), TIME("2024050100"), 60) == (uint64_t)RIGCACTUS_NO << 16);
+    CHECK(is_refused_pair(MONEY("12.5"), TIME("2024"), 0, 2, RIGCACTUS_TYPE));
+    CHECK(is_refused_pair(STAY, STAY, 0, 2, RIGCACTUS_TYPE));
+    CHECK(is_refused_pair(MONEY("12,5"), TIME("?"), 0, 1, RIGCACTUS_VALUE));
+    CHECK(is_refused_pair(MONEY("12.5"), TIME("?"), 0, 2, RIGCACTUS_VALUE));
+    CHECK(is_refused_pair(MONEY("12.5"), MONEY("12.5"), 841, 1, RIGCACTUS_OFFSET));
+    CHECK(is_refused_pair(MONEY("12.5"), MONEY("\xFF"), 841, 1, RIGCACTUS_OFFSET));
+}
+
+/* No bytes are no element. The same memory, twice; both sides of the limit. */
+static void check_compare_limits(void)
+{
+    static const uint8_t record[] = MONEY("12.5");
+    static uint8_t padded[RIGCACTUS_MOST_BYTES + 1];
+    size_t length = sizeof record - 1;
+    memset(padded, ' ', sizeof padded);
+    memcpy(padded, record, length);
+    CHECK(rigcactus_compare(NULL, 0, record, length, 0) == (0x100 | RIGCACTUS_MARKUP));
+    CHECK(rigcactus_compare(record, length, NULL, 0, 0) == (0x200 | RIGCACTUS_MARKUP));
+    CHECK(rigcactus_compare(NULL, 0, NULL, 0, -841) == (0x100 | RIGCACTUS_OFFSET));
+    CHECK(rigcactus_compare(record, length, record, length, -840) == 0x10000);
+    CHECK(rigcactus_compare(padded, 16384, padded, length, 840) == 0x10000);
+    CHECK(rigcactus_compare(padded, 16385, padded, length, 0) == (0x100 | RIGCACTUS_TOO_LONG));
+    CHECK(rigcactus_compare(padded, length, padded, 16385, 0) == (0x200 | RIGCACTUS_TOO_LONG));
+}
+
 int main(void)
 {
     check_refusals();
@@ -328,5 +389,7 @@ int main(void)
     check_list_helpers();
     check_list();
     check_list_refusals();
+    check_compare();
+    check_compare_limits();
     return failures == 0 ? 0 : 1;
 }

@@ -204,6 +204,36 @@ expect 1 '' 'rigcactus: refused: TOO LONG (2)' list /dev/zero
 expect 1 '' 'rigcactus: refused: OFFSET (1)' list pass.xml --offset 841
 expect 3 '' 'rigcactus: cannot read none: No such file or directory' list none
 
+# Two records: one word, or which of them is refused.
+printf '<deposit xsi:type="MO" value="12.5" currency="EUR"/>' > same-deposit
+printf '<deposit xsi:type="MO" value="12.51" currency="EUR"/>' > other-deposit
+expect 0 'yes\n' '' compare deposit.xml same-deposit
+expect 0 'yes\n' '' compare same-deposit deposit.xml
+expect 0 'yes\n' '' compare deposit.xml deposit.xml
+expect 0 'no\n' '' compare deposit.xml other-deposit
+expect 0 'unknown\n' '' compare guest.xml guest-not-asked.xml
+expect 0 'unknown\n' '' compare guest-not-asked.xml guest-not-asked.xml
+for type in arrival badge deposit guest pass reason; do
+  expect 0 'yes\n' '' compare "$type.xml" "$type.xml"
+done
+expect 1 '' 'rigcactus: refused: TYPE (5), the second record, badge.xml' compare deposit.xml badge.xml
+expect 1 '' 'rigcactus: refused: TYPE (5), the second record, stay.xml' compare stay.xml stay.xml
+expect 1 '' 'rigcactus: refused: VALUE (7), the first record, value' compare value rule
+expect 1 '' 'rigcactus: refused: RULE (8), the second record, rule' compare deposit.xml rule
+expect 1 '' 'rigcactus: refused: MARKUP (4), the first record, empty' compare empty empty
+expect 1 '' 'rigcactus: refused: TOO LONG (2), the second record, longer' compare longest longer
+expect 0 'yes\n' '' compare longest deposit.xml
+expect 1 '' 'rigcactus: refused: OFFSET (1), the first record, pass.xml' compare pass.xml value --offset 841
+
+# The agreed offset: noon without an offset is the same as noon in UTC only if that was agreed on.
+printf '<t xsi:type="TS" value="2024050112"/>' > noon
+printf '<t xsi:type="TS" value="2024050112+00"/>' > noon-utc
+expect 0 'yes\n' '' compare noon noon-utc
+expect 0 'no\n' '' compare noon noon-utc --offset 60
+expect 0 'unknown\n' '' compare noon noon-utc --offset -30
+expect 3 '' 'rigcactus: cannot read none: No such file or directory' compare none pass.xml
+expect 3 '' 'rigcactus: cannot read none: No such file or directory' compare pass.xml none
+
 # Bad usage.
 printf 'abc' > in
 expect 2 '' '*'
@@ -244,12 +274,20 @@ expect 2 '' '*' list pass.xml --offset --raw
 expect 2 '' '*' list pass.xml --offset x
 expect 2 '' '*' tick 2024 --raw
 
+expect 2 '' '*' compare
+expect 2 '' '*' compare pass.xml
+expect 2 '' '*' compare pass.xml pass.xml pass.xml
+expect 2 '' '*' compare pass.xml --offset 0
+expect 2 '' '*' compare pass.xml pass.xml --offset
+expect 2 '' '*' compare pass.xml pass.xml --raw
+
 # Help, which is not an error.
 "$program" --help > out 2> err || fail '--help ended with an error'
 grep -q '^  cut ROOM < FILE$' out || fail '--help does not name the command cut'
 grep -q '^  tick TEXT \[--offset MINUTES\]$' out || fail '--help does not name the command tick'
 grep -q '^  check FILE.. \[--offset MINUTES\]$' out || fail '--help does not name the command check'
 grep -q '^  list FILE \[--offset MINUTES\] \[--raw\]$' out || fail '--help does not name the command list'
+grep -q '^  compare FILE FILE \[--offset MINUTES\]$' out || fail '--help does not name the command compare'
 [ ! -s err ] || fail '--help wrote to standard error'
 
 # Reading and writing that fail.
@@ -263,5 +301,7 @@ printf 'abc' | "$program" cut 3 > /dev/full 2> err
 [ $? -eq 3 ] || fail 'check pass.xml to a full device did not end with 3'
 "$program" list pass.xml > /dev/full 2> err
 [ $? -eq 3 ] || fail 'list pass.xml to a full device did not end with 3'
+"$program" compare pass.xml pass.xml > /dev/full 2> err
+[ $? -eq 3 ] || fail 'compare pass.xml pass.xml to a full device did not end with 3'
 
 [ "$failures" -eq 0 ]
