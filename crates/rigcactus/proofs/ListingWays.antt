@@ -99,9 +99,6 @@ module _ (offset : ℤ) (input list : List ℕ) where
         typed true z = refl
         typed false z = clash (cc)
 
-        only : (e : Element) → check offset input ≡ answered e → (d : Element) → document input ≡ some d → e ≡ d
-        only e a d z = ap (λ (o : Option Element). ifSome o (λ x. x) e) (sym (check-answered offset input e .0 a .0) ∙ z)
-
         go : (o : Outcome Element) → check offset input ≡ o → Serves offset input list (packedListed r) after
         go (refused q) f = some-earlier q (firstOf (faultsIn unlisted (elementOf input))) (split h ∙ rw (check-refused offset input q .0 f))
-        go (answered e) a = serves-list offset input list {b = true} (λ d z. rw (← only e a d z) (sym (typed (isListed e) (type-fault e a h)))) e a refl {r = r} {after = after} (rw (← by) tells)
+        go (answered e) a = serves-list offset input list e a (typed (isListed e) (type-fault e a h)) r after (rw (← by) tells)
