@@ -7,7 +7,7 @@ ghost use Rattle.rules.specs.Parsers.{ok};
 ghost use Rattle.rules.specs.Markup.{Element, value};
 ghost use Rattle.rules.specs.Types.{memberTypes, allTypes, typeAmong};
 ghost use Rattle.element.specs.Places.{ElementAt};
-ghost use Rattle.datatype.specs.Meaning.{kindMeant, typeMeant, namedAmong, typesFor};
+ghost use Rattle.datatype.specs.Meaning.{typeMeant, namedAmong, typesFor};
 use element::find;
 use element::value::is;
 use markup::tag::Found;

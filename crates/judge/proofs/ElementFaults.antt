@@ -1,23 +1,21 @@
 -- The faults of an element put together, and those of children, one after another.
 use Prim.Native.Nat.{ℕ}
-use mathlib.Core.Path.{_≡_, refl, sym, _∙_, ap}
+use mathlib.Core.Path.{_≡_, sym, _∙_, ap}
 use mathlib.Core.Bool.{Bool, _&&_, _||_}
 use mathlib.Core.List.{List, [], _∷_, _++_, flatMap}
-use mathlib.Core.Option.{Option, none, some}
+use mathlib.Core.Option.{Option, some}
 use Rattle.rules.specs.Basics.{ifSome, exists, same, isFrom}
 use Rattle.rules.specs.Refusal.{Refusal, SHAPE, RULE, earlier, firstOf, _when_}
 use Rattle.rules.specs.Markup.{Nodes, end, node, Element}
 use Rattle.rules.specs.Types.{Kind, Child, lineOf}
-use Rattle.rules.specs.Judge.{Standing, attributeFaults, lacks, breaksNull, elementFaults, kindOf, standingOf, nextChild, childFaults}
+use Rattle.rules.specs.Judge.{Standing, attributeFaults, lacks, breaksNull, elementFaults, kindOf, standingOf, childFaults}
 use Rattle.rules.specs.Invariants.{isNull}
 use Rattle.rules.proofs.Precedence.{firstOf-append, earlier-assoc, earlier-comm}
-use Rattle.text.specs.declared.Read.{Read}
-use Rattle.text.specs.declared.Read.the-variants.{At, Bad}
-use Rattle.element.specs.Places.{ElementAt, NodesAt, KidsAt, Steps}
+use Rattle.element.specs.Places.{ElementAt, NodesAt, Steps}
 use Rattle.element.specs.declared.Step.{Step as Stepped}
 use Rattle.element.specs.declared.Step.the-variants.{One, End}
 use Rattle.datatype.specs.Tables.{Step, stepAmong}
-use Rattle.datatype.proofs.Kids.{kids-none, kids-some, steps-none, steps-some}
+use Rattle.datatype.proofs.Kids.{steps-none, steps-some}
 use Rattle.judge.specs.Faults.{ownFaults, judged, childJudged, ChildFaultsFrom}
 use Rattle.judge.proofs.AttributeFaults.{picked}
 

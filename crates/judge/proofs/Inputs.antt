@@ -1,18 +1,17 @@
 -- The ways through the judgement of any bytes as a record: what is found before an element is judged comes first.
 use Prim.Native.Nat.{ℕ, _≤_, _<_}
 use mathlib.Core.Path.{_≡_, refl}
-use mathlib.Core.Bool.{Bool, true, false, not, cond}
-use mathlib.Core.List.{List, [], _∷_, _++_}
+use mathlib.Core.Bool.{Bool, true, false, not}
+use mathlib.Core.List.{List, _∷_}
 use mathlib.Core.Option.{Option, none, some}
 use borrow.Author.Tests.{lt-ltb, le-ltb}
 use lib.Dec.{leb}
 use lib.ListN.{length}
 use Rattle.rules.specs.Basics.{isSome, ifSome}
-use Rattle.rules.specs.Refusal.{Refusal, TOO-LONG, NOT-UTF-8, MARKUP, rankIn, rank, earlier, firstOf, answered, refused, faultsIn, _when_}
+use Rattle.rules.specs.Refusal.{Refusal, TOO-LONG, NOT-UTF-8, MARKUP, rankIn, rank, earlier, firstOf, answered, refused, faultsIn}
 use Rattle.rules.specs.Markup.{Element, document}
 use Rattle.rules.specs.Judge.{topFaults}
 use Rattle.rules.specs.Utf8.{isUtf8}
-use Rattle.rules.specs.Check.{isTooLong, elementOf}
 use Rattle.rules.proofs.Tests.{clash}
 use Rattle.rules.proofs.CheckRefusals.{Pass, pass-append, pass-when, first-passes, element-or-markup}
 use Rattle.judge.specs.Faults.{inputFaults}

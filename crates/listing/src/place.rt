@@ -1,7 +1,7 @@
 // Whether a place is in the set of times that an element writes: place by place, set within set, with no list.
 ghost use mathlib.Core.Path.{_≡_};
 ghost use mathlib.Core.List.{[]};
-ghost use Prim.Native.Nat.{ℕ, _^_, _≤_, _<_};
+ghost use Prim.Native.Nat.{_^_, _≤_, _<_};
 ghost use lib.ListN.{length};
 ghost use Rattle.rules.specs.Markup.{Element};
 ghost use Rattle.rules.specs.Listing.{intervalOf};

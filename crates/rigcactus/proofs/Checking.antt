@@ -2,16 +2,15 @@
 use Prim.Native.Nat.{ℕ}
 use mathlib.Core.Path.{_≡_, refl, sym, _∙_, ap}
 use mathlib.Core.Bool.{Bool, true, false, not}
-use mathlib.Core.List.{List, [], _∷_, _++_}
+use mathlib.Core.List.{List}
 use mathlib.Core.Option.{Option, none, some}
 use lib.Dec.{leb}
 use lib.IntN.{ℤ}
 use Rattle.rules.specs.Basics.{ifSome}
-use Rattle.rules.specs.Refusal.{Refusal, OFFSET, TOO-LONG, NOT-UTF-8, number, rankIn, rank, firstOf, Outcome, answered, refused, faultsIn, _when_}
+use Rattle.rules.specs.Refusal.{Refusal, OFFSET, TOO-LONG, NOT-UTF-8, number, rankIn, rank, firstOf, Outcome, answered, refused}
 use Rattle.rules.specs.Markup.{Element}
 use Rattle.rules.specs.Utf8.{isUtf8}
-use Rattle.rules.specs.Judge.{topFaults}
-use Rattle.rules.specs.Check.{isOffset, shiftBy, isTooLong, elementOf, recordFaults, check}
+use Rattle.rules.specs.Check.{isOffset, shiftBy, isTooLong, recordFaults, check}
 use Rattle.rules.specs.Services.{packed, checkAnswer}
 use Rattle.rules.proofs.Tests.{clash}
 use Rattle.rules.proofs.Precedence.{check-refused}

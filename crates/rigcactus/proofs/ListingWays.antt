@@ -16,7 +16,7 @@ use Rattle.rules.specs.Listing.{unlisted, listElement}
 use Rattle.rules.specs.ListingPromise.{isListed}
 use Rattle.rules.specs.Services.{listing, roomOf}
 use Rattle.rules.proofs.Tests.{clash}
-use Rattle.rules.proofs.Precedence.{firstOf-append, earlier-assoc, earlier-none-right, no-fault, check-refused, check-answered}
+use Rattle.rules.proofs.Precedence.{firstOf-append, earlier-assoc, earlier-none-right, check-refused, check-answered}
 use Rattle.rules.proofs.ListingCases.{listing-unlisted, listing-faulty, listing-faulty-early}
 use Rattle.judge.specs.Faults.{inputFaults}
 use Rattle.listing.specs.Answers.{packedListed, Answers}

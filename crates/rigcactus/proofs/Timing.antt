@@ -1,5 +1,5 @@
 -- The ways through the timestamp service.
-use Prim.Native.Nat.{ℕ, _*_, _≤_, _<_}
+use Prim.Native.Nat.{ℕ, _≤_, _<_}
 use mathlib.Core.Path.{_≡_, refl, sym, _∙_}
 use mathlib.Core.Logic.{_⊎_, inl, inr}
 use mathlib.Core.Bool.{Bool, true, false, not}
@@ -9,16 +9,16 @@ use borrow.Author.Tests.{lt-ltb, le-ltb}
 use lib.ListN.{length}
 use lib.IntN.{ℤ}
 use Rattle.rules.specs.Basics.{ifSome}
-use Rattle.rules.specs.Refusal.{OFFSET, TOO-LONG, VALUE, number, Outcome, answered, refused, rankIn, firstOf, _unless_, _when_}
+use Rattle.rules.specs.Refusal.{OFFSET, TOO-LONG, VALUE, Outcome, answered, refused, rankIn, firstOf, _unless_, _when_}
 use Rattle.rules.specs.Parsers.{whole}
-use Rattle.rules.specs.Timestamp.{Written, isDate, isClock, isZone, timestamp, writtenFaults, Moment, momentOf, tickOf, readTimestamp}
+use Rattle.rules.specs.Timestamp.{Written, isDate, isClock, isZone, timestamp, writtenFaults, Moment, momentOf, readTimestamp}
 use Rattle.rules.specs.Check.{isOffset, shiftBy, isTooLong}
 use Rattle.timestamp.specs.Moments.{momentOf as moment, outcomeOf}
 use Rattle.timestamp.specs.declared.Moment.{Moment as CodeMoment}
 use Rattle.timestamp.specs.declared.Timestamp.{Timestamp}
 use Rattle.timestamp.specs.declared.Timestamp.the-variants.{At, Refused}
 use Rattle.refusal.specs.declared.Refusal.{Refusal}
-use Rattle.rules.specs.Services.{packed, lentAfter, timing, tickAnswer, tickAfter}
+use Rattle.rules.specs.Services.{packed, timing, tickAnswer, tickAfter}
 
 -- a text is read as a moment, or refused by VALUE
 read-or-value : (shift : ℕ) (text : List ℕ) → ((m : Moment) × (readTimestamp shift text ≡ answered m)) ⊎ (readTimestamp shift text ≡ refused VALUE)
