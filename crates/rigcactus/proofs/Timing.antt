@@ -21,7 +21,7 @@ use Rattle.refusal.specs.declared.Refusal.{Refusal}
 use Rattle.rules.specs.Services.{packed, timing, tickAnswer, tickAfter}
 
 -- a text is read as a moment, or refused by VALUE
-read-or-value : (shift : ℕ) (text : List ℕ) → ((m : Moment) × (readTimestamp shift text ≡ answered m)) ⊎ (readTimestamp shift text ≡ refused VALUE)
+pub read-or-value : (shift : ℕ) (text : List ℕ) → ((m : Moment) × (readTimestamp shift text ≡ answered m)) ⊎ (readTimestamp shift text ≡ refused VALUE)
 unfolding readTimestamp writtenFaults firstOf rankIn
 read-or-value shift text = by-form (whole timestamp text)
   where

@@ -7,12 +7,13 @@ ghost use Rattle.rules.specs.Basics.{ifSome};
 ghost use Rattle.rules.specs.Refusal.{TYPE, number as pageNumber, firstOf};
 ghost use Rattle.rules.specs.Timestamp.{beforeStart};
 ghost use Rattle.rules.specs.Check.{isOffset, shiftBy};
-ghost use Rattle.rules.specs.Services.{packed, checkAnswer, compareAnswer, answerNumber, listAnswer, listAfter, cutAnswer, tickAnswer, tickAfter};
+ghost use Rattle.rules.specs.Services.{packed, answerNumber};
 ghost use Rattle.refusal.specs.Meaning.{faultOf};
 ghost use Rattle.timestamp.specs.Moments.{outcomeOf};
 ghost use Rattle.comparison.specs.Meaning.{answerMeant, comparedMeant};
 ghost use Rattle.listing.specs.Answers.{Few, packedListed};
 ghost use Rattle.rigcactus.specs.Faults.{listingFaults};
+ghost use Rattle.rigcactus.specs.Demands.{services};
 use comparison::Answer;
 use comparison::Compared;
 use listing::Listed;
@@ -27,7 +28,7 @@ const MOST: usize = 16_384;
 // the other bits are the length of its longest beginning that is whole characters and at most the room.
 #[no_mangle]
 pub extern "C" fn rigcactus_cut(text: &[u8], room: u64) -> u64
-    ensures { λ r. ⌜ r ≡ cutAnswer (now (text .entry)) room ⌝ }
+    ensures { λ r. ⌜ r ≡ services .cut-says (now (text .entry)) room ⌝ }
 {
     if MOST < text.len() {
         return refusal::number(Refusal::TooLong);
@@ -66,7 +67,7 @@ fn verdict_number(v: Verdict) -> u64
 // Checks a record. Bits 0 to 7 of the answer are the refusal's number, 0 if the record is accepted; the other bits are 0.
 #[no_mangle]
 pub extern "C" fn rigcactus_check(record: &[u8], offset: i64) -> u64
-    ensures { λ r. ⌜ r ≡ checkAnswer offset (now («record» .entry)) ⌝ }
+    ensures { λ r. ⌜ r ≡ services .check-says offset (now («record» .entry)) ⌝ }
 {
     if !is_offset(offset) {
         return refusal::number(Refusal::Offset);
@@ -101,8 +102,8 @@ fn listed_number(listed: Listed) -> u64
 // its stretches, which the list then begins with: four numbers each, eight bytes a number, lowest first. A refusal leaves the list as it was.
 #[no_mangle]
 pub extern "C" fn rigcactus_list(record: &[u8], offset: i64, list: &mut [u8]) -> u64
-    ensures { λ r. ⌜ r ≡ listAnswer offset (now («record» .entry)) (now (list .entry)) ⌝ }
-    ensures { λ r. ⌜ now (list .exit) ≡ listAfter offset (now («record» .entry)) (now (list .entry)) ⌝ }
+    ensures { λ r. ⌜ r ≡ services .list-says offset (now («record» .entry)) (now (list .entry)) ⌝ }
+    ensures { λ r. ⌜ now (list .exit) ≡ services .list-leaves offset (now («record» .entry)) (now (list .entry)) ⌝ }
 {
     if !is_offset(offset) {
         return refusal::number(Refusal::Offset);
@@ -141,7 +142,7 @@ fn compared_number(compared: Compared) -> u64
 // else 0; bits 16 to 23 are 1 for yes, 2 for no, 3 for unknown, 0 after a refusal.
 #[no_mangle]
 pub extern "C" fn rigcactus_compare(first: &[u8], second: &[u8], offset: i64) -> u64
-    ensures { λ r. ⌜ r ≡ compareAnswer offset (now (first .entry)) (now (second .entry)) ⌝ }
+    ensures { λ r. ⌜ r ≡ services .compare-says offset (now (first .entry)) (now (second .entry)) ⌝ }
 {
     if !is_offset(offset) {
         return refusal::number(Refusal::Offset) + 256;
@@ -180,8 +181,8 @@ fn refusal_number(t: Timestamp) -> u64
 // its precision. The tick is written only then.
 #[no_mangle]
 pub extern "C" fn rigcactus_tick(text: &[u8], offset: i64, tick: &mut i64) -> u64
-    ensures { λ r. ⌜ r ≡ tickAnswer offset (now (text .entry)) ⌝ }
-    ensures { λ r. ⌜ now (tick .exit) ≡ tickAfter offset (now (text .entry)) (now (tick .entry)) ⌝ }
+    ensures { λ r. ⌜ r ≡ services .tick-says offset (now (text .entry)) ⌝ }
+    ensures { λ r. ⌜ now (tick .exit) ≡ services .tick-leaves offset (now (text .entry)) (now (tick .entry)) ⌝ }
 {
     if !is_offset(offset) {
         return refusal::number(Refusal::Offset);

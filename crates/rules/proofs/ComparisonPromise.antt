@@ -56,11 +56,11 @@ of-type k e t =
     record { named = h; among-all = one-type (e .attrs) k h c .0; comparer = c }
 
 -- two elements are of one type that is compared, and have its comparer; or they are not, and have none
-data Pair (a b : Element) : Option Comparer → Type 0 where
+pub data Pair (a b : Element) : Option Comparer → Type 0 where
   alike : (k : Kind) (f : Comparer) → comparedType a ≡ some k → comparedType b ≡ some k → comparerOf k ≡ some f → Pair a b (some f)
   unlike : ((k : Kind) → comparedType a ≡ some k → comparedType b ≡ some k → ⊥) → Pair a b none
 
-pair : (a b : Element) → Pair a b (comparerFor a b)
+pub pair : (a b : Element) → Pair a b (comparerFor a b)
 unfolding comparerFor every
 pair a b = by-first (typeAmong allTypes (a .attrs)) refl
   where
@@ -143,18 +143,18 @@ module _ (shift : ℕ) where
       go (unlike h) e = clash (cc)
 
 -- the bits of an answer
-names-first : (r : Refusal) → Names 1 r (comparedNumber (refusedFirst r))
+pub names-first : (r : Refusal) → Names 1 r (comparedNumber (refusedFirst r))
 names-first r = let h = small r in record { number-given = omega arith; record-named = omega arith; no-answer = omega arith }
 
-names-second : (r : Refusal) → Names 2 r (comparedNumber (refusedSecond r))
+pub names-second : (r : Refusal) → Names 2 r (comparedNumber (refusedSecond r))
 names-second r = let h = small r in record { number-given = omega arith; record-named = omega arith; no-answer = omega arith }
 
-says : (x : Answer) → Says x (comparedNumber (compared x))
+pub says : (x : Answer) → Says x (comparedNumber (compared x))
 says Yes = record { no-refusal = refl; no-record = refl; answer-given = refl }
 says No = record { no-refusal = refl; no-record = refl; answer-given = refl }
 says Unknown = record { no-refusal = refl; no-record = refl; answer-given = refl }
 
-says-one : (x y : Answer) {n : ℕ} → Says x n → Says y n → x ≡ y
+pub says-one : (x y : Answer) {n : ℕ} → Says x n → Says y n → x ≡ y
 says-one x y h i = go x y (sym (h .answer-given) ∙ i .answer-given)
   where
     go : (x y : Answer) → answerNumber x ≡ answerNumber y → x ≡ y
@@ -197,7 +197,7 @@ module _ (offset : ℤ) where
   abbrev shift : ℕ
   shift = shiftBy offset
 
-  comparison-of : (a b : List ℕ) {o p : Outcome Element} → check offset a ≡ o → check offset b ≡ p → compareAnswer offset a b ≡ comparedNumber (compareChecked shift o p)
+  pub comparison-of : (a b : List ℕ) {o p : Outcome Element} → check offset a ≡ o → check offset b ≡ p → compareAnswer offset a b ≡ comparedNumber (compareChecked shift o p)
   unfolding comparison
   comparison-of a b e f = rw (e, f)
 

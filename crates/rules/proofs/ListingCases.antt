@@ -4,13 +4,14 @@ use mathlib.Core.Path.{_≡_, refl, _∙_, ap}
 use mathlib.Core.Bool.{Bool, true, false, not, cond}
 use mathlib.Core.List.{List, [], _∷_, _++_, append-eq-nil-iff, List·Memᴰ·head, Memᴰ·append-right}
 use mathlib.Core.Option.{Option, none, some}
+use native.Mathlib.Decide.{decLe}
 use native.Mathlib.Omega.{arith}
 use borrow.Author.Tests.{lt-ltb, le-ltb, le-leb, not-false}
 use lib.Dec.{ltb}
 use lib.ListN.{length}
 use lib.IntN.{ℤ}
 use Rattle.rules.specs.Basics.{isSome, find}
-use Rattle.rules.specs.Refusal.{Refusal, OFFSET, TOO-LONG, NOT-UTF-8, MARKUP, TYPE, UNKNOWN-BOUND, TOO-MANY, NO-ROOM, number, rankIn, rank, firstOf, Outcome, answered, refused, faultsIn, _unless_, _when_, _andThen_}
+use Rattle.rules.specs.Refusal.{Refusal, OFFSET, TOO-LONG, NOT-UTF-8, MARKUP, TYPE, UNKNOWN-BOUND, TOO-MANY, NO-ROOM, number, rankIn, rank, earlier, firstOf, Outcome, answered, refused, faultsIn, _unless_, _when_, _andThen_}
 use Rattle.rules.specs.Markup.{Attribute, Element, document}
 use Rattle.rules.specs.Types.{IVL-TS, QSU-TS, QSI-TS, QSD-TS, memberTypes, hasType, typeAmong}
 use Rattle.rules.specs.Utf8.{isUtf8}
@@ -21,7 +22,7 @@ use Rattle.rules.specs.Sets.{Expression}
 use Rattle.rules.specs.Stretches.{stretches}
 use Rattle.rules.specs.Listing.{operationOf, setFrom, setOf, intervalsWritten, unlisted, listElement}
 use Rattle.rules.specs.Services.{listing}
-use Rattle.rules.specs.ListingPromise.{isClear, isListed}
+use Rattle.rules.specs.ListingPromise.{isClear, isListed, IsSetOfTimes}
 use Rattle.rules.proofs.Tests.{clash}
 use Rattle.rules.proofs.Precedence.{number-is, earlier-comm, first-is, when-none, check-answered, check-refused}
 use Rattle.rules.proofs.CheckRefusals.{check-refusals}
@@ -178,3 +179,34 @@ module _ (offset : ℤ) (room : ℕ) (input : List ℕ) where
     pub listing-faulty-unlisted : (e : Element) → document input ≡ some e → isListed e ≡ false → rank TYPE ≤ rank r → listing offset room input ≡ refused TYPE
     unfolding firstOf
     listing-faulty-unlisted e d l h = listing-faulty (rw (d, l) (first-right r TYPE h))
+
+module _ (offset : ℤ) (input : List ℕ) where
+  -- every record is of one of five cases
+  pub data Case : Type 0 where
+    faulty : (r q : Refusal) → check offset input ≡ refused r → firstOf (r ∷ faultsIn unlisted (elementOf input)) ≡ some q → Case
+    other-type : (e : Element) → check offset input ≡ answered e → isListed e ≡ false → Case
+    unclear : (e : Element) → check offset input ≡ answered e → isListed e ≡ true → isClear (shiftBy offset) e ≡ false → Case
+    many : (e : Element) → check offset input ≡ answered e → isListed e ≡ true → isClear (shiftBy offset) e ≡ true → 32 < intervalsWritten e → Case
+    a-set : (e : Element) → IsSetOfTimes offset input e → Case
+
+  pub case : Case
+  unfolding firstOf
+  case = go (check offset input) refl
+    where
+      first : (r : Refusal) (rs : List Refusal) → (q : Refusal) × (firstOf (r ∷ rs) ≡ some q)
+      first r rs = elim (firstOf rs) as (λ o. (q : Refusal) × (earlier (some r) o ≡ some q)) [ none ↦ (r, refl) | some p ↦ (_, refl) ]
+
+      clear : (e : Element) → check offset input ≡ answered e → isListed e ≡ true → isClear (shiftBy offset) e ≡ true → Case
+      clear e h l c = elim (decLe (intervalsWritten e) 32) [ yes f ↦ a-set e (record { accepted = h; listed = l; clear = c; few = f }) | no f ↦ many e h l c (omega arith) ]
+
+      listed : (e : Element) (b : Bool) → check offset input ≡ answered e → isListed e ≡ true → isClear (shiftBy offset) e ≡ b → Case
+      listed e true h l c = clear e h l c
+      listed e false h l c = unclear e h l c
+
+      accepted : (e : Element) (b : Bool) → check offset input ≡ answered e → isListed e ≡ b → Case
+      accepted e true h l = listed e _ h l refl
+      accepted e false h l = other-type e h l
+
+      go : (o : Outcome Element) → check offset input ≡ o → Case
+      go (answered e) h = accepted e _ h refl
+      go (refused r) h = let (q, f) = first r (faultsIn unlisted (elementOf input)) in faulty r q h f

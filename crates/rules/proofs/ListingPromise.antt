@@ -4,14 +4,14 @@ use Prim.Native.String.{String}
 use mathlib.Core.Path.{_≡_, refl, sym, _∙_, ap}
 use mathlib.Core.Bool.{Bool, true, false}
 use mathlib.Core.List.{List, [], _∷_, _++_, flatMap}
-use mathlib.Core.Option.{none, some}
+use mathlib.Core.Option.{some}
 use native.Mathlib.Decide.{decLe}
 use native.Mathlib.Omega.{arith}
 use lib.ListN.{length, take, drop, replicate, length-append, length-drop}
 use lib.Seq.{take-at, drop-at}
 use lib.IntN.{ℤ, pos, negsuc}
 use Rattle.rules.specs.Basics.{every, bytes}
-use Rattle.rules.specs.Refusal.{Refusal, OFFSET, TOO-LONG, NOT-UTF-8, MARKUP, TYPE, SHAPE, VALUE, RULE, UNKNOWN-BOUND, TOO-MANY, NO-ROOM, number, earlier, firstOf, Outcome, answered, refused, faultsIn, _andThen_}
+use Rattle.rules.specs.Refusal.{Refusal, OFFSET, TOO-LONG, NOT-UTF-8, MARKUP, TYPE, SHAPE, VALUE, RULE, UNKNOWN-BOUND, TOO-MANY, NO-ROOM, number, firstOf, Outcome, answered, refused, faultsIn, _andThen_}
 use Rattle.rules.specs.Markup.{Element}
 use Rattle.rules.specs.Check.{shiftBy, elementOf, check}
 use Rattle.rules.specs.Sets.{Bound, unbounded, openAt, closedAt, Interval, Expression}
@@ -29,7 +29,7 @@ use Rattle.rules.proofs.Unique.{stretch-listed}
 use Rattle.rules.proofs.Drawing.{stretches-are, is-stretches}
 use Rattle.rules.proofs.Counting.{stretches-within}
 use Rattle.rules.proofs.Members.{set-intervals, clear-set}
-use Rattle.rules.proofs.ListingCases.{check-faultless, check-offset, listing-unlisted, listing-unclear, listing-too-many, listing-no-room, listing-answered, listing-faulty, faulty-early}
+use Rattle.rules.proofs.ListingCases.{check-faultless, check-offset, listing-unlisted, listing-unclear, listing-too-many, listing-no-room, listing-answered, listing-faulty, faulty-early, faulty, other-type, unclear, many, a-set, case}
 
 -- refusals are told from one another, and from an answer, by the lowest eight bits
 pub small : (r : Refusal) → (1 ≤ number r) × (number r ≤ 11)
@@ -45,10 +45,10 @@ small UNKNOWN-BOUND = omega arith
 small TOO-MANY = omega arith
 small NO-ROOM = omega arith
 
-low-bits : (r : Refusal) → (number r % 2 ^ 8 ≡ number r) × (number r / 2 ^ 8 ≡ 0)
+pub low-bits : (r : Refusal) → (number r % 2 ^ 8 ≡ number r) × (number r / 2 ^ 8 ≡ 0)
 low-bits r = omega (arith, small r)
 
-count-bits : (n : ℕ) → (n * 2 ^ 8 % 2 ^ 8 ≡ 0) × (n * 2 ^ 8 / 2 ^ 8 ≡ n)
+pub count-bits : (n : ℕ) → (n * 2 ^ 8 % 2 ^ 8 ≡ 0) × (n * 2 ^ 8 / 2 ^ 8 ≡ n)
 count-bits n = omega arith
 
 eight-length : (z : ℤ) → length (eightBytes z) ≡ 8
@@ -149,36 +149,6 @@ module _ (offset : ℤ) (record′ list : List ℕ) where
       go : PromiseOfSet offset record′ answer list after e → r ≡ NO-ROOM
       go p = elim (decLe (length (p .stretches)) (roomOf list)) [ yes l ↦ absurd (not-both a (p .room l)) | no l ↦ one-refusal a (p .no-room .1 (omega arith)) ]
 
-  -- every record is of one of five cases
-  data Case : Type 0 where
-    faulty : (r q : Refusal) → check offset record′ ≡ refused r → firstOf (r ∷ faultsIn unlisted (elementOf record′)) ≡ some q → Case
-    other-type : (e : Element) → check offset record′ ≡ answered e → isListed e ≡ false → Case
-    unclear : (e : Element) → check offset record′ ≡ answered e → isListed e ≡ true → isClear (shiftBy offset) e ≡ false → Case
-    many : (e : Element) → check offset record′ ≡ answered e → isListed e ≡ true → isClear (shiftBy offset) e ≡ true → 32 < intervalsWritten e → Case
-    a-set : (e : Element) → IsSetOfTimes offset record′ e → Case
-
-  case : Case
-  unfolding firstOf
-  case = go (check offset record′) refl
-    where
-      first : (r : Refusal) (rs : List Refusal) → (q : Refusal) × (firstOf (r ∷ rs) ≡ some q)
-      first r rs = elim (firstOf rs) as (λ o. (q : Refusal) × (earlier (some r) o ≡ some q)) [ none ↦ (r, refl) | some p ↦ (_, refl) ]
-
-      clear : (e : Element) → check offset record′ ≡ answered e → isListed e ≡ true → isClear (shiftBy offset) e ≡ true → Case
-      clear e h l c = elim (decLe (intervalsWritten e) 32) [ yes f ↦ a-set e (record { accepted = h; listed = l; clear = c; few = f }) | no f ↦ many e h l c (omega arith) ]
-
-      listed : (e : Element) (b : Bool) → check offset record′ ≡ answered e → isListed e ≡ true → isClear (shiftBy offset) e ≡ b → Case
-      listed e true h l c = clear e h l c
-      listed e false h l c = unclear e h l c
-
-      accepted : (e : Element) (b : Bool) → check offset record′ ≡ answered e → isListed e ≡ b → Case
-      accepted e true h l = listed e _ h l refl
-      accepted e false h l = other-type e h l
-
-      go : (o : Outcome Element) → check offset record′ ≡ o → Case
-      go (answered e) h = accepted e _ h refl
-      go (refused r) h = let (q, f) = first r (faultsIn unlisted (elementOf record′)) in faulty r q h f
-
   -- what the four cases give that are no sets of times
   gives-faulty : (r q : Refusal) → check offset record′ ≡ refused r → firstOf (r ∷ faultsIn unlisted (elementOf record′)) ≡ some q → Refuses offset record′ answer list after q
   gives-faulty r q c f = refuses q (listing-faulty offset (roomOf list) record′ r c f)
@@ -203,7 +173,7 @@ module _ (offset : ℤ) (record′ list : List ℕ) where
   pub listing-promise : ListingPromise offset record′ (listAnswer offset record′ list) list (listAfter offset record′ list)
   listing-promise = record {
     sets = promise-of-set;
-    others = λ h. elim case [
+    others = λ h. elim (case offset record′) [
       | faulty r q c f ↦ (q, gives-faulty r q c f, omega (arith, faulty-early offset (roomOf list) record′ r c f))
       | other-type e c l ↦ (TYPE, gives-type e c l, omega arith)
       | unclear e c l u ↦ (UNKNOWN-BOUND, gives-unknown e c l u, omega arith)
@@ -213,7 +183,7 @@ module _ (offset : ℤ) (record′ list : List ℕ) where
     faulty = gives-faulty;
     other-type = gives-type;
     unknown-bound = (
-      λ a. elim case [
+      λ a. elim (case offset record′) [
         | faulty r q c f ↦ absurd (not-faulty r c f (omega arith) a)
         | other-type e c l ↦ clash (cc (one-refusal a (gives-type e c l)))
         | unclear e c l u ↦ (e, c, l, u)
@@ -223,7 +193,7 @@ module _ (offset : ℤ) (record′ list : List ℕ) where
       λ (e, c, l, u). gives-unknown e c l u,
     );
     too-many = (
-      λ a. elim case [
+      λ a. elim (case offset record′) [
         | faulty r q c f ↦ absurd (not-faulty r c f (omega arith) a)
         | other-type e c l ↦ clash (cc (one-refusal a (gives-type e c l)))
         | unclear e c l u ↦ clash (cc (one-refusal a (gives-unknown e c l u)))
