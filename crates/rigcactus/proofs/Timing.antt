@@ -2,16 +2,13 @@
 use Prim.Native.Nat.{ℕ, _≤_, _<_}
 use mathlib.Core.Path.{_≡_, refl, sym, _∙_}
 use mathlib.Core.Logic.{_⊎_, inl, inr}
-use mathlib.Core.Bool.{Bool, true, false, not}
+use mathlib.Core.Bool.{Bool, true, false}
 use mathlib.Core.List.{List, [], _∷_, _++_}
-use mathlib.Core.Option.{Option, none, some}
 use borrow.Author.Tests.{lt-ltb, le-ltb}
 use lib.ListN.{length}
 use lib.IntN.{ℤ}
-use Rattle.rules.specs.Basics.{ifSome}
 use Rattle.rules.specs.Refusal.{OFFSET, TOO-LONG, VALUE, Outcome, answered, refused, rankIn, firstOf, _unless_, _when_}
-use Rattle.rules.specs.Parsers.{whole}
-use Rattle.rules.specs.Timestamp.{Written, isDate, isClock, isZone, timestamp, writtenFaults, Moment, momentOf, readTimestamp}
+use Rattle.rules.specs.Timestamp.{Moment, readTimestamp}
 use Rattle.rules.specs.Check.{isOffset, shiftBy, isTooLong}
 use Rattle.timestamp.specs.Moments.{momentOf as moment, outcomeOf}
 use Rattle.timestamp.specs.declared.Moment.{Moment as CodeMoment}
@@ -19,29 +16,7 @@ use Rattle.timestamp.specs.declared.Timestamp.{Timestamp}
 use Rattle.timestamp.specs.declared.Timestamp.the-variants.{At, Refused}
 use Rattle.refusal.specs.declared.Refusal.{Refusal}
 use Rattle.rules.specs.Services.{packed, timing, tickAnswer, tickAfter}
-
--- a text is read as a moment, or refused by VALUE
-pub read-or-value : (shift : ℕ) (text : List ℕ) → ((m : Moment) × (readTimestamp shift text ≡ answered m)) ⊎ (readTimestamp shift text ≡ refused VALUE)
-unfolding readTimestamp writtenFaults firstOf rankIn
-read-or-value shift text = by-form (whole timestamp text)
-  where
-    by-faults : (m : Moment) (a b c : Bool)
-        → ((n : Moment) × ((answered m unless VALUE when not a ++ VALUE when not b ++ VALUE when not c) ≡ answered n))
-        ⊎ ((answered m unless VALUE when not a ++ VALUE when not b ++ VALUE when not c) ≡ refused VALUE)
-    by-faults m true true true = inl (m, refl)
-    by-faults m true true false = inr refl
-    by-faults m true false true = inr refl
-    by-faults m true false false = inr refl
-    by-faults m false true true = inr refl
-    by-faults m false true false = inr refl
-    by-faults m false false true = inr refl
-    by-faults m false false false = inr refl
-
-    by-form : (o : Option Written)
-        → ((m : Moment) × (ifSome o (λ w. answered (momentOf shift w) unless writtenFaults w) (refused VALUE) ≡ answered m))
-        ⊎ (ifSome o (λ w. answered (momentOf shift w) unless writtenFaults w) (refused VALUE) ≡ refused VALUE)
-    by-form none = inr refl
-    by-form (some w) = by-faults (momentOf shift w) (isDate w) (isClock w) (isZone (w .zone))
+use Rattle.rules.proofs.Ticks.{read-or-value}
 
 -- what the service answers, by the outcome
 abbrev pub Answers : (offset : ℤ) → List ℕ → Outcome Moment → Type 0

@@ -5,7 +5,7 @@ use mathlib.Core.Path.{_≡_, refl}
 use mathlib.Core.Bool.{Bool, true, false, not, _&&_, _||_, cond}
 use mathlib.Core.List.{List, [], _∷_, _++_, flatMap, List·Memᴰ, List·Memᴰ·head, List·Memᴰ·tail}
 use mathlib.Core.Option.{Option, none, some}
-use borrow.Author.Tests.{leb-true, le-leb}
+use borrow.Author.Tests.{leb-true}
 use lib.Dec.{leb, ltb}
 use lib.IntN.{ℤ}
 use Rattle.rules.specs.Basics.{isSome, ifSome, find, exists, bytes, isEmpty, same, begins}
@@ -19,7 +19,6 @@ use Rattle.rules.specs.Types.{Kind, allTypes, typeAmong, Column, Child, 
 use Rattle.rules.specs.Judge.{Standing, top, isTop, typeColumns, nullColumns, attributeFaults, lacks, breaksNull, elementFaults, kindOf, standingOf, nextChild, childFaults, topFaults}
 use Rattle.rules.specs.Check.{isOffset, shiftBy, isTooLong, elementOf, recordFaults, check}
 use Rattle.rules.specs.Utf8.{isUtf8}
-use Rattle.rules.proofs.Tests.{clash}
 use Rattle.rules.proofs.Precedence.{first-is, unless-refused, check-refused}
 
 -- all pass a test

@@ -1,9 +1,9 @@
 -- The limits of the rules, each on both sides.
 use Prim.Native.Nat.{ℕ, zero, suc}
 use mathlib.Core.Path.{_≡_, refl}
-use mathlib.Core.List.{List, [], _∷_, _++_}
+use mathlib.Core.List.{List, [], _++_}
 use lib.ListN.{replicate}
-use lib.IntN.{ℤ, pos, negsuc}
+use lib.IntN.{pos, negsuc}
 use Rattle.rules.specs.Basics.{bytes}
 use Rattle.rules.specs.Services.{checkAnswer, listAnswer, cutAnswer}
 use Rattle.rules.proofs.Opened.{opened}

@@ -11,7 +11,7 @@ use lib.ListN.{length, take, drop, replicate, length-append, length-drop}
 use lib.Seq.{take-at, drop-at}
 use lib.IntN.{ℤ, pos, negsuc}
 use Rattle.rules.specs.Basics.{every, bytes}
-use Rattle.rules.specs.Refusal.{Refusal, OFFSET, TOO-LONG, NOT-UTF-8, MARKUP, TYPE, SHAPE, VALUE, RULE, UNKNOWN-BOUND, TOO-MANY, NO-ROOM, number, firstOf, Outcome, answered, refused, faultsIn, _andThen_}
+use Rattle.rules.specs.Refusal.{Refusal, OFFSET, TOO-LONG, NOT-UTF-8, MARKUP, TYPE, SHAPE, VALUE, RULE, UNKNOWN-BOUND, TOO-MANY, NO-ROOM, number, rank, firstOf, Outcome, answered, refused, faultsIn, _andThen_}
 use Rattle.rules.specs.Markup.{Element}
 use Rattle.rules.specs.Check.{shiftBy, elementOf, check}
 use Rattle.rules.specs.Sets.{Bound, unbounded, openAt, closedAt, Interval, Expression}
@@ -21,7 +21,7 @@ use Rattle.rules.specs.Services.{listing, lowBytes, eightBytes, overwrit
 use Rattle.rules.specs.ListingPromise.{isClear, isListed, IsSetOfTimes, fits, Refuses, Lists, PromiseOfSet, ListingPromise}
 use Rattle.rules.proofs.Opened.{opened}
 use Rattle.rules.proofs.Tests.{clash}
-use Rattle.rules.proofs.Precedence.{number-injective}
+use Rattle.rules.proofs.Precedence.{number-is, number-injective}
 use Rattle.rules.proofs.Ticks.{shiftBy-most}
 use Rattle.rules.proofs.Fitting.{list-fits}
 use Rattle.rules.proofs.Meaning.{set-meaning}
@@ -83,6 +83,9 @@ module _ (old new : List ℕ) (n : ℕ) (long : length new ≡ n) (room : n ≤ 
 
   overwrite-length : length (overwrite old new) ≡ length old
   overwrite-length = simp (length-append, length-drop) (omega arith)
+
+ranked : (r q : Refusal) → number r < number q → rank r < rank q
+ranked r q h = omega (arith, number-is r, number-is q)
 
 module _ (offset : ℤ) (record′ list : List ℕ) where
   abbrev answer : ℕ
@@ -174,10 +177,10 @@ module _ (offset : ℤ) (record′ list : List ℕ) where
   listing-promise = record {
     sets = promise-of-set;
     others = λ h. elim (case offset record′) [
-      | faulty r q c f ↦ (q, gives-faulty r q c f, omega (arith, faulty-early offset (roomOf list) record′ r c f))
-      | other-type e c l ↦ (TYPE, gives-type e c l, omega arith)
-      | unclear e c l u ↦ (UNKNOWN-BOUND, gives-unknown e c l u, omega arith)
-      | many e c l u m ↦ (TOO-MANY, gives-many e c l u m, omega arith)
+      | faulty r q c f ↦ (q, gives-faulty r q c f, ranked q NO-ROOM (omega (arith, faulty-early offset (roomOf list) record′ r c f)))
+      | other-type e c l ↦ (TYPE, gives-type e c l, ranked TYPE NO-ROOM (omega arith))
+      | unclear e c l u ↦ (UNKNOWN-BOUND, gives-unknown e c l u, ranked UNKNOWN-BOUND NO-ROOM (omega arith))
+      | many e c l u m ↦ (TOO-MANY, gives-many e c l u m, ranked TOO-MANY NO-ROOM (omega arith))
       | a-set e s ↦ absurd (h e s)
     ];
     faulty = gives-faulty;

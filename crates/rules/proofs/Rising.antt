@@ -1,5 +1,5 @@
 -- Ticks of one offset rise with their written digits.
-use Prim.Native.Nat.{ℕ, zero, suc, _+_, _-_, _*_, _^_, _≤_, _<_}
+use Prim.Native.Nat.{ℕ, zero, suc, _+_, _-_, _*_, _≤_, _<_}
 use mathlib.Core.Path.{_≡_, ap}
 use mathlib.Core.Logic.{_⊎_, inl, inr}
 use mathlib.Core.List.{List, [], _∷_}
@@ -9,10 +9,10 @@ use native.Mathlib.Decide.{decLe}
 use native.Mathlib.Omega.{arith}
 use lib.ListN.{length}
 use Rattle.rules.specs.Parsers.{whole}
-use Rattle.rules.specs.Calendar.{monthLength, daysOfYears, daysOfMonths, daysBefore, daysBeforeYear, second, minute, hour, day}
+use Rattle.rules.specs.Calendar.{daysOfYears, daysBefore, second, minute, hour}
 use Rattle.rules.specs.Timestamp.{Written, timestamp, monthOf, dayOf, hourOf, minuteOf, secondOf, tenThousandths, writtenFaults, shiftOf, startOf}
 use Rattle.rules.proofs.Parsers.{whole-ok}
-use Rattle.rules.proofs.Calendar.{days-of-years, daysOfMonths-rise, month-ends}
+use Rattle.rules.proofs.Calendar.{daysOfMonths-rise, month-ends}
 use Rattle.rules.proofs.Ticks.{Form, form, Possible, possible, fraction-in-second, month-in-years}
 
 -- the numbers that are written, from the year to the fraction; missing ones take their first value

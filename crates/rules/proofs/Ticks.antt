@@ -1,9 +1,9 @@
 -- What holds of a timestamp that is read: its parts, and the start, the end and the precision of its span.
 use Prim.Native.Nat.{ℕ, zero, suc, _+_, _-_, _*_, _^_, _≤_, _<_}
 use mathlib.Core.Path.{_≡_, refl, ap}
-use mathlib.Core.Logic.{_↔_, inl, inr}
-use mathlib.Core.Bool.{Bool, true, not}
-use mathlib.Core.List.{List, [], _∷_, append-eq-nil-iff}
+use mathlib.Core.Logic.{_⊎_, inl, inr, _↔_}
+use mathlib.Core.Bool.{Bool, true, false, not}
+use mathlib.Core.List.{List, [], _∷_, _++_, append-eq-nil-iff}
 use mathlib.Core.Option.{Option, none, some}
 use native.Mathlib.Nat.{mul-le-mul-right, one-le-pow, add-mul}
 use native.Mathlib.Omega.{arith}
@@ -13,7 +13,7 @@ use lib.ListN.{length}
 use lib.IntN.{ℤ, pos, negsuc}
 use lib.Pow.{pow-add}
 use Rattle.rules.specs.Basics.{ifSome, every, isDigit, decimalFrom, decimal}
-use Rattle.rules.specs.Refusal.{VALUE, answered, refused, _unless_, _when_}
+use Rattle.rules.specs.Refusal.{VALUE, rankIn, firstOf, answered, refused, _unless_, _when_}
 use Rattle.rules.specs.Parsers.{ok, next, else, guard, _or_, one, upTo, byte, whole}
 use Rattle.rules.specs.Calendar.{monthLength, daysOfYears, daysOfMonths, daysBeforeYear, second, minute, day}
 use Rattle.rules.specs.Timestamp.{Zone, noZone, plus, minus, Written, digits, twoDigits, point, zone, timestamp, monthOf, dayOf, hourOf, minuteOf, secondOf, tenThousandths, isDate, isClock, isZone, writtenFaults, shiftOf, startOf, unitLength, Moment, momentOf, readTimestamp}
@@ -34,6 +34,29 @@ read-answered shift text m = (go _ refl, λ (w, f, g, h). rw f (unless-answered 
         → (w : Written) × (whole timestamp text ≡ some w) × (writtenFaults w ≡ []) × (momentOf shift w ≡ m)
     go none f e = clash (cc)
     go (some w) f e = let (g, h) = unless-answered (answered (momentOf shift w)) (writtenFaults w) m .0 e in (w, f, h, cc)
+
+-- a text is read as a moment, or refused by VALUE
+pub read-or-value : (shift : ℕ) (text : List ℕ) → ((m : Moment) × (readTimestamp shift text ≡ answered m)) ⊎ (readTimestamp shift text ≡ refused VALUE)
+unfolding readTimestamp writtenFaults firstOf rankIn
+read-or-value shift text = by-form (whole timestamp text)
+  where
+    by-faults : (m : Moment) (a b c : Bool)
+        → ((n : Moment) × ((answered m unless VALUE when not a ++ VALUE when not b ++ VALUE when not c) ≡ answered n))
+        ⊎ ((answered m unless VALUE when not a ++ VALUE when not b ++ VALUE when not c) ≡ refused VALUE)
+    by-faults m true true true = inl (m, refl)
+    by-faults m true true false = inr refl
+    by-faults m true false true = inr refl
+    by-faults m true false false = inr refl
+    by-faults m false true true = inr refl
+    by-faults m false true false = inr refl
+    by-faults m false false true = inr refl
+    by-faults m false false false = inr refl
+
+    by-form : (o : Option Written)
+        → ((m : Moment) × (ifSome o (λ w. answered (momentOf shift w) unless writtenFaults w) (refused VALUE) ≡ answered m))
+        ⊎ (ifSome o (λ w. answered (momentOf shift w) unless writtenFaults w) (refused VALUE) ≡ refused VALUE)
+    by-form none = inr refl
+    by-form (some w) = by-faults (momentOf shift w) (isDate w) (isClock w) (isZone (w .zone))
 
 -- what the form of a timestamp gives
 pub record Form (w : Written) : Type 0 where

@@ -8,7 +8,7 @@ use Rattle.rules.specs.Basics.{bytes}
 use Rattle.rules.specs.Refusal.{VALUE, Outcome, answered, refused, _andThen_}
 use Rattle.rules.specs.Utf8.{cutLength}
 use Rattle.rules.specs.Timestamp.{tickOf}
-use Rattle.rules.specs.Sets.{Bound, unbounded, openAt, closedAt, Interval, _upto_, Expression, interval, combine, union, difference}
+use Rattle.rules.specs.Sets.{Bound, unbounded, openAt, closedAt, _upto_, Expression, interval, combine, union, difference}
 use Rattle.rules.specs.Stretches.{stretches}
 use Rattle.rules.specs.Listing.{listNumbers}
 use Rattle.rules.specs.Services.{timing, listing}

@@ -10,7 +10,7 @@ use lib.Dec.{ltb}
 use lib.ListN.{length, take, drop}
 use lib.IntN.{ℤ, pos, negsuc}
 use Rattle.rules.specs.Basics.{isSome, ifSome, exists, every}
-use Rattle.rules.specs.Refusal.{Refusal, TYPE, UNKNOWN-BOUND, TOO-MANY, NO-ROOM, number, firstOf, Outcome, answered, refused, faultsIn}
+use Rattle.rules.specs.Refusal.{Refusal, TYPE, UNKNOWN-BOUND, TOO-MANY, NO-ROOM, number, rank, firstOf, Outcome, answered, refused, faultsIn}
 use Rattle.rules.specs.Markup.{Attribute, Nodes, end, node, Element}
 use Rattle.rules.specs.Invariants.{isNull, low, high, Endpoint, valued, infinite, unknown, endpointOf}
 use Rattle.rules.specs.Types.{IVL-TS, memberTypes, hasType, typeAmong}
@@ -131,8 +131,8 @@ module _ (offset : ℤ) (record′ : List ℕ) (answer : ℕ) (before after : Li
   pub record ListingPromise : Type 0 where
     -- a set of times is listed, or gives NO ROOM
     pub sets : (e : Element) → IsSetOfTimes offset record′ e → PromiseOfSet e
-    -- any other record is refused, for another reason
-    pub others : ((e : Element) → IsSetOfTimes offset record′ e → ⊥) → (r : Refusal) × Refuses r × (number r < number NO-ROOM)
+    -- any other record is refused, for a reason that stands before it on the ladder
+    pub others : ((e : Element) → IsSetOfTimes offset record′ e → ⊥) → (r : Refusal) × Refuses r × (rank r < rank NO-ROOM)
     -- a record that fails the check is refused by the same fault, or by TYPE if that is earlier and its type is not listed
     pub faulty : (r q : Refusal) → check offset record′ ≡ refused r → firstOf (r ∷ faultsIn unlisted (elementOf record′)) ≡ some q → Refuses q
     -- an accepted record of a type that is not listed is TYPE

@@ -16,8 +16,8 @@ use Rattle.rules.specs.ComparisonPromise.{answerIn}
 use Rattle.rules.proofs.Opened.{opened}
 use Rattle.rules.proofs.Tests.{clash}
 use Rattle.rules.proofs.ListingPromise.{small}
-use Rattle.rigcactus.specs.Demands.{Services, resultIn, Demands}
-use Rattle.rigcactus.proofs.Determined.{demands-determine}
+use Rattle.demands.specs.Demands.{Services, resultIn, Demands}
+use Rattle.demands.proofs.Determined.{demands-determine}
 
 -- an identifier; a stay that ends before 2024, and with a term more, from 2025 on
 abbrev identifier : String

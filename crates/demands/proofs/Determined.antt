@@ -22,8 +22,8 @@ use Rattle.rules.proofs.Precedence.{first-is, no-fault}
 use Rattle.rules.proofs.ListingCases.{faulty, other-type, unclear, many, a-set, case}
 use Rattle.rules.proofs.ListingPromise.{small}
 use Rattle.rules.proofs.ComparisonPromise.{Pair, alike, unlike, pair}
-use Rattle.rigcactus.specs.Demands.{Services, services, resultIn, Answers, accepts, refuses, IsFirst, timeFaults, cutFaults, IsCut, Demands, Same}
-use Rattle.rigcactus.proofs.Demands.{demands-met}
+use Rattle.demands.specs.Demands.{Services, services, resultIn, Answers, accepts, refuses, IsFirst, timeFaults, cutFaults, IsCut, Demands, Same}
+use Rattle.demands.proofs.Demands.{demands-met}
 
 same-answer : {a b : ℕ} → numberIn a ≡ numberIn b → resultIn a ≡ resultIn b → a ≡ b
 same-answer e f = omega arith

@@ -22,13 +22,12 @@ use Rattle.rules.specs.ListingPromise.{numberIn, fits, Refuses, ListingPromise}
 use Rattle.rules.proofs.Tests.{clash}
 use Rattle.rules.proofs.Precedence.{number-injective, first-is, no-fault, unless-answered, unless-refused, check-refused, check-answered}
 use Rattle.rules.proofs.CheckRefusals.{Pass, none-left, pass-append, pass-when, first-passes, check-refusals}
-use Rattle.rules.proofs.Ticks.{precision-range}
+use Rattle.rules.proofs.Ticks.{read-or-value, precision-range}
 use Rattle.rules.proofs.Utf8.{cut-whole, cut-fits, cut-longest}
 use Rattle.rules.proofs.ListingCases.{faulty, other-type, unclear, many, a-set, case}
 use Rattle.rules.proofs.ListingPromise.{small, low-bits, count-bits, listing-promise}
 use Rattle.rules.proofs.ComparisonPromise.{names-first, names-second, says as says-answer, comparison-of, comparison-promise}
-use Rattle.rigcactus.specs.Demands.{services, resultIn, isAmong, Answers, accepts, refuses, Compares, says, names, recordRefusals, IsFirst, timeFaults, cutFaults, IsCut, valueOf, signedOf, Demands}
-use Rattle.rigcactus.proofs.Timing.{read-or-value}
+use Rattle.demands.specs.Demands.{services, resultIn, isAmong, Answers, accepts, refuses, Compares, says, names, recordRefusals, IsFirst, timeFaults, cutFaults, IsCut, valueOf, signedOf, Demands}
 
 iff-trans : {A B C : Type 0} → (A ↔ B) → (B ↔ C) → A ↔ C
 iff-trans f g = (λ a. g .0 (f .0 a), λ c. f .1 (g .1 c))
