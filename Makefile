@@ -18,6 +18,8 @@ archive = target/staticlib/librigcactus.a
 markup_archive = target/staticlib/libmarkup_bench.a
 header = include/rigcactus.h
 program = target/host/rigcactus
+host_sources = $(wildcard host/*.c)
+host_headers = $(wildcard host/*.h)
 records = $(wildcard tests/records/*.txt)
 proved = $(shell find crates \( -name '*.rt' -o -name '*.antt' \) -not -path '*/must-fail/*') crates.txt
 # The services that the archive has. Adding one here has tests/services.rs try it.
@@ -45,11 +47,13 @@ $(markup_archive): $(proved)
 	@echo 'proving and building $@'
 	@rt staticlib markup_bench > target/staticlib.out 2>&1 || { cat target/staticlib.out; exit 1; }
 
-$(program): host/rigcactus.c $(header) $(archive)
+$(program): $(host_sources) $(host_headers) $(header) $(archive)
 	@mkdir -p $(@D)
-	$(CC) $(CFLAGS) -Iinclude -o $@ $< $(archive)
+	$(CC) $(CFLAGS) -Wpedantic -Iinclude -o $@ $(host_sources) $(archive)
 
 run: $(program)
+	@echo
+	@examples/receipt.sh
 	@echo
 	@examples/cut.sh
 	@echo
