@@ -12,7 +12,7 @@ show() {
   set -- name.xml sum.xml pass.xml identifier.xml "$@"
   printf '\n%s\n  $ cd %s; rigcactus receipt %s\n\n' "$what" "$folder" "$*"
   receipt=$(cd "$folder" && "$program" receipt "$@") || status=$?
-  sed 's/^/    /' <<< "$receipt"
+  printf "    %s\n" "${receipt//$'\n'/$'\n    '}"
   [ "$status" -eq "$due" ]
 }
 
