@@ -4,6 +4,7 @@
 set -u
 cd "$(dirname "$0")/.." || exit 2
 program=${RIGCACTUS:-$PWD/target/host/rigcactus}
+repository=$PWD
 examples=$PWD/examples/receipts
 receipts=$PWD/tests/receipts
 
@@ -218,6 +219,10 @@ for i in {1..32}; do
 done
 expect_pass "$(union "${moments[@]}")" "${due}Clock: UTC"
 
+# The receipt that docs/HOST.md shows is one of these.
+awk '/^```text$/ { inside = 1; next } /^```$/ { inside = 0 } inside' "$repository/docs/HOST.md" | cmp -s - "$receipts/french.txt" ||
+  fail 'docs/HOST.md shows another receipt'
+
 # Refusals, from 1 to 10, with what to tell the clinic. The program lends a list that is long enough for every set, so 11 does not occur.
 offset='nothing. The offset that this desk was set to is not from -840 to 840 minutes. Set it right and read the record again.'
 too_long='the record is longer than 16,384 bytes. Please send a shorter one.'
@@ -230,6 +235,9 @@ value='the text of an attribute is not written as it must be, like 12,50 for the
 rule='what the record says does not go together, like a sum without its currency, a part of a name without a text, a time without its flag, or a start after its end. Please put it right.'
 unknown='it is not said when the pass starts or ends. Please send each start and each end, or NINF and PINF where there is none.'
 too_many='the pass is written with more than 32 intervals. Please write it with fewer, or as two passes.'
+for advice in "$offset" "$too_long" "$not_utf8" "$markup" "$type .." "$shape" "$value" "$rule" "$unknown" "$too_many"; do
+  grep -qF ") | $advice |" "$repository/docs/HOST.md" || fail "docs/HOST.md does not say: $advice"
+done
 spaces=$(head -c 16385 /dev/zero | tr '\0' ' ')
 for place in name sum pass identifier; do
   expect_refusal $place '<t/>' 'OFFSET (1)' "$offset" --offset 841
