@@ -1,5 +1,5 @@
 /*
- * rigcactus: the services of the library, from the command line. `rigcactus --help` says how it is used.
+ * rigcactus: receipts of visitor passes, and the services of the library, from the command line. `rigcactus --help` says how it is used.
  *
  * A service has a row in the table of commands and a function that runs it.
  */
