@@ -82,6 +82,7 @@ expect_name '<part value="Zo\xC3\xAB"/><part value="van der " type="FAM" qualifi
 expect_name '<part value="Jeanne" /><part qualifier = "PFX" value="d&apos;"></part><part value="Arc"/>' "Jeanne d'Arc"
 expect_name '<part value="Hochheim"/><part value="-" type="DEL"/><part value="Weilenfels"/>' 'Hochheim-Weilenfels'
 expect_name '<part value="Jones"/><part value=" III" qualifier="AC SFX"/><part value=", " type="DEL"/><part value="PhD"/>' 'Jones III, PhD'
+expect_name '<part value="Peter"/><part value="son" qualifier="AD SFX"/><part value="Ann"/>' 'Peterson Ann'
 expect_name '<part value="Health Level Seven, "/><part value="Inc."/>' 'Health Level Seven, Inc.'
 expect_name '<part value="A"/><part value=" B"/>' 'A B'
 expect_name '<part value="A" qualifier="SP"/><part value="B" qualifier="LS AC NB PR HON BR AD SP MID CL IN"/>' 'A B'
