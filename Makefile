@@ -1,9 +1,13 @@
 # Rigcactus: the library, the program over it, and what tries them. All that is built lies below target/.
 #
 #     make          the library (proved first) and the program, target/host/rigcactus
-#     make run      cuts names in several scripts, reads timestamps, checks and compares records, lists the times of passes, for a reader
-#                   to look at
+#     make run      prints receipts, cuts names in several scripts, reads timestamps, checks and compares records, lists the times of passes,
+#                   for a reader to look at
+#     make install PREFIX=..    installs the archive, the header, a file for pkg-config, the program and manual pages; DESTDIR=.. goes before
+#                   PREFIX where they are only to be put, and make uninstall takes them away
 #     make test     tries the library, the header and the program
+#     make sanitize runs the program's tests, and damaged records, under AddressSanitizer and UBSan
+#     make valgrind runs every command, and damaged records, under valgrind
 #     make bench    compares speed with Rust's standard library, with glibc and with expat
 #     make compare-expat    compares the reader of markup with expat on a million texts; it needs expat
 #     make clean    removes target/
@@ -18,17 +22,30 @@ archive = target/staticlib/librigcactus.a
 markup_archive = target/staticlib/libmarkup_bench.a
 header = include/rigcactus.h
 program = target/host/rigcactus
+host_sources = $(wildcard host/*.c)
+host_headers = $(wildcard host/*.h)
+# All of the program but its commands, for tests that call it.
+host_parts = $(filter-out host/rigcactus.c,$(host_sources))
+SANITIZE = -g -fsanitize=address,undefined -fno-sanitize-recover=all
+sanitized = target/sanitize/rigcactus target/sanitize/damage target/sanitize/moment
+
+PREFIX = /usr/local
+DESTDIR =
+INSTALL = install
+prefix = $(abspath $(PREFIX))
+version = 0.1.0
 records = $(wildcard tests/records/*.txt)
 proved = $(shell find crates \( -name '*.rt' -o -name '*.antt' \) -not -path '*/must-fail/*') crates.txt
 # The services that the archive has. Adding one here has tests/services.rs try it.
 services = rigcactus_cut rigcactus_tick rigcactus_check rigcactus_list rigcactus_compare
 c_api = $(patsubst %,target/tests/c_api_%,1 2 3 4 5)
-tests = target/tests/header_c $(c_api) target/tests/services target/tests/markup_stack target/tests/markup_reader
+tests = target/tests/header_c $(c_api) target/tests/services target/tests/markup_stack target/tests/markup_reader target/tests/moment target/tests/damage
 places = 0 16 32 48
 cxx = $(shell command -v $(CXX) 2> /dev/null)
+can_sanitize = $(shell mkdir -p target && echo 'int main(void) { return 0; }' | $(CC) $(SANITIZE) -x c -o target/can_sanitize - 2> /dev/null && echo yes)
 expat = $(shell $(CC) -include expat.h -fsyntax-only -x c /dev/null 2> /dev/null && echo yes)
 
-.PHONY: all run test bench compare-expat clean
+.PHONY: all run install uninstall test sanitize valgrind bench compare-expat clean
 .DELETE_ON_ERROR:
 .SECONDARY:
 
@@ -45,11 +62,13 @@ $(markup_archive): $(proved)
 	@echo 'proving and building $@'
 	@rt staticlib markup_bench > target/staticlib.out 2>&1 || { cat target/staticlib.out; exit 1; }
 
-$(program): host/rigcactus.c $(header) $(archive)
+$(program): $(host_sources) $(host_headers) $(header) $(archive)
 	@mkdir -p $(@D)
-	$(CC) $(CFLAGS) -Iinclude -o $@ $< $(archive)
+	$(CC) $(CFLAGS) -Wpedantic -Iinclude -o $@ $(host_sources) $(archive)
 
 run: $(program)
+	@echo
+	@examples/receipt.sh
 	@echo
 	@examples/cut.sh
 	@echo
@@ -61,8 +80,53 @@ run: $(program)
 	@echo
 	@examples/compare.sh
 
-test: $(program) $(tests) $(if $(cxx),target/tests/header_cxx)
+# What is installed: a folder below PREFIX, the file's mode, and the file.
+installed = lib:644:$(archive) include:644:$(header) lib/pkgconfig:644:target/rigcactus.pc bin:755:$(program) \
+	share/man/man1:644:man/rigcactus.1 share/man/man3:644:man/rigcactus.3
+
+install: all target/rigcactus.pc
+	@for line in $(installed); do \
+	  folder="$(DESTDIR)$(prefix)/$${line%%:*}"; file=$${line##*:}; mode=$${line#*:}; mode=$${mode%%:*}; \
+	  $(INSTALL) -d "$$folder" && $(INSTALL) -m "$$mode" "$$file" "$$folder" && echo "installed $$folder/$${file##*/}" || exit 1; \
+	done
+
+uninstall:
+	@for line in $(installed); do rm -f "$(DESTDIR)$(prefix)/$${line%%:*}/$${line##*/}" || exit 1; done
+
+# Written each time, since PREFIX may be another.
+.PHONY: target/rigcactus.pc
+target/rigcactus.pc: rigcactus.pc.in
+	@mkdir -p $(@D)
+	@sed 's|@PREFIX@|$(prefix)|; s|@VERSION@|$(version)|' $< > $@
+
+test: $(program) $(tests) $(if $(cxx),target/tests/header_cxx) $(if $(can_sanitize),$(sanitized))
 	tests/run
+
+sanitize: $(sanitized)
+	tests/sanitize
+
+valgrind: $(program) target/tests/damage
+	tests/valgrind 7
+
+target/tests/moment: tests/host/moment.c host/moment.c host/moment.h $(header)
+	@mkdir -p $(@D)
+	$(CC) $(CFLAGS) -Wpedantic -Iinclude -Ihost -o $@ $(filter %.c,$^)
+
+target/tests/damage: tests/host/damage.c $(host_parts) $(host_headers) $(header) $(archive)
+	@mkdir -p $(@D)
+	$(CC) $(CFLAGS) -Wpedantic -Iinclude -Ihost -o $@ $(filter %.c,$^) $(archive)
+
+target/sanitize/moment: tests/host/moment.c host/moment.c host/moment.h $(header)
+	@mkdir -p $(@D)
+	$(CC) $(CFLAGS) -Wpedantic $(SANITIZE) -Iinclude -Ihost -o $@ $(filter %.c,$^)
+
+target/sanitize/damage: tests/host/damage.c $(host_parts) $(host_headers) $(header) $(archive)
+	@mkdir -p $(@D)
+	$(CC) $(CFLAGS) -Wpedantic $(SANITIZE) -Iinclude -Ihost -o $@ $(filter %.c,$^) $(archive)
+
+target/sanitize/rigcactus: $(host_sources) $(host_headers) $(header) $(archive)
+	@mkdir -p $(@D)
+	$(CC) $(CFLAGS) -Wpedantic $(SANITIZE) -Iinclude -o $@ $(host_sources) $(archive)
 
 target/tests/header_c: tests/header.c $(header) $(archive)
 	@mkdir -p $(@D)

@@ -1,25 +1,25 @@
 /*
- * rigcactus: the services of the library, from the command line. `rigcactus --help` says how it is used.
+ * rigcactus: receipts of visitor passes, and the services of the library, from the command line. `rigcactus --help` says how it is used.
  *
  * A service has a row in the table of commands and a function that runs it.
  */
-#include "rigcactus.h"
+#include "io.h"
+#include "moment.h"
+#include "receipt.h"
+#include "text.h"
 
-#include <errno.h>
 #include <inttypes.h>
-#include <stdarg.h>
-#include <stdbool.h>
-#include <stdio.h>
 #include <string.h>
-
-/* How the program ends: its exit status, which each function below gives back as an int. */
-enum { ACCEPTED = 0, REFUSED = 1, BAD_USAGE = 2, FAILED = 3 };
 
 /* What may follow the arguments of a command. */
 struct options {
     int64_t offset;           /* --offset MINUTES, 0 if not given */
+    size_t width;             /* --width BYTES, USUAL_WIDTH if not given */
     bool raw;                 /* --raw */
 };
+
+/* The options that a command takes, as a sum of these. */
+enum { NO_OPTION = 0, TAKES_OFFSET = 1, TAKES_WIDTH = 2, TAKES_RAW = 4 };
 
 struct command {
     const char *name;
@@ -27,142 +27,26 @@ struct command {
     const char *summary;      /* one line of the usage text */
     int argument_count;
     bool takes_more;          /* whether there may be more arguments than that */
-    bool takes_offset;        /* whether --offset MINUTES may follow the arguments */
-    bool takes_raw;           /* whether --raw may follow the arguments */
+    int taken_options;        /* which options may follow the arguments */
     int (*run)(int argument_count, char **arguments, const struct options *options);
 };
 
-/* An input. One byte over the limit is enough to be refused, so no more than that is ever held. */
-struct input {
-    uint8_t bytes[RIGCACTUS_MOST_BYTES + 1];
-    size_t length;
-};
-
-/* ---- Messages ----------------------------------------------------------------------------------------------------- */
-
-/* Writes a line to standard error, and gives the status back for the caller to return. */
-__attribute__((format(printf, 2, 3))) static int say(int status, const char *format, ...)
-{
-    va_list values;
-    va_start(values, format);
-    fputs("rigcactus: ", stderr);
-    vfprintf(stderr, format, values);
-    fputc('\n', stderr);
-    va_end(values);
-    return status;
-}
-
-static int say_refused(uint64_t answer)
-{
-    int refusal = rigcactus_refusal(answer);
-    return say(REFUSED, "refused: %s (%d)", rigcactus_refusal_name(refusal), refusal);
-}
-
-/* ---- Input and output --------------------------------------------------------------------------------------------- */
-
-/* Reads a stream to its end, or to one byte over the limit. */
-static int read_stream(FILE *from, const char *name, struct input *input)
-{
-    input->length = fread(input->bytes, 1, sizeof input->bytes, from);
-    if (ferror(from))
-        return say(FAILED, "cannot read %s: %s", name, strerror(errno));
-    return ACCEPTED;
-}
-
-static int read_file(const char *name, struct input *input)
-{
-    FILE *file = fopen(name, "rb");
-    if (file == NULL)
-        return say(FAILED, "cannot read %s: %s", name, strerror(errno));
-    int status = read_stream(file, name, input);
-    fclose(file);
-    return status;
-}
-
-/* Sees that all that was written to standard output is out. */
-static int finish_output(void)
-{
-    if (fflush(stdout) == EOF || ferror(stdout))
-        return say(FAILED, "cannot write standard output: %s", strerror(errno));
-    return ACCEPTED;
-}
-
-/* Reads a number that is written in decimal digits alone. Gives false back, and no number, if it is not one or does not fit. */
-static bool read_number(const char *text, uint64_t *number)
-{
-    uint64_t n = 0;
-    if (*text == '\0')
-        return false;
-    for (; *text != '\0'; text++) {
-        if (*text < '0' || *text > '9')
-            return false;
-        uint64_t digit = (uint64_t)(*text - '0');
-        if (n > (UINT64_MAX - digit) / 10)
-            return false;
-        n = n * 10 + digit;
-    }
-    *number = n;
-    return true;
-}
-
-/* Reads a number as read_number does, with a sign before it or none. */
-static bool read_signed_number(const char *text, int64_t *number)
-{
-    bool negative = *text == '-';
-    if (*text == '-' || *text == '+')
-        text++;
-    uint64_t magnitude;
-    if (!read_number(text, &magnitude) || magnitude > INT64_MAX)
-        return false;
-    *number = negative ? -(int64_t)magnitude : (int64_t)magnitude;
-    return true;
-}
-
 /* ---- Instants ----------------------------------------------------------------------------------------------------- */
 
-static bool is_leap_year(int year)
+/* Writes the date and the time of a moment, without the fraction of its second. */
+static void write_seconds(struct moment moment)
 {
-    return year % 4 == 0 && (year % 100 != 0 || year % 400 == 0);
-}
-
-static int year_length(int year)
-{
-    return is_leap_year(year) ? 366 : 365;
-}
-
-static int month_length(int year, int month)
-{
-    static const int lengths[] = {31, 28, 31, 30, 31, 30, 31, 31, 30, 31, 30, 31};
-    return month == 2 && is_leap_year(year) ? 29 : lengths[month - 1];
-}
-
-/*
- * Writes a tick as a date and a time in UTC, without the fraction of its second, and gives that back. An offset can move it into the year
- * before 0001, which is written 0000, or into the year 10000.
- */
-static int write_seconds(int64_t tick)
-{
-    int year = 0, month = 1;
-    int64_t since = tick + year_length(0) * RIGCACTUS_TICKS_PER_DAY; /* from 0000-01-01 on: not below zero */
-    int day = (int)(since / RIGCACTUS_TICKS_PER_DAY) + 1;
-    int clock = (int)(since % RIGCACTUS_TICKS_PER_DAY);
-
-    for (; day > year_length(year); year++)
-        day -= year_length(year);
-    for (; day > month_length(year, month); month++)
-        day -= month_length(year, month);
-    int seconds = clock / (int)RIGCACTUS_TICKS_PER_SECOND;
-    printf("%04d-%02d-%02d %02d:%02d:%02d", year, month, day, seconds / 3600, seconds / 60 % 60, seconds % 60);
-    return clock % (int)RIGCACTUS_TICKS_PER_SECOND;
+    printf("%04d-%02d-%02d %02d:%02d:%02d", moment.year, moment.month, moment.day, moment.hour, moment.minute, moment.second);
 }
 
 /* Writes a tick as clocks at an offset show it, with the offset if it is not 0, and with the fraction of its second if there is one. */
 static void write_local(int64_t tick, int offset)
 {
-    int fraction = write_seconds(tick + offset * 60 * RIGCACTUS_TICKS_PER_SECOND);
-    if (fraction != 0)
-        printf(".%04d", fraction);
+    struct moment moment = moment_at(tick, offset);
     int distance = offset < 0 ? -offset : offset;
+    write_seconds(moment);
+    if (moment.fraction != 0)
+        printf(".%04d", moment.fraction);
     if (offset != 0)
         printf(" %c%02d:%02d", offset < 0 ? '-' : '+', distance / 60, distance % 60);
 }
@@ -219,8 +103,9 @@ static int run_tick(int argument_count, char **arguments, const struct options *
     printf("tick       %" PRId64 "\n", tick);
     printf("precision  %d digits, to the %s\n", precision, unit_name(precision));
     printf("instant    ");
-    int fraction = write_seconds(tick);
-    printf(".%04d UTC\n", fraction);
+    struct moment moment = moment_at(tick, 0);
+    write_seconds(moment);
+    printf(".%04d UTC\n", moment.fraction);
     return finish_output();
 }
 
@@ -328,17 +213,36 @@ static int run_compare(int argument_count, char **arguments, const struct option
     return finish_output();
 }
 
+/* All four records are read before anything is printed, so that a receipt is printed to its end or not at all. */
+static int run_receipt(int argument_count, char **arguments, const struct options *options)
+{
+    (void)argument_count;
+    struct input inputs[RECEIPT_RECORDS];
+    struct slice records[RECEIPT_RECORDS];
+    for (int i = 0; i < RECEIPT_RECORDS; i++) {
+        int status = read_file(arguments[i], &inputs[i]);
+        if (status != ACCEPTED)
+            return status;
+        records[i] = (struct slice){inputs[i].bytes, inputs[i].length};
+    }
+    int refused = print_receipt(records, options->offset, options->width);
+    int status = finish_output();
+    return status == ACCEPTED && refused > 0 ? REFUSED : status;
+}
+
 static const struct command commands[] = {
-    {"cut", "ROOM < FILE", "print the longest beginning of FILE that is whole characters and fits ROOM bytes", 1, false, false, false,
-     run_cut},
-    {"tick", "TEXT [--offset MINUTES]", "print the tick of the timestamp TEXT, its precision, and its instant in UTC", 1, false, true,
-     false, run_tick},
+    {"receipt", "NAME SUM PASS IDENTIFIER [--width BYTES] [--offset MINUTES]",
+     "print a receipt from the records in four files: types EN, MO, a set of times, II", RECEIPT_RECORDS, false, TAKES_WIDTH | TAKES_OFFSET,
+     run_receipt},
+    {"cut", "ROOM < FILE", "print the longest beginning of FILE that is whole characters and fits ROOM bytes", 1, false, NO_OPTION, run_cut},
+    {"tick", "TEXT [--offset MINUTES]", "print the tick of the timestamp TEXT, its precision, and its instant in UTC", 1, false, TAKES_OFFSET,
+     run_tick},
     {"check", "FILE.. [--offset MINUTES]", "print for the record in each FILE whether it is accepted, or what it is refused for", 1, true,
-     true, false, run_check},
-    {"list", "FILE [--offset MINUTES] [--raw]", "print the times that the set in FILE means, a line for each stretch", 1, false, true, true,
-     run_list},
+     TAKES_OFFSET, run_check},
+    {"list", "FILE [--offset MINUTES] [--raw]", "print the times that the set in FILE means, a line for each stretch", 1, false,
+     TAKES_OFFSET | TAKES_RAW, run_list},
     {"compare", "FILE FILE [--offset MINUTES]", "print whether the records in both FILEs have the same value: yes, no or unknown", 2, false,
-     true, false, run_compare},
+     TAKES_OFFSET, run_compare},
 };
 
 static const size_t command_count = sizeof commands / sizeof commands[0];
@@ -357,13 +261,15 @@ static void write_usage(FILE *to)
             "\n"
             "FILE is read as it is, a line feed at its end included, up to %d bytes. TEXT is the argument's bytes.\n"
             "MINUTES is the agreed offset from UTC, -%d to %d, for timestamps that carry none; it is 0 if not given.\n"
+            "BYTES is the width of the paper, %d to %d; it is %d if not given. receipt cuts the name to it, between whole characters, and\n"
+            "writes times as clocks at the agreed offset show them. For a refused record it says what to tell the clinic.\n"
             "list writes times as clocks at that offset show them; with --raw as four numbers: low kind, low tick, high kind, high\n"
             "tick. Kinds are 0 unbounded, 1 not included, 2 included.\n"
-            "What is refused is named, with its number: by check in the line of its FILE, else on standard error. All of yes, no and\n"
-            "unknown count as accepted.\n"
+            "What is refused is named, with its number: by check in the line of its FILE, by receipt in its place, else on standard\n"
+            "error. All of yes, no and unknown count as accepted.\n"
             "\n"
             "Exit status: 0 accepted, 1 refused, 2 bad usage, 3 reading or writing failed.\n",
-            RIGCACTUS_MOST_BYTES, RIGCACTUS_MOST_OFFSET, RIGCACTUS_MOST_OFFSET);
+            RIGCACTUS_MOST_BYTES, RIGCACTUS_MOST_OFFSET, RIGCACTUS_MOST_OFFSET, LEAST_WIDTH, MOST_WIDTH, USUAL_WIDTH);
 }
 
 static const struct command *find_command(const char *name)
@@ -385,25 +291,61 @@ static bool fits(const struct command *command, int word_count, char **words)
     return word_count >= command->argument_count;
 }
 
+static int read_offset(const char *minutes, struct options *options)
+{
+    if (!read_signed_number(minutes, &options->offset))
+        return say(BAD_USAGE, "MINUTES is a number, as 120 or -210, and not '%s'", minutes);
+    return ACCEPTED;
+}
+
+static int read_width(const char *bytes, struct options *options)
+{
+    uint64_t width;
+    if (!read_number(bytes, &width) || width < LEAST_WIDTH || width > MOST_WIDTH)
+        return say(BAD_USAGE, "BYTES is a number from %d to %d, and not '%s'", LEAST_WIDTH, MOST_WIDTH, bytes);
+    options->width = (size_t)width;
+    return ACCEPTED;
+}
+
+static int read_raw(const char *name, struct options *options)
+{
+    (void)name;
+    options->raw = true;
+    return ACCEPTED;
+}
+
+/* An option: its name, how many words it is, and what reads the last of them. */
+static const struct option {
+    const char *name;
+    int bit;
+    int word_count;
+    int (*read)(const char *word, struct options *options);
+} option_table[] = {{"--offset", TAKES_OFFSET, 2, read_offset}, {"--width", TAKES_WIDTH, 2, read_width}, {"--raw", TAKES_RAW, 1, read_raw}};
+
+/* Finds the option, one of these, that stands at the end of a command's words, after as many of them as it has arguments. */
+static const struct option *last_option(const struct command *command, int bits, int word_count, char **words)
+{
+    for (size_t i = 0; i < sizeof option_table / sizeof option_table[0]; i++) {
+        const struct option *option = &option_table[i];
+        int first = word_count - option->word_count;
+        if ((bits & option->bit) != 0 && first >= command->argument_count && strcmp(words[first], option->name) == 0)
+            return option;
+    }
+    return NULL;
+}
+
 /* Runs a command on the words that follow its name. Options come last, in any order, each once. */
 static int run(const struct command *command, int word_count, char **words)
 {
-    struct options options = {0, false};
-    bool has_offset = false;
-    for (;;) {
-        int further = word_count - command->argument_count;
-        if (command->takes_raw && !options.raw && further >= 1 && strcmp(words[word_count - 1], "--raw") == 0) {
-            options.raw = true;
-            word_count -= 1;
-        } else if (command->takes_offset && !has_offset && further >= 2 && strcmp(words[word_count - 2], "--offset") == 0) {
-            const char *minutes = words[word_count - 1];
-            if (!read_signed_number(minutes, &options.offset))
-                return say(BAD_USAGE, "MINUTES is a number, as 120 or -210, and not '%s'", minutes);
-            has_offset = true;
-            word_count -= 2;
-        } else {
-            break;
-        }
+    struct options options = {.width = USUAL_WIDTH};
+    int bits = command->taken_options;
+    const struct option *option;
+    while ((option = last_option(command, bits, word_count, words)) != NULL) {
+        int status = option->read(words[word_count - 1], &options);
+        if (status != ACCEPTED)
+            return status;
+        word_count -= option->word_count;
+        bits -= option->bit;
     }
     if (!fits(command, word_count, words))
         return say(BAD_USAGE, "usage: rigcactus %s %s", command->name, command->arguments);

@@ -2,7 +2,7 @@
 # The program `rigcactus`: its output, its messages and its exit statuses. What is due is written here from the rules page.
 set -u
 cd "$(dirname "$0")/.." || exit 2
-program=$PWD/target/host/rigcactus
+program=${RIGCACTUS:-$PWD/target/host/rigcactus}
 names=$PWD/examples/names
 records=$PWD/examples/records
 
@@ -283,6 +283,7 @@ expect 2 '' '*' compare pass.xml pass.xml --raw
 
 # Help, which is not an error.
 "$program" --help > out 2> err || fail '--help ended with an error'
+grep -q '^  receipt NAME SUM PASS IDENTIFIER \[--width BYTES\] \[--offset MINUTES\]$' out || fail '--help does not name the command receipt'
 grep -q '^  cut ROOM < FILE$' out || fail '--help does not name the command cut'
 grep -q '^  tick TEXT \[--offset MINUTES\]$' out || fail '--help does not name the command tick'
 grep -q '^  check FILE.. \[--offset MINUTES\]$' out || fail '--help does not name the command check'

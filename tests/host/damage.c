@@ -1,0 +1,122 @@
+/*
+ * Damaged records, given to the reader of texts and to receipts: every file that is named, cut off after every length, and with each of its
+ * bytes replaced by others. Memory that is lent ends where the record does, so that a sanitizer or valgrind sees a byte read too far.
+ *
+ *     damage STEP FILE..    with STEP 1 every length and byte is tried, with a larger one only some are
+ */
+#include "receipt.h"
+#include "rigcactus.h"
+#include "text.h"
+
+#include <stdio.h>
+#include <stdlib.h>
+#include <string.h>
+
+static const uint8_t replacements[] = {'"', '<', '>', '&', '/', ' ', 0x00, 0xC2, 0xFF};
+
+static const char *const good[RECEIPT_RECORDS] = {
+    "<n xsi:type=\"EN\"><part value=\"Zo\xC3\xAB\"/></n>",
+    "<s xsi:type=\"MO\" value=\"12.50\" currency=\"EUR\"/>",
+    "<p xsi:type=\"IVL_TS\"><low nullFlavor=\"NINF\"/><high nullFlavor=\"PINF\"/></p>",
+    "<i xsi:type=\"II\" root=\"1.2\"/>",
+};
+
+static unsigned long receipts = 0, refusals = 0, failures = 0;
+
+/* Memory of exactly this length: reading past it is seen. */
+static uint8_t *lend(size_t length)
+{
+    uint8_t *memory = malloc(length > 0 ? length : 1);
+    if (memory == NULL)
+        exit(3);
+    return memory;
+}
+
+/* Reads texts out of bytes that need not be a record. What is printed of a value fits in the value's own length. */
+static void read_texts(struct slice record)
+{
+    static const char *const names[] = {"value", "nullFlavor", "root", ""};
+    struct slice tag, value;
+    for (unsigned tags = 0; take_tag(&record, &tag); tags++) {
+        find_attribute(tag, names[tags % 4], &value);
+        uint8_t *printed = lend(value.length);
+        failures += decode_for_print(value, printed) > value.length;
+        slice_has_word(value, "PFX");
+        free(printed);
+    }
+}
+
+/* Prints a receipt with the record at one place. It is refused there if the services say so, and else only for its type. */
+static void print_at(struct slice record, size_t place)
+{
+    static const size_t widths[] = {LEAST_WIDTH, 7, USUAL_WIDTH, 100};
+    struct slice records[RECEIPT_RECORDS];
+    for (size_t i = 0; i < RECEIPT_RECORDS; i++)
+        records[i] = (struct slice){(const uint8_t *)good[i], strlen(good[i])};
+    records[place] = record;
+
+    int refused = print_receipt(records, 0, widths[receipts % 4]);
+    uint64_t due = place == 2 ? rigcactus_list(record.bytes, record.length, 0, (uint8_t[RIGCACTUS_MOST_LIST_BYTES]){0}, RIGCACTUS_MOST_LIST_BYTES)
+                              : rigcactus_check(record.bytes, record.length, 0);
+    receipts++;
+    refusals += (unsigned long)refused;
+    failures += refused > 1 || (rigcactus_refusal(due) != RIGCACTUS_ACCEPTED && refused == 0);
+    failures += place == 2 && rigcactus_refusal(due) == RIGCACTUS_ACCEPTED && refused == 1;
+}
+
+/* Tries the first bytes of a record at every place. */
+static void try_length(const uint8_t *bytes, size_t length)
+{
+    uint8_t *lent = lend(length);
+    memcpy(lent, bytes, length);
+    struct slice record = {lent, length};
+    read_texts(record);
+    for (size_t place = 0; place < RECEIPT_RECORDS; place++)
+        print_at(record, place);
+    free(lent);
+}
+
+/* Tries a record with one byte replaced by each of the others, at one place after another. */
+static void try_byte(const uint8_t *bytes, size_t length, size_t at)
+{
+    uint8_t *lent = lend(length);
+    memcpy(lent, bytes, length);
+    for (size_t i = 0; i < sizeof replacements; i++) {
+        lent[at] = replacements[i];
+        read_texts((struct slice){lent, length});
+        print_at((struct slice){lent, length}, (at + i) % RECEIPT_RECORDS);
+    }
+    free(lent);
+}
+
+static void try_file(const char *name, size_t step)
+{
+    static uint8_t bytes[RIGCACTUS_MOST_BYTES + 1];
+    FILE *file = fopen(name, "rb");
+    if (file == NULL) {
+        perror(name);
+        exit(3);
+    }
+    size_t length = fread(bytes, 1, sizeof bytes, file);
+    fclose(file);
+    try_length(bytes, length);
+    for (size_t at = 0; at < length; at += step) {
+        try_length(bytes, at);
+        try_byte(bytes, length, at);
+    }
+}
+
+int main(int argc, char **argv)
+{
+    long step = argc > 2 ? strtol(argv[1], NULL, 10) : 0;
+    if (step < 1) {
+        fputs("usage: damage STEP FILE..\n", stderr);
+        return 2;
+    }
+    if (freopen("/dev/null", "w", stdout) == NULL)
+        return 3;
+    for (int i = 2; i < argc; i++)
+        try_file(argv[i], (size_t)step);
+    fprintf(stderr, "%lu receipts, %lu refused, %lu failures\n", receipts, refusals, failures);
+    return failures > 0 || refusals == 0 || refusals == receipts;
+}

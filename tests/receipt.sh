@@ -1,0 +1,316 @@
+#!/usr/bin/env bash
+# The command `rigcactus receipt`: whole receipts, which stand in tests/receipts, and sections of others. What is due is written from the rules
+# page. Weekdays and durations were worked out apart from the program, by another calendar.
+set -u
+cd "$(dirname "$0")/.." || exit 2
+program=${RIGCACTUS:-$PWD/target/host/rigcactus}
+repository=$PWD
+examples=$PWD/examples/receipts
+receipts=$PWD/tests/receipts
+
+folder=$(mktemp -d)
+trap 'rm -rf "$folder"' EXIT
+cd "$folder" || exit 2
+failures=0
+
+fail() {
+  echo "tests/receipt.sh: $1" >&2
+  failures=$((failures + 1))
+}
+
+# expect_receipt STATUS FOLDER DUE OPTION..: the receipt of an example is the text tests/receipts/DUE.txt, and so the command ends.
+expect_receipt() {
+  local status=$1 example=$examples/$2 due=$receipts/$3.txt
+  shift 3
+  "$program" receipt "$example/name.xml" "$example/sum.xml" "$example/pass.xml" "$example/identifier.xml" "$@" > out 2> err
+  [ $? -eq "$status" ] || fail "$due: ended with another status than $status"
+  cmp -s out "$due" || fail "$due: another text was printed"
+  [ ! -s err ] || fail "$due: wrote to standard error: $(cat err)"
+}
+
+expect_receipt 0 french french --offset 120
+expect_receipt 0 french french --offset 120 --width 32
+expect_receipt 0 french french --width 00032 --offset +120
+expect_receipt 0 greek greek --offset 180 --width 24
+expect_receipt 0 arabic arabic --offset 240
+expect_receipt 0 chinese chinese --offset 480
+expect_receipt 0 hindi hindi --offset 330 --width 100
+expect_receipt 0 hindi hindi-16 --offset 330 --width 16
+expect_receipt 1 cut-letter cut-letter
+expect_receipt 1 refused refused --width 48
+
+# Good records, for the places that a test is not about.
+printf '<n xsi:type="EN"><part value="A"/></n>' > name
+printf '<s xsi:type="MO" value="1" currency="EUR"/>' > sum
+printf '<p xsi:type="IVL_TS"><low nullFlavor="NINF"/><high nullFlavor="PINF"/></p>' > pass
+printf '<i xsi:type="II" root="1.2"/>' > identifier
+
+# section NUMBER: the lines of a receipt after its rule of that number, without the heading, which on narrow paper is broken.
+section() {
+  LC_ALL=C awk -v number="$1" '
+    /^(-+|=+)$/ { rules++; heading = ""; next }
+    rules == number && heading !~ /^(Guest|Sum|Passholds|Identifier)$/ { gsub(/ /, ""); heading = heading $0; next }
+    rules == number { print }'
+}
+
+# expect_section STATUS PLACE RECORD DUE OPTION..: with a record at one place, its section has these lines, as printf takes them. The paper is
+# wide unless an option says otherwise, and the record is bytes as printf takes them.
+expect_section() {
+  local status=$1 place=$2 record=$3 due=$4 number
+  local files=(name sum pass identifier)
+  shift 4
+  case $place in name) number=2 ;; sum) number=3 ;; pass) number=4 ;; *) number=5 ;; esac
+  case " $* " in *' --width '*) ;; *) set -- "$@" --width 400 ;; esac
+  # shellcheck disable=SC2059
+  printf -- "$record" > given
+  # shellcheck disable=SC2059
+  printf -- "$due\n" > due
+  timeout 20 "$program" receipt "${files[@]/#$place/given}" "$@" > out 2> err
+  [ $? -eq "$status" ] || fail "$record $*: ended with another status than $status"
+  section "$number" < out > got
+  cmp -s got due || fail "$record $*: printed $(cat got)"
+  [ ! -s err ] || fail "$record $*: wrote to standard error: $(cat err)"
+}
+
+expect_name() { expect_section 0 name "<n xsi:type=\"EN\">$1</n>" "${@:2}"; }
+expect_pass() { expect_section 0 pass "$@"; }
+expect_refusal() { expect_section 1 "$1" "$2" "Refused: $3\nTell the clinic: $4" "${@:5}"; }
+
+# Names: a space between parts, none after a prefix, before a suffix and around a delimiter (ISO 21090, 7.7.5.3), and never two.
+expect_name '<part value="Adam" type="GIV"/><part value="A." type="GIV"/><part value="Everyman" type="FAM"/>' 'Adam A. Everyman'
+expect_name '<part value="Zo\xC3\xAB"/><part value="van der " type="FAM" qualifier="PFX"/><part value="Berg"/>' 'Zo\xC3\xAB van der Berg'
+expect_name '<part value="Jeanne" /><part qualifier = "PFX" value="d&apos;"></part><part value="Arc"/>' "Jeanne d'Arc"
+expect_name '<part value="Hochheim"/><part value="-" type="DEL"/><part value="Weilenfels"/>' 'Hochheim-Weilenfels'
+expect_name '<part value="Jones"/><part value=" III" qualifier="AC SFX"/><part value=", " type="DEL"/><part value="PhD"/>' 'Jones III, PhD'
+expect_name '<part value="Peter"/><part value="son" qualifier="AD SFX"/><part value="Ann"/>' 'Peterson Ann'
+expect_name '<part value="Health Level Seven, "/><part value="Inc."/>' 'Health Level Seven, Inc.'
+expect_name '<part value="A"/><part value=" B"/>' 'A B'
+expect_name '<part value="A" qualifier="SP"/><part value="B" qualifier="LS AC NB PR HON BR AD SP MID CL IN"/>' 'A B'
+expect_name '<part value="A"/><part nullFlavor="UNK"/><part value="C"/>' 'A [unknown] C'
+expect_name '<part nullFlavor="MSK"/>' '[masked]'
+
+# Texts: the five references, raw characters that need none, and control characters, which are not sent to a printer.
+expect_name '<part value="&lt;&gt;&amp;&quot;&apos;"/>' "<>&\"'"
+expect_name '<part value="&amp;lt;"/>' '&lt;'
+expect_name "<part value=\"a > b = '/>'\"/>" "a > b = '/>'"
+expect_name '<part value="a\x7Fb\xC2\x80c\xC2\x9Fd\xC2\xA0e"/>' 'a?b?c?d\xC2\xA0e'
+expect_name '<part\r\n\tvalue\t=\r\n"A"\n type="GIV" />' 'A'
+
+# The width is in bytes, and a name is cut between whole characters: one more byte of paper, one more letter only where it is whole.
+zoe='<part value="Zo\xC3\xAB van der Berg"/>'
+expect_name "$zoe" 'Zo\xC3\xAB' --width 4
+expect_name "$zoe" 'Zo\xC3\xAB ' --width 5
+expect_name '<part value="Anna \xC3\xA9"/>' 'Anna ' --width 6
+expect_name '<part value="Anna \xC3\xA9"/>' 'Anna \xC3\xA9' --width 7
+expect_name '<part value="\xE7\x8E\x8B\xE7\xA7\x80\xE8\x8B\xB1"/>' '\xE7\x8E\x8B\xE7\xA7\x80' --width 8
+expect_name '<part value="\xF0\x9F\x8C\xB5\xF0\x9F\x8C\xB5"/>' '\xF0\x9F\x8C\xB5' --width 7
+long=$(head -c 16200 /dev/zero | tr '\0' x)
+expect_name "<part value=\"$long\"/>" "$long" --width 16384
+expect_name "<part value=\"$long\"/>" "${long:0:4}" --width 4
+
+# Sums, as they are written.
+expect_sum() { expect_section 0 sum "<s xsi:type=\"MO\" value=\"$1\" currency=\"$2\"/>" "$1 $2"; }
+expect_sum 12.50 EUR
+expect_sum -0.0001 USD
+expect_sum 999999999999.9999 JPY
+expect_sum 007 XXX
+expect_section 0 sum '<s currency="EUR" xmlns:value="3" value="12.5" xsi:type="MO"></s>' '12.5 EUR'
+
+# Identifiers: the extension and whose it is, or the root alone.
+expect_section 0 identifier '<i xsi:type="II" root="2.16.840" extension="V-0417"/>' 'V-0417 of 2.16.840'
+expect_section 0 identifier '<i extension="\xC3\xA9&amp;\xC2\x9B" xsi:type="II" root="1.2"/>' '\xC3\xA9&? of 1.2'
+expect_section 0 identifier '<i xsi:type="II" root="0.39"/>' '0.39'
+expect_section 0 identifier '<i xsi:type="II" root="1.2" extension="abcdefghij"/>' 'abcd\nefgh\nij\nof\n1.2' --width 4
+expect_section 0 identifier '<i xsi:type="II" root="1.2" extension="ab\xE7\x8E\x8Bc"/>' 'ab\n\xE7\x8E\x8Bc\nof\n1.2' --width 4
+expect_section 0 identifier '<i xsi:type="II" root="1.2" extension=" a  b"/>' ' a  b\nof\n1.2' --width 5
+
+# Values that are null, in the words of ISO 21090.
+expect_null() {
+  expect_section 0 name "<n xsi:type=\"EN\" nullFlavor=\"$1\"/>" "none: $2 ($1)"
+  expect_section 0 sum "<n nullFlavor=\"$1\" xsi:type=\"MO\"/>" "none: $2 ($1)"
+  expect_section 0 identifier "<n xsi:type=\"II\" nullFlavor=\"$1\"></n>" "none: $2 ($1)"
+}
+expect_null NI 'no information'
+expect_null INV invalid
+expect_null DER derived
+expect_null OTH other
+expect_null NINF 'negative infinity'
+expect_null PINF 'positive infinity'
+expect_null UNC unencoded
+expect_null MSK masked
+expect_null NA 'not applicable'
+expect_null UNK unknown
+expect_null ASKU 'asked but unknown'
+expect_null NAV 'temporarily unavailable'
+expect_null NASK 'not asked'
+expect_null QS 'sufficient quantity'
+expect_null TRC trace
+
+# interval LOW_CLOSED LOW HIGH HIGH_CLOSED [NAME]: a record of type IVL_TS. A bound that is - is unbounded.
+interval() {
+  local low="<low value=\"$2\"/>" high="<high value=\"$3\"/>" flags=" lowClosed=\"$1\" highClosed=\"$4\""
+  [ "$2" != - ] || { low='<low nullFlavor="NINF"/>'; flags=" highClosed=\"$4\""; }
+  [ "$3" != - ] || { high='<high nullFlavor="PINF"/>'; flags=" lowClosed=\"$1\""; }
+  [ "$2$3" != -- ] || flags=''
+  printf '<%s xsi:type="IVL_TS"%s>%s%s</%s>' "${5-p}" "$flags" "$low" "$high" "${5-p}"
+}
+
+# Times: each kind of bound on each side.
+expect_pass "$(interval true 20240501 2024050312 false)" \
+  'from Wednesday 1 May 2024 00:00 up to, not including, Friday 3 May 2024 12:00 (2 days 12 hours)\nClock: UTC'
+expect_pass "$(interval true 20240501 2024050312 true)" \
+  'from Wednesday 1 May 2024 00:00 up to and including Friday 3 May 2024 12:00 (2 days 12 hours)\nClock: UTC'
+expect_pass "$(interval false 20240501 2024050312 false)" \
+  'from just after Wednesday 1 May 2024 00:00 up to, not including, Friday 3 May 2024 12:00 (2 days 12 hours)\nClock: UTC'
+expect_pass "$(interval false 20240501 2024050312 true)" \
+  'from just after Wednesday 1 May 2024 00:00 up to and including Friday 3 May 2024 12:00 (2 days 12 hours)\nClock: UTC'
+expect_pass "$(interval true 20240229 - -)" 'from Thursday 29 February 2024 00:00 on, with no end\nClock: UTC'
+expect_pass "$(interval false 20240229 - -)" 'from just after Thursday 29 February 2024 00:00 on, with no end\nClock: UTC'
+expect_pass "$(interval - - 20000229 true)" 'with no beginning, up to and including Tuesday 29 February 2000 00:00\nClock: UTC'
+expect_pass "$(interval - - 20000229 false)" 'with no beginning, up to, not including, Tuesday 29 February 2000 00:00\nClock: UTC'
+expect_pass "$(interval - - - -)" 'at all times, with no beginning and no end\nClock: UTC'
+expect_pass "$(interval true 2024050212 2024050212 true)" 'at Thursday 2 May 2024 12:00, for that moment alone\nClock: UTC'
+expect_pass "$(interval false 2024050212 2024050212 true)" 'at no time\nClock: UTC'
+
+# Durations, and seconds on the clock where there are some.
+day='from Wednesday 1 May 2024 00:00 up to, not including, '
+expect_pass "$(interval true 20240501 20240502 false)" "${day}Thursday 2 May 2024 00:00 (1 day)\\nClock: UTC"
+expect_pass "$(interval true 20240501 2024050101 false)" "${day}Wednesday 1 May 2024 01:00 (1 hour)\\nClock: UTC"
+expect_pass "$(interval true 20240501 202405010001 false)" "${day}Wednesday 1 May 2024 00:01 (1 minute)\\nClock: UTC"
+expect_pass "$(interval true 20240501 20240501000001 false)" "${day}Wednesday 1 May 2024 00:00:01 (1 second)\\nClock: UTC"
+expect_pass "$(interval true 20240501 20240501000000.0001 false)" "${day}Wednesday 1 May 2024 00:00:00.0001 (0.0001 seconds)\\nClock: UTC"
+expect_pass "$(interval true 20240501 20240501000100.5 false)" "${day}Wednesday 1 May 2024 00:01:00.5000 (1 minute 0.5000 seconds)\\nClock: UTC"
+expect_pass "$(interval true 20240501 20240502010101 false)" \
+  "${day}Thursday 2 May 2024 01:01:01 (1 day 1 hour 1 minute 1 second)\\nClock: UTC"
+expect_pass "$(interval true 20240501 20240531235958 false)" \
+  "${day}Friday 31 May 2024 23:59:58 (30 days 23 hours 59 minutes 58 seconds)\\nClock: UTC"
+expect_pass "$(interval true 2023 2024 false)" \
+  'from Sunday 1 January 2023 00:00 up to, not including, Monday 1 January 2024 00:00 (365 days)\nClock: UTC'
+expect_pass "$(interval true 2024 2025 false)" \
+  'from Monday 1 January 2024 00:00 up to, not including, Wednesday 1 January 2025 00:00 (366 days)\nClock: UTC'
+
+# The agreed offset: times that carry none are at that clock, and all are shown by it. The edges of the calendar: the year before 0001 is 0000.
+expect_pass "$(interval true 20240501 2024050212+00 false)" \
+  "${day}Thursday 2 May 2024 14:00 (1 day 14 hours)\\nClock: UTC+02:00" --offset 120
+expect_pass "$(interval true 20240501 2024050212+00 false)" \
+  "${day}Thursday 2 May 2024 08:30 (1 day 8 hours 30 minutes)\\nClock: UTC-03:30" --offset -210
+expect_pass "$(interval true 20240501 2024050212+0530 false)" "${day}Thursday 2 May 2024 06:30 (1 day 6 hours 30 minutes)\\nClock: UTC"
+expect_pass "$(interval false 0001 99991231235959.9999 true)" \
+  'from just after Monday 1 January 0001 00:00 up to and including Friday 31 December 9999 23:59:59.9999 (3652058 days 23 hours 59 minutes 59.9999 seconds)\nClock: UTC'
+expect_pass "$(interval true 0001010100+14 99991231235959.9999-14 true)" \
+  'from Saturday 30 December 0000 20:00 up to and including Friday 31 December 9999 23:59:59.9999 (3652060 days 3 hours 59 minutes 59.9999 seconds)\nClock: UTC-14:00' --offset -840
+expect_pass "$(interval true 0001010100+14 99991231235959.9999-14 true)" \
+  'from Monday 1 January 0001 00:00 up to and including Sunday 2 January 10000 03:59:59.9999 (3652060 days 3 hours 59 minutes 59.9999 seconds)\nClock: UTC+14:00' --offset 840
+
+# Sets: stretches that touch are one, and neighbouring moments do not touch.
+union() { printf '<p xsi:type="QSU_TS">'; printf %s "$@"; printf '</p>'; }
+t=20240501000000.000
+expect_pass "$(union "$(interval true 20240501 20240502 false term)" "$(interval true 20240502 20240503 true term)")" \
+  'from Wednesday 1 May 2024 00:00 up to and including Friday 3 May 2024 00:00 (2 days)\nClock: UTC'
+expect_pass "$(union "$(interval true ${t}1 ${t}2 true term)" "$(interval true ${t}3 ${t}4 true term)")" \
+  "1. from Wednesday 1 May 2024 00:00:00.0001 up to and including Wednesday 1 May 2024 00:00:00.0002 (0.0001 seconds)
+2. from Wednesday 1 May 2024 00:00:00.0003 up to and including Wednesday 1 May 2024 00:00:00.0004 (0.0001 seconds)
+Clock: UTC"
+moments=()
+due=''
+for i in {1..32}; do
+  minute=$(printf %02d "$i")
+  moments+=("$(interval true "2024050108$minute" "2024050108$minute" true term)")
+  due+="$i. at Wednesday 1 May 2024 08:$minute, for that moment alone\\n"
+done
+expect_pass "$(union "${moments[@]}")" "${due}Clock: UTC"
+
+# The receipt that docs/HOST.md shows is one of these.
+awk '/^```text$/ { inside = 1; next } /^```$/ { inside = 0 } inside' "$repository/docs/HOST.md" | cmp -s - "$receipts/french.txt" ||
+  fail 'docs/HOST.md shows another receipt'
+
+# Refusals, from 1 to 10, with what to tell the clinic. The program lends a list that is long enough for every set, so 11 does not occur.
+offset='nothing. The offset that this desk was set to is not from -840 to 840 minutes. Set it right and read the record again.'
+too_long='the record is longer than 16,384 bytes. Please send a shorter one.'
+not_utf8='the record is not UTF-8. A text may have been cut inside a letter, or be in another encoding. Please send it whole and in UTF-8.'
+markup='the record is not one whole XML element as this desk reads it. Please send one element, its attributes in double quotes, with no text between tags, no prolog, comment, CDATA or numeric reference, and no more than 8 elements open at once.'
+type='an xsi:type is missing, is not known here, or does not belong where it stands. This record is to be of type'
+sets='IVL_TS, QSU_TS, QSI_TS or QSD_TS.'
+shape='an attribute or an inner element is missing, does not belong there, or is out of order. Please send what the type has and no more.'
+value='the text of an attribute is not written as it must be, like 12,50 for the amount 12.50, or a date that no calendar has. Please write it right.'
+rule='what the record says does not go together, like a sum without its currency, a part of a name without a text, a time without its flag, or a start after its end. Please put it right.'
+unknown='it is not said when the pass starts or ends. Please send each start and each end, or NINF and PINF where there is none.'
+too_many='the pass is written with more than 32 intervals. Please write it with fewer, or as two passes.'
+for advice in "$offset" "$too_long" "$not_utf8" "$markup" "$type .." "$shape" "$value" "$rule" "$unknown" "$too_many"; do
+  grep -qF ") | $advice |" "$repository/docs/HOST.md" || fail "docs/HOST.md does not say: $advice"
+done
+spaces=$(head -c 16385 /dev/zero | tr '\0' ' ')
+for place in name sum pass identifier; do
+  expect_refusal $place '<t/>' 'OFFSET (1)' "$offset" --offset 841
+  expect_refusal $place '<t/>' 'OFFSET (1)' "$offset" --offset -9223372036854775807
+  expect_refusal $place "$spaces" 'TOO LONG (2)' "$too_long"
+  expect_refusal $place '<t xsi:type="\xFF"/>' 'NOT UTF-8 (3)' "$not_utf8"
+  expect_refusal $place '' 'MARKUP (4)' "$markup"
+  expect_refusal $place '<t xsi:type="MO" value="1" currency="EUR">1</t>' 'MARKUP (4)' "$markup"
+done
+for given in '<t/>' '<t xsi:type="TS" value="2024"/>' '<t xsi:type="CD" nullFlavor="NI"/>' '<t xsi:type="EN.PN"/>'; do
+  expect_refusal name "$given" 'TYPE (5)' "$type EN."
+  expect_refusal sum "$given" 'TYPE (5)' "$type MO."
+  expect_refusal pass "$given" 'TYPE (5)' "$type $sets"
+  expect_refusal identifier "$given" 'TYPE (5)' "$type II."
+done
+expect_refusal name "$(cat sum)" 'TYPE (5)' "$type EN."
+expect_refusal sum "$(cat name)" 'TYPE (5)' "$type MO."
+expect_refusal pass "$(cat identifier)" 'TYPE (5)' "$type $sets"
+expect_refusal identifier "$(cat pass)" 'TYPE (5)' "$type II."
+expect_refusal name '<n xsi:type="EN"/>' 'SHAPE (6)' "$shape"
+expect_refusal sum '<s xsi:type="MO" value="1" currency="EUR" unit="1"/>' 'SHAPE (6)' "$shape"
+expect_refusal pass '<p xsi:type="QSU_TS"/>' 'SHAPE (6)' "$shape"
+expect_refusal identifier '<i xsi:type="II" root="1.2"><low/></i>' 'SHAPE (6)' "$shape"
+expect_refusal name '<n xsi:type="EN"><part value="A" type="FAMILY"/></n>' 'VALUE (7)' "$value"
+expect_refusal sum '<s xsi:type="MO" value="12,50" currency="EUR"/>' 'VALUE (7)' "$value"
+expect_refusal pass "$(interval true 20230229 20240501 true)" 'VALUE (7)' "$value"
+expect_refusal identifier '<i xsi:type="II" root="3.2"/>' 'VALUE (7)' "$value"
+expect_refusal name '<n xsi:type="EN"><part value=""/></n>' 'RULE (8)' "$rule"
+expect_refusal sum '<s xsi:type="MO" value="12.50"/>' 'RULE (8)' "$rule"
+expect_refusal pass "$(interval true 20240502 20240501 true)" 'RULE (8)' "$rule"
+expect_refusal identifier '<i xsi:type="II" extension="1"/>' 'RULE (8)' "$rule"
+expect_refusal pass '<p xsi:type="IVL_TS"/>' 'UNKNOWN BOUND (9)' "$unknown"
+expect_refusal pass '<p xsi:type="QSU_TS" nullFlavor="NI"/>' 'UNKNOWN BOUND (9)' "$unknown"
+expect_refusal pass "$(union "${moments[@]}" "${moments[0]}")" 'TOO MANY (10)' "$too_many"
+
+# expect_failure STATUS ARGUMENT..: the command prints no receipt, says why on standard error, and ends so.
+expect_failure() {
+  local status=$1
+  shift
+  "$program" receipt "$@" > out 2> err
+  [ $? -eq "$status" ] || fail "receipt $*: ended with another status than $status"
+  [ ! -s out ] || fail "receipt $*: wrote to standard output"
+  [ -s err ] || fail "receipt $*: wrote nothing to standard error"
+}
+expect_failure 2
+expect_failure 2 name sum pass
+expect_failure 2 name sum pass identifier identifier
+expect_failure 2 --width 32 name sum pass identifier
+expect_failure 2 name sum pass identifier --width
+expect_failure 2 name sum pass identifier --raw
+expect_failure 2 name sum pass identifier --width 32 --width 32
+for width in '' x -4 +32 3 0 16385 18446744073709551616; do
+  expect_failure 2 name sum pass identifier --width "$width"
+done
+expect_failure 2 name sum pass identifier --offset x
+expect_failure 3 none sum pass identifier
+expect_failure 3 name sum pass none
+expect_failure 3 name . pass identifier
+"$program" receipt name sum pass identifier > /dev/full 2> err
+[ $? -eq 3 ] || fail 'receipt to a full device did not end with 3'
+
+# On paper of any width lines fit, are whole characters, and say the same, but for the name.
+words() { section 3 < "$1"; section 4 < "$1"; section 5 < "$1"; }
+for example in "$examples"/*; do
+  files=("$example/name.xml" "$example/sum.xml" "$example/pass.xml" "$example/identifier.xml")
+  "$program" receipt "${files[@]}" --width 1000 > wide
+  for width in 4 5 6 7 10 13 16 23 24 31 36; do
+    "$program" receipt "${files[@]}" --width "$width" > narrow
+    LC_ALL=C awk -v width="$width" 'length > width { exit 1 }' narrow || fail "$example: a line is longer than $width bytes"
+    "$program" cut 0 < narrow > /dev/null || fail "$example: a line of paper $width bytes wide is not UTF-8"
+    [ "$(words narrow | tr -d ' \n')" = "$(words wide | tr -d ' \n')" ] || fail "$example: other words on paper $width bytes wide"
+  done
+done
+
+[ "$failures" -eq 0 ]
