@@ -3,3 +3,4 @@ pub mod Answers
 pub mod Signs
 pub mod Types
 pub mod Joined
+pub mod Flags

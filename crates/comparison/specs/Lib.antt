@@ -1,2 +1,4 @@
 pub mod Meaning
 pub mod Parts
+pub mod Sides
+pub mod Readings

@@ -1,6 +1,6 @@
 // Comparison of timestamps and of intervals of times.
 ghost use mathlib.Core.Path.{_≡_};
-ghost use mathlib.Core.Bool.{Bool};
+ghost use mathlib.Core.Bool.{true};
 ghost use Prim.Native.Nat.{ℕ, _≤_};
 ghost use lib.ListN.{length};
 ghost use Rattle.rules.specs.Markup.{Element};
@@ -10,6 +10,7 @@ ghost use Rattle.timestamp.specs.Moments.{momentOf};
 ghost use Rattle.element.specs.Places.{ElementAt};
 ghost use Rattle.datatype.specs.Bounds.{sideMeant, endpointMeant};
 ghost use Rattle.comparison.specs.Meaning.{answerMeant};
+ghost use Rattle.comparison.specs.Sides.{isValued};
 use crate::Answer;
 use crate::also;
 use crate::answer_if;
@@ -32,12 +33,12 @@ fn compare_moments(a: Moment, b: Moment) -> Answer
     Answer::No
 }
 
-// A value against what another side says; `flags` says whether the flags are the same.
-fn compare_valued(flags: bool, a: Moment, b: Endpoint) -> Answer
-    ensures { λ r. ⌜ answerMeant r ≡ compareEndpoints flags (valued (momentOf a)) (endpointMeant b) ⌝ }
+// A value against what another side says.
+fn compare_valued(a: Moment, b: Endpoint) -> Answer
+    ensures { λ r. ⌜ answerMeant r ≡ compareEndpoints true (valued (momentOf a)) (endpointMeant b) ⌝ }
 {
     match b {
-        Endpoint::Valued(m) => also(compare_moments(a, m), answer_if(flags)),
+        Endpoint::Valued(m) => compare_moments(a, m),
         Endpoint::Infinite => Answer::No,
         Endpoint::Unknown => Answer::Unknown,
     }
@@ -45,7 +46,7 @@ fn compare_valued(flags: bool, a: Moment, b: Endpoint) -> Answer
 
 // No bound against what another side says.
 fn compare_infinite(b: Endpoint) -> Answer
-    ensures { λ r. ⌜ ((flags : Bool) → answerMeant r ≡ compareEndpoints flags infinite (endpointMeant b)) ⌝ }
+    ensures { λ r. ⌜ answerMeant r ≡ compareEndpoints true infinite (endpointMeant b) ⌝ }
 {
     match b {
         Endpoint::Valued(_) => Answer::No,
@@ -54,15 +55,34 @@ fn compare_infinite(b: Endpoint) -> Answer
     }
 }
 
-// What two sides say: unbounded equals unbounded and differs from a value; nothing said is unknown.
-fn compare_endpoints(flags: bool, a: Endpoint, b: Endpoint) -> Answer
-    ensures { λ r. ⌜ answerMeant r ≡ compareEndpoints flags (endpointMeant a) (endpointMeant b) ⌝ }
+// What two sides say, but for their flags: unbounded equals unbounded and differs from a value; nothing said is unknown.
+fn compare_endpoints(a: Endpoint, b: Endpoint) -> Answer
+    ensures { λ r. ⌜ answerMeant r ≡ compareEndpoints true (endpointMeant a) (endpointMeant b) ⌝ }
 {
     match a {
-        Endpoint::Valued(m) => compare_valued(flags, m, b),
+        Endpoint::Valued(m) => compare_valued(m, b),
         Endpoint::Infinite => compare_infinite(b),
         Endpoint::Unknown => Answer::Unknown,
     }
+}
+
+// Whether a side has a value.
+fn is_valued(a: Endpoint) -> bool
+    ensures { λ r. ⌜ r ≡ isValued (endpointMeant a) ⌝ }
+{
+    match a {
+        Endpoint::Valued(_) => true,
+        Endpoint::Infinite => false,
+        Endpoint::Unknown => false,
+    }
+}
+
+// What two sides say, and their flags where both are valued; `flags` says whether the flags are the same.
+fn compare_flagged(flags: bool, a: Endpoint, b: Endpoint) -> Answer
+    ensures { λ r. ⌜ answerMeant r ≡ compareEndpoints flags (endpointMeant a) (endpointMeant b) ⌝ }
+{
+    let asked = is_valued(a) & is_valued(b);
+    also(compare_endpoints(a, b), answer_if(flags | !asked))
 }
 
 // TS: the values of the elements at two positions.
@@ -72,7 +92,7 @@ pub fn compare_times(s: &[u8], at: usize, t: &[u8], other: usize, shift: u64) ->
 {
     let a = bounds::valued(s, at, shift);
     let b = bounds::valued(t, other, shift);
-    compare_endpoints(true, a, b)
+    compare_endpoints(a, b)
 }
 
 // Whether the flags of two intervals on a side are the same.
@@ -102,7 +122,7 @@ fn compare_sides(
     let flags = same_flag(s, at, t, other, side);
     let a = bounds::endpoint_of(s, at, depth, side, shift);
     let b = bounds::endpoint_of(t, other, depth, side, shift);
-    compare_endpoints(flags, a, b)
+    compare_flagged(flags, a, b)
 }
 
 // IVL_TS: lows, highs, and flags of sides where both are valued.

@@ -5,10 +5,11 @@ ghost use Prim.Native.Nat.{ℕ, _≤_};
 ghost use lib.ListN.{length};
 ghost use Rattle.rules.specs.Basics.{isSome};
 ghost use Rattle.rules.specs.Markup.{Element};
-ghost use Rattle.rules.specs.Comparison.{sameOption, sameAmount, compareMoney, compareIdentifiers, compareCodes, amountOf as amountIn};
+ghost use Rattle.rules.specs.Comparison.{sameOption, sameAmount, compareMoney, compareIdentifiers, compareCodes};
 ghost use Rattle.form.specs.Amounts.{amountOf};
 ghost use Rattle.element.specs.Places.{ElementAt};
 ghost use Rattle.comparison.specs.Meaning.{answerMeant};
+ghost use Rattle.comparison.specs.Readings.{amountNamed, sameRead};
 use crate::Answer;
 use crate::answer_if;
 use crate::texts::same_attribute;
@@ -17,12 +18,12 @@ use element::find;
 use form::money::Amount;
 use markup::tag::Found;
 
-// The amount that the element at a position says.
-fn amount_at(s: &[u8], at: usize) -> Amount
+// The amount that the attribute of a name says of the element at a position.
+fn amount_at(s: &[u8], at: usize, name: &[u8]) -> Amount
     requires { ⌜ at ≤ length (now s) ⌝ }
-    ensures { λ r. ⌜ ((d : ℕ) (v : Element) → ElementAt (now (s .entry)) at d v → amountOf r ≡ amountIn (v .attrs)) ⌝ }
+    ensures { λ r. ⌜ ((d : ℕ) (v : Element) → ElementAt (now (s .entry)) at d v → amountOf r ≡ amountNamed (now (name .entry)) (v .attrs)) ⌝ }
 {
-    let found = find(s, at, b"value");
+    let found = find(s, at, name);
     let Found::Quoted(q, e) = found else {
         return Amount::Bad;
     };
@@ -63,13 +64,30 @@ fn same_amount(a: Amount, b: Amount) -> bool
     (x == y) & ((m == n) | (x == 0))
 }
 
+// How the values of an attribute are compared: as texts, or as the amounts that they are.
+enum Reading {
+    Text,
+    Amount,
+}
+
+// Whether the elements at two positions say the same in the attribute of a name, read so, or both lack it.
+fn same_value(s: &[u8], at: usize, t: &[u8], other: usize, name: &[u8], reading: Reading) -> bool
+    requires { ⌜ at ≤ length (now s) ⌝ ∗ ⌜ other ≤ length (now t) ⌝ }
+    ensures { λ r. ⌜ ((d e : ℕ) (v w : Element) → ElementAt (now (s .entry)) at d v → ElementAt (now (t .entry)) other e w → r ≡ sameRead reading (now (name .entry)) (v .attrs) (w .attrs)) ⌝ }
+{
+    match reading {
+        Reading::Text => same_attribute(s, at, t, other, name),
+        Reading::Amount => same_amount(amount_at(s, at, name), amount_at(t, other, name)),
+    }
+}
+
 // MO: amount, as a number, and currency.
 pub fn compare_money(s: &[u8], at: usize, t: &[u8], other: usize) -> Answer
     requires { ⌜ at ≤ length (now s) ⌝ ∗ ⌜ other ≤ length (now t) ⌝ }
     ensures { λ r. ⌜ ((d e n : ℕ) (v w : Element) → ElementAt (now (s .entry)) at d v → ElementAt (now (t .entry)) other e w → answerMeant r ≡ compareMoney n v w) ⌝ }
 {
-    let amounts = same_amount(amount_at(s, at), amount_at(t, other));
-    answer_if(amounts & same_attribute(s, at, t, other, b"currency"))
+    let amounts = same_value(s, at, t, other, b"value", Reading::Amount);
+    answer_if(amounts & same_value(s, at, t, other, b"currency", Reading::Text))
 }
 
 // II: root and extension.

@@ -26,7 +26,8 @@ use Rattle.rules.proofs.Ticks.{read-or-value, precision-range}
 use Rattle.rules.proofs.Utf8.{cut-whole, cut-fits, cut-longest}
 use Rattle.rules.proofs.ListingCases.{faulty, other-type, unclear, many, a-set, case}
 use Rattle.rules.proofs.ListingPromise.{small, low-bits, count-bits, listing-promise}
-use Rattle.rules.proofs.ComparisonPromise.{names-first, names-second, says as says-answer, comparison-of, comparison-promise}
+use Rattle.rules.proofs.ComparedRecords.{says as says-answer, comparison-of}
+use Rattle.rules.proofs.ComparisonPromise.{names-first, names-second, comparison-promise}
 use Rattle.demands.specs.Demands.{services, resultIn, isAmong, Answers, accepts, refuses, Compares, says, names, recordRefusals, IsFirst, timeFaults, cutFaults, IsCut, valueOf, signedOf, Demands}
 
 iff-trans : {A B C : Type 0} → (A ↔ B) → (B ↔ C) → A ↔ C

@@ -19,6 +19,7 @@ use Rattle.rules.specs.Types.{Kind, allTypes, typeAmong, Column, Child, 
 use Rattle.rules.specs.Judge.{Standing, top, isTop, typeColumns, nullColumns, attributeFaults, lacks, breaksNull, elementFaults, kindOf, standingOf, nextChild, childFaults, topFaults}
 use Rattle.rules.specs.Check.{isOffset, shiftBy, isTooLong, elementOf, recordFaults, check}
 use Rattle.rules.specs.Utf8.{isUtf8}
+use Rattle.rules.proofs.Children.{faultsAs}
 use Rattle.rules.proofs.Precedence.{first-is, unless-refused, check-refused}
 
 -- all pass a test
@@ -112,7 +113,7 @@ module _ (test : Refusal → Bool) (type : test TYPE ≡ true) (shape : test SHA
       pass-append test (go (nextChild k stage n) (λ j. children-pass shift j (isNull attrs) 0 kids)) (children-pass shift k null (ifSome (nextChild k stage n) (λ c. c .to) stage) rest)
     where
       go : (o : Option Child) → ((j : Kind) → Pass test (childFaults shift j (isNull attrs) 0 kids))
-          → Pass test (ifSome o (λ c. elementFaults shift (standingOf (c .kind)) (kindOf (c .kind) attrs) attrs kids (λ j. childFaults shift j (isNull attrs) 0 kids)) (SHAPE ∷ []))
+          → Pass test (ifSome o (λ c. faultsAs shift attrs kids (c .kind)) (SHAPE ∷ []))
       go none h = pass-one test SHAPE shape
       go (some c) h = element-passes shift (standingOf (c .kind)) (kindOf (c .kind) attrs) attrs kids (λ j. childFaults shift j (isNull attrs) 0 kids) h
 

@@ -1,27 +1,23 @@
 -- Comparing two records keeps its promise.
 use Prim.Native.Nat.{ℕ}
-use Prim.Native.String.{String}
 use mathlib.Core.Path.{_≡_, refl, sym, _∙_, ap}
 use mathlib.Core.Bool.{Bool, true, false, _||_, cond, or-comm}
-use mathlib.Core.List.{List, [], _∷_, flatMap, List·Memᴰ, List·Memᴰ·head, List·Memᴰ·tail}
+use mathlib.Core.List.{List, []}
 use mathlib.Core.Option.{Option, none, some}
 use native.Mathlib.Omega.{arith}
 use lib.IntN.{ℤ}
-use Rattle.rules.specs.Basics.{isSome, ifSome, find, exists, every, bytes, same, begins}
-use Rattle.rules.specs.Refusal.{Refusal, TYPE, Outcome, answered}
-use Rattle.rules.specs.Markup.{Attribute, end, Element, lookup, document}
-use Rattle.rules.specs.Forms.{isFlavor, formFaults}
+use Rattle.rules.specs.Basics.{isSome, ifSome, find, every, same}
+use Rattle.rules.specs.Refusal.{Refusal, TYPE}
+use Rattle.rules.specs.Markup.{Attribute, Element}
 use Rattle.rules.specs.Invariants.{isNull}
-use Rattle.rules.specs.Types.{Kind, TS, IVL-TS, QSU-TS, QSI-TS, QSD-TS, MO, II, CD, EN, DisplayName, Part, nameOf, allTypes, hasType, typeAmong, lineOf}
-use Rattle.rules.specs.Judge.{attributeFaults, elementFaults, childFaults, topFaults}
-use Rattle.rules.specs.Utf8.{isUtf8}
-use Rattle.rules.specs.Check.{isOffset, shiftBy, isTooLong, recordFaults, check}
+use Rattle.rules.specs.Types.{Kind, TS, IVL-TS, QSU-TS, QSI-TS, QSD-TS, MO, II, CD, EN, DisplayName, Part, allTypes, hasType, typeAmong}
+use Rattle.rules.specs.Judge.{topFaults}
+use Rattle.rules.specs.Check.{shiftBy}
 use Rattle.rules.specs.Comparison.{Answer, Yes, No, Unknown, Comparer, comparerOf, comparerFor, orUnknown}
-use Rattle.rules.specs.Services.{Compared, compared, refusedFirst, refusedSecond, compareChecked, comparison, answerNumber, comparedNumber, compareAnswer}
+use Rattle.rules.specs.Services.{Compared, compared, refusedFirst, refusedSecond, answerNumber, comparedNumber, compareAnswer}
 use Rattle.rules.specs.ComparisonPromise.{comparedTypes, comparedType, isComplete, Names, Says, IsOf, ComparisonPromise}
-use Rattle.rules.proofs.Opened.{opened}
 use Rattle.rules.proofs.Tests.{clash, found}
-use Rattle.rules.proofs.Precedence.{check-answered}
+use Rattle.rules.proofs.ComparedRecords.{says, comparison-of, each-given}
 use Rattle.rules.proofs.Members.{type-is}
 use Rattle.rules.proofs.ListingCases.{check-faultless}
 use Rattle.rules.proofs.ListingPromise.{small}
@@ -149,12 +145,7 @@ names-first r = let h = small r in record { number-given = omega arith; record-n
 pub names-second : (r : Refusal) → Names 2 r (comparedNumber (refusedSecond r))
 names-second r = let h = small r in record { number-given = omega arith; record-named = omega arith; no-answer = omega arith }
 
-pub says : (x : Answer) → Says x (comparedNumber (compared x))
-says Yes = record { no-refusal = refl; no-record = refl; answer-given = refl }
-says No = record { no-refusal = refl; no-record = refl; answer-given = refl }
-says Unknown = record { no-refusal = refl; no-record = refl; answer-given = refl }
-
-pub says-one : (x y : Answer) {n : ℕ} → Says x n → Says y n → x ≡ y
+says-one : (x y : Answer) {n : ℕ} → Says x n → Says y n → x ≡ y
 says-one x y h i = go x y (sym (h .answer-given) ∙ i .answer-given)
   where
     go : (x y : Answer) → answerNumber x ≡ answerNumber y → x ≡ y
@@ -168,163 +159,29 @@ says-one x y h i = go x y (sym (h .answer-given) ∙ i .answer-given)
     go Unknown No e = clash (omega arith)
     go Unknown Unknown e = refl
 
--- a record of a type that is accepted under every offset
-record Sample (shift : ℕ) (k : Kind) : Type 0 where
-  text : List ℕ
-  element : Element
-  reads : document text ≡ some element
-  outside : (isTooLong text ≡ false) × (isUtf8 text ≡ true)
-  faultless : topFaults shift element ≡ []
-  type : comparedType element ≡ some k
-
--- a null value of a type
-abbrev nulled : Kind → Element
-nulled k = record {
-  name = bytes "a";
-  attrs = record { name = bytes "xsi:type"; value = nameOf k } ∷ record { name = bytes "nullFlavor"; value = bytes "UNK" } ∷ [];
-  kids = end;
-}
-
-flavor-known : isFlavor (bytes "UNK") ≡ true
-unfolding opened
-flavor-known = refl
-
-nulled-faultless : (shift : ℕ) → (topFaults shift (nulled MO) ≡ []) × (topFaults shift (nulled II) ≡ []) × (topFaults shift (nulled EN) ≡ [])
-unfolding flatMap find exists same begins lookup formFaults lineOf attributeFaults elementFaults childFaults
-nulled-faultless shift = (rw flavor-known, rw flavor-known, rw flavor-known)
-
 module _ (offset : ℤ) where
   abbrev shift : ℕ
   shift = shiftBy offset
-
-  pub comparison-of : (a b : List ℕ) {o p : Outcome Element} → check offset a ≡ o → check offset b ≡ p → compareAnswer offset a b ≡ comparedNumber (compareChecked shift o p)
-  unfolding comparison
-  comparison-of a b e f = rw (e, f)
-
-  module _ (ok : isOffset offset ≡ true) where
-    sample-is : (k : Kind) (s : Sample shift k) → IsOf offset k (s .text) (s .element)
-    unfolding recordFaults
-    sample-is k s = record {
-      accepted = check-answered offset (s .text) (s .element) .1 (s .reads, rw (ok, s .outside .0, s .outside .1, s .reads) (s .faultless));
-      type = s .type;
-    }
-
-    abbrev parsed : String → Element
-    parsed text = ifSome (document (bytes text)) (λ e. e) (record { name = []; attrs = []; kids = end })
-
-    -- the sample that a text is
-    abbrev sample : {k : Kind} (text : String) → document (bytes text) ≡ some (parsed text) → isTooLong (bytes text) ≡ false → isUtf8 (bytes text) ≡ true
-        → topFaults shift (parsed text) ≡ [] → comparedType (parsed text) ≡ some k → Sample shift k
-    sample text d l u f t = record { text = bytes text; element = parsed text; reads = d; outside = (l, u); faultless = f; type = t }
-
-    abbrev Given : Kind → Answer → Type 0
-    Given k x = (a b : List ℕ) × (e f : Element) × IsOf offset k a e × IsOf offset k b f × Says x (compareAnswer offset a b)
-
-    abbrev result : {k : Kind} → Sample shift k → Sample shift k → Compared
-    result a b = compareChecked shift (answered (a .element)) (answered (b .element))
-
-    -- a sample; one to which it is equal, one to which it is not, and one of which that is unknown
-    given : (k : Kind) (a y n u : Sample shift k) → result a y ≡ compared Yes → result a n ≡ compared No → result a u ≡ compared Unknown → (x : Answer) → Given k x
-    given k a y n u e f g = go
-      where
-        with : (b : Sample shift k) (x : Answer) → result a b ≡ compared x → Given k x
-        with b x d =
-            let g = sample-is k a in
-            let h = sample-is k b in
-            (a .text, b .text, a .element, b .element, g, h, rw (comparison-of (a .text) (b .text) (g .accepted) (h .accepted), d) (says x))
-
-        go : (x : Answer) → Given k x
-        go Yes = with y Yes e
-        go No = with n No f
-        go Unknown = with u Unknown g
-
-    given-time : (x : Answer) → Given TS x
-    unfolding opened
-    given-time =
-        given TS
-        (sample "<a xsi:type=\"TS\" value=\"2024010112+00\"/>" refl refl refl refl refl)
-        (sample "<a xsi:type=\"TS\" value=\"2024010113+01\"/>" refl refl refl refl refl)
-        (sample "<a xsi:type=\"TS\" value=\"2024010113+00\"/>" refl refl refl refl refl)
-        (sample "<a xsi:type=\"TS\" value=\"202401011200+00\"/>" refl refl refl refl refl)
-        refl refl refl
-
-    given-interval : (x : Answer) → Given IVL-TS x
-    unfolding opened
-    given-interval =
-        given IVL-TS
-        (sample "<a xsi:type=\"IVL_TS\" lowClosed=\"true\" highClosed=\"true\"><low value=\"2024010112+00\"/><high value=\"2024010212+00\"/></a>" refl refl refl refl refl)
-        (sample "<a xsi:type=\"IVL_TS\" lowClosed=\"true\" highClosed=\"true\"><low value=\"2024010113+01\"/><high value=\"2024010212+00\"/></a>" refl refl refl refl refl)
-        (sample "<a xsi:type=\"IVL_TS\" lowClosed=\"false\" highClosed=\"true\"><low value=\"2024010112+00\"/><high value=\"2024010212+00\"/></a>" refl refl refl refl refl)
-        (sample "<a xsi:type=\"IVL_TS\" lowClosed=\"true\"><low value=\"2024010112+00\"/></a>" refl refl refl refl refl)
-        refl refl refl
-
-    given-money : (x : Answer) → Given MO x
-    unfolding opened
-    given-money =
-        given MO
-        (sample "<a xsi:type=\"MO\" value=\"12.5\" currency=\"EUR\"/>" refl refl refl refl refl)
-        (sample "<a xsi:type=\"MO\" value=\"12.50\" currency=\"EUR\"/>" refl refl refl refl refl)
-        (sample "<a xsi:type=\"MO\" value=\"12.5\" currency=\"USD\"/>" refl refl refl refl refl)
-        (record { text = bytes "<a xsi:type=\"MO\" nullFlavor=\"UNK\"/>"; element = nulled MO; reads = refl; outside = (refl, refl); faultless = nulled-faultless shift .0; type = refl })
-        refl refl refl
-
-    given-identifier : (x : Answer) → Given II x
-    unfolding opened
-    given-identifier =
-        given II
-        (sample "<a xsi:type=\"II\" root=\"1.2\"/>" refl refl refl refl refl)
-        (sample "<b root=\"1.2\" xsi:type=\"II\"/>" refl refl refl refl refl)
-        (sample "<a xsi:type=\"II\" root=\"1.2\" extension=\"x\"/>" refl refl refl refl refl)
-        (record { text = bytes "<a xsi:type=\"II\" nullFlavor=\"UNK\"/>"; element = nulled II; reads = refl; outside = (refl, refl); faultless = nulled-faultless shift .1; type = refl })
-        refl refl refl
-
-    given-code : (x : Answer) → Given CD x
-    unfolding opened
-    given-code =
-        given CD
-        (sample "<a xsi:type=\"CD\" code=\"x\" codeSystem=\"1.2\"/>" refl refl refl refl refl)
-        (sample "<a xsi:type=\"CD\" code=\"x\" codeSystem=\"1.2\" codeSystemName=\"n\"/>" refl refl refl refl refl)
-        (sample "<a xsi:type=\"CD\" code=\"y\" codeSystem=\"1.2\"/>" refl refl refl refl refl)
-        (sample "<a xsi:type=\"CD\" codeSystem=\"1.3\"/>" refl refl refl refl refl)
-        refl refl refl
-
-    given-name : (x : Answer) → Given EN x
-    unfolding opened
-    given-name =
-        given EN
-        (sample "<a xsi:type=\"EN\"><part value=\"x\"/><part value=\"y\"/></a>" refl refl refl refl refl)
-        (sample "<b xsi:type=\"EN\"><part value=\"x\"/><part value=\"y\"/></b>" refl refl refl refl refl)
-        (sample "<a xsi:type=\"EN\"><part value=\"y\"/><part value=\"x\"/></a>" refl refl refl refl refl)
-        (record { text = bytes "<a xsi:type=\"EN\" nullFlavor=\"UNK\"/>"; element = nulled EN; reads = refl; outside = (refl, refl); faultless = nulled-faultless shift .2; type = refl })
-        refl refl refl
-
-    each-given : (k : Kind) → List·Memᴰ k comparedTypes → (x : Answer) → Given k x
-    each-given k (List·Memᴰ·head h) = rw h given-time
-    each-given k (List·Memᴰ·tail (List·Memᴰ·head h)) = rw h given-interval
-    each-given k (List·Memᴰ·tail (List·Memᴰ·tail (List·Memᴰ·head h))) = rw h given-money
-    each-given k (List·Memᴰ·tail (List·Memᴰ·tail (List·Memᴰ·tail (List·Memᴰ·head h)))) = rw h given-identifier
-    each-given k (List·Memᴰ·tail (List·Memᴰ·tail (List·Memᴰ·tail (List·Memᴰ·tail (List·Memᴰ·head h))))) = rw h given-code
-    each-given k (List·Memᴰ·tail (List·Memᴰ·tail (List·Memᴰ·tail (List·Memᴰ·tail (List·Memᴰ·tail (List·Memᴰ·head h)))))) = rw h given-name
 
   -- what an answer given says
   yes-outcome : (k : Kind) (a b : List ℕ) (e f : Element) → IsOf offset k a e → IsOf offset k b f → Says Yes (compareAnswer offset a b) → outcome shift e f (comparerFor e f) ≡ compared Yes
   yes-outcome k a b e f h i y =
       let (x, d, n) = outcome-answer shift k e f (h .type) (i .type) in
-      let s : Says x (compareAnswer offset a b) = rw (comparison-of a b (h .accepted) (i .accepted), d) (says x) in
+      let s : Says x (compareAnswer offset a b) = rw (comparison-of offset a b (h .accepted) (i .accepted), d) (says x) in
       d ∙ ap compared (says-one x Yes s y)
 
   pub comparison-promise : ComparisonPromise offset (compareAnswer offset)
   comparison-promise = record {
-    first-refused = λ a b r e. rw (comparison-of a b e refl) (names-first r);
-    second-refused = λ a b e r h i. rw (comparison-of a b h i) (names-second r);
-    type-refused = λ a b e f h i u. rw (comparison-of a b h i, outcome-type shift e f (λ k t v. u k (record { accepted = h; type = t }) (record { accepted = i; type = v }))) (names-second TYPE);
+    first-refused = λ a b r e. rw (comparison-of offset a b e refl) (names-first r);
+    second-refused = λ a b e r h i. rw (comparison-of offset a b h i) (names-second r);
+    type-refused = λ a b e f h i u. rw (comparison-of offset a b h i, outcome-type shift e f (λ k t v. u k (record { accepted = h; type = t }) (record { accepted = i; type = v }))) (names-second TYPE);
     answer = λ k a b e f h i. let (x, d, n) = outcome-answer shift k e f (h .type) (i .type) in
-        (x, rw (comparison-of a b (h .accepted) (i .accepted), d) (says x));
+        (x, rw (comparison-of offset a b (h .accepted) (i .accepted), d) (says x));
     null-unknown = λ k a b e f h i n. let (x, d, u) = outcome-answer shift k e f (h .type) (i .type) in
-        rw (comparison-of a b (h .accepted) (i .accepted), d, u n) (says Unknown);
-    symmetric = λ a b e f h i. comparison-of a b h i ∙ ap comparedNumber (outcome-sym shift e f) ∙ sym (comparison-of b a i h);
-    itself = λ k a e h. rw (comparison-of a a (h .accepted) (h .accepted), outcome-itself shift k e (h .type) (check-faultless offset a (h .accepted))) (says _);
+        rw (comparison-of offset a b (h .accepted) (i .accepted), d, u n) (says Unknown);
+    symmetric = λ a b e f h i. comparison-of offset a b h i ∙ ap comparedNumber (outcome-sym shift e f) ∙ sym (comparison-of offset b a i h);
+    itself = λ k a e h. rw (comparison-of offset a a (h .accepted) (h .accepted), outcome-itself shift k e (h .type) (check-faultless offset a (h .accepted))) (says _);
     yes-complete = λ k a b e f h i y. let z = yes-outcome k a b e f h i y in
         (outcome-yes shift e f z, outcome-yes shift f e (sym (outcome-sym shift e f) ∙ z));
-    each-given = each-given;
+    each-given = each-given offset;
   }

@@ -18,11 +18,13 @@ pub mod Unique
 pub mod Changes
 pub mod Drawing
 pub mod Counting
+pub mod Children
 pub mod CheckRefusals
 pub mod Members
 pub mod ListingCases
 pub mod Fitting
 pub mod Meaning
 pub mod ListingPromise
+pub mod ComparedRecords
 pub mod Comparing
 pub mod ComparisonPromise

@@ -14,11 +14,12 @@ use Rattle.rules.specs.Refusal.{Refusal, SHAPE, RULE, UNKNOWN-BOUND, Out
 use Rattle.rules.specs.Markup.{Attribute, Nodes, end, node, Element, lookup}
 use Rattle.rules.specs.Invariants.{isNull, low, high, Endpoint, valued, infinite, unknown, endpointOf}
 use Rattle.rules.specs.Types.{Kind, TS, IVL-TS, QSU-TS, QSI-TS, QSD-TS, nameOf, memberTypes, allTypes, hasType, typeAmong, ChildKind, always, typed, Child, lineOf}
-use Rattle.rules.specs.Judge.{Standing, top, member, inside, attributeFaults, breaksNull, elementFaults, kindOf, standingOf, nextChild, childFaults, topFaults}
+use Rattle.rules.specs.Judge.{Standing, top, member, inside, attributeFaults, breaksNull, elementFaults, nextChild, childFaults, topFaults}
 use Rattle.rules.specs.Sets.{_upto_, Op, union, intersection, difference, Expression, interval, combine, intervals}
 use Rattle.rules.specs.Listing.{boundRead, operationOf, setFrom, membersOf, joined, setOf, intervalCount, intervalsWritten}
 use Rattle.rules.specs.ListingPromise.{isUnknown, isUnclear, hasUnclear, isClear, isListed}
 use Rattle.rules.proofs.Tests.{clash, same-true}
+use Rattle.rules.proofs.Children.{faultsAs, each-child}
 
 -- every child of a list has this kind
 abbrev AllOf : ChildKind → List Child → Type 0
@@ -34,16 +35,11 @@ found-kind {k} p (d ∷ cs) c h e = go (p d) e (found-kind p cs c (h .1))
     go true e below = let z : d ≡ c = cc in rw z at (h .0)
     go false e below = below e
 
--- the faults of a child that has a kind
-abbrev faultsAs : (shift : ℕ) → List Attribute → Nodes → ChildKind → List Refusal
-faultsAs shift attrs kids ck = elementFaults shift (standingOf ck) (kindOf ck attrs) attrs kids (λ j. childFaults shift j (isNull attrs) 0 kids)
-
 module _ (shift : ℕ) (k : Kind) (ck : ChildKind) (all : AllOf ck (lineOf k .children)) (null : Bool) where
   -- the first of children without fault is of this kind, and neither it nor those after it have faults
   first-faultless : (stage : ℕ) (n : List ℕ) (attrs : List Attribute) (kids rest : Nodes) → childFaults shift k null stage (node n attrs kids rest) ≡ []
       → (faultsAs shift attrs kids ck ≡ []) × ((later : ℕ) × (childFaults shift k null later rest ≡ []))
-  unfolding childFaults
-  first-faultless stage n attrs kids rest e = go (nextChild k stage n) refl e
+  first-faultless stage n attrs kids rest e = go (nextChild k stage n) refl (sym (each-child shift k null stage n attrs kids rest) ∙ e)
     where
       go : (o : Option Child) → nextChild k stage n ≡ o
           → ifSome o (λ c. faultsAs shift attrs kids (c .kind)) (SHAPE ∷ []) ++ childFaults shift k null (ifSome o (λ c. c .to) stage) rest ≡ []

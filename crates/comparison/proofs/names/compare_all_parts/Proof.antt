@@ -86,7 +86,7 @@ loop-less c = let a = step-bounds (c .before .before .before .before .before .be
 
 -- src/names.rt:54:5
 loop-again : tie.Need-loop-again Inv-loop μ-loop
-loop-again c = (step-bounds (c .before .before .before .before .before .before .first .given .1) (c .before .before .before .before .before .before .before .before .before .next-element .ensures .0) .2, step-bounds (c .before .before .before .second .given .1) (c .before .before .before .before .before .before .before .before .next-element2 .ensures .0) .2, λ r h. told-more (answerMeant (c .before .before .before .before .before .before .before .before .before .before .loop .answer)) (answerMeant (c .before .compare-parts .result)) r (c .also2 .ensures) (c .before .before .before .before .before .before .before .before .before .before .loop .inv .2 _ (parts-more (c .before .before .before .before .before .before .before .before .before .next-element .ensures .1) (c .before .before .before .before .before .before .before .before .next-element2 .ensures .1) (c .before .before .before .before .before .before .first .given .1) (c .before .before .before .second .given .1) (λ v w g k. c .before .compare-parts .ensures _ _ v w g k) r h)))
+loop-again c = (step-bounds (c .before .before .before .before .before .before .first .given .1) (c .before .before .before .before .before .before .before .before .before .next-element .ensures .0) .2, omega (arith, step-bounds (c .before .before .before .second .given .1) (c .before .before .before .before .before .before .before .before .next-element2 .ensures .0) .2), λ r h. told-more (answerMeant (c .before .before .before .before .before .before .before .before .before .before .loop .answer)) (answerMeant (c .before .compare-parts .result)) r (c .also2 .ensures) (c .before .before .before .before .before .before .before .before .before .before .loop .inv .2 _ (parts-more (c .before .before .before .before .before .before .before .before .before .next-element .ensures .1) (c .before .before .before .before .before .before .before .before .next-element2 .ensures .1) (c .before .before .before .before .before .before .first .given .1) (c .before .before .before .second .given .1) (λ v w g k. c .before .compare-parts .ensures _ _ v w g k) r h)))
 
 pub compare-all-parts-spec : {M : Type 1} → statement M
 compare-all-parts-spec =

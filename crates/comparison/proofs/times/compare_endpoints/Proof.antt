@@ -7,35 +7,35 @@ use Rattle.comparison.proofs.times.compare_endpoints.Lts as lts
 use Rattle.comparison.proofs.times.compare_infinite.Reads as compare-infinite-reads
 use Rattle.comparison.proofs.times.compare_valued.Reads as compare-valued-reads
 
--- src/times.rt:60:26
+-- src/times.rt:63:26
 enum-known-a : tie.Need-enum-known-a
 enum-known-a c = search needs
 
--- src/times.rt:60:32
+-- src/times.rt:63:32
 compare-valued-requires : tie.Need-compare-valued-requires
 compare-valued-requires c κs = search needs
 
--- src/times.rt:61:31
+-- src/times.rt:64:31
 enum-told : tie.Need-enum-told
 enum-told c = search needs
 
--- src/times.rt:61:31
+-- src/times.rt:64:31
 compare-infinite-requires : tie.Need-compare-infinite-requires
 compare-infinite-requires c κs = search needs
 
--- src/times.rt:62:30
+-- src/times.rt:65:30
 enum-told-2 : tie.Need-enum-told-2
 enum-told-2 c = search needs
 
--- src/times.rt:56:1
+-- src/times.rt:59:1
 returns : tie.Need-returns
 returns c = rw (c .before .before .a .given .1) (c .compare-valued .ensures)
 
--- src/times.rt:56:1
+-- src/times.rt:59:1
 returns-2 : tie.Need-returns-2
-returns-2 c = rw (c .before .enum-told .given .1) (c .compare-infinite .ensures _)
+returns-2 c = search needs
 
--- src/times.rt:56:1
+-- src/times.rt:59:1
 returns-3 : tie.Need-returns-3
 returns-3 c = search needs
 

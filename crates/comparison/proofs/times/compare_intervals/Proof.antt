@@ -1,4 +1,6 @@
 -- `comparison::times::compare_intervals` meets its contract.
+use mathlib.Core.Path.{_∙_}
+use Rattle.comparison.proofs.Answers.{both-answers}
 use borrow.Author.Needs.{needs}
 use Rattle.comparison.proofs.times.compare_intervals.Statement.{statement}
 use Rattle.comparison.proofs.times.compare_intervals.Tie as tie
@@ -21,7 +23,7 @@ also-requires c κs = search needs
 
 -- src/times.rt:101:1
 returns : tie.Need-returns
-returns c = λ v w g h. rw (c .also .ensures, c .before .before .compare-sides .ensures v w g h, c .before .compare-sides2 .ensures v w g h)
+returns c = λ v w g h. c .also .ensures ∙ both-answers (c .before .before .compare-sides .ensures v w g h) (c .before .compare-sides2 .ensures v w g h)
 
 pub compare-intervals-spec : {M : Type 1} → statement M
 compare-intervals-spec =

@@ -7,19 +7,19 @@ use Rattle.comparison.proofs.times.compare_times.Lts as lts
 use Rattle.comparison.proofs.times.compare_endpoints.Reads as compare-endpoints-reads
 use Rattle.datatype.proofs.bounds.valued.Reads as valued-reads
 
--- src/times.rt:71:9
+-- src/times.rt:93:9
 valued-requires : tie.Need-valued-requires
 valued-requires c κs = search needs
 
--- src/times.rt:72:9
+-- src/times.rt:94:9
 valued-requires-2 : tie.Need-valued-requires-2
 valued-requires-2 c κs = search needs
 
--- src/times.rt:73:5
+-- src/times.rt:95:5
 compare-endpoints-requires : tie.Need-compare-endpoints-requires
 compare-endpoints-requires c κs = search needs
 
--- src/times.rt:67:1
+-- src/times.rt:89:1
 returns : tie.Need-returns
 returns c = λ d e v w g h. rw (c .compare-endpoints .ensures, c .before .before .valued .ensures d v g, c .before .valued2 .ensures e w h)
 
