@@ -76,10 +76,14 @@ pub fn children(s: &[u8], at: usize) -> Read
     ensures tells { λ r. ⌜ ((d : ℕ) (v : Element) → ElementAt (now (s .entry)) at d v → KidsAt (now (s .entry)) (d - 1) (v .kids) r) ⌝ }
 {
     let head = read_head(s, at);
-    let Head::Named { name: _, name_end } = head else {
+    let Head::Named {
+        name: _,
+        name_end: from,
+    } = head
+    else {
         return Read::Bad;
     };
-    let i = find_closing(s, name_end);
+    let i = find_closing(s, from);
     read_byte(s, i, b'>')
 }
 
