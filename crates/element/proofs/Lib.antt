@@ -2,3 +2,4 @@ pub mod Within
 pub mod Siblings
 pub mod Turns
 pub mod Decoded
+pub mod Ends

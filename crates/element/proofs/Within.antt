@@ -3,23 +3,24 @@ use Prim.Native.Nat.{ℕ, zero, suc, _+_, _-_, _≤_, _<_}
 use mathlib.Core.Path.{_≡_, refl, sym, _∙_, ap, subst}
 use mathlib.Core.Bool.{Bool, true, false}
 use mathlib.Core.List.{List}
+use mathlib.Core.Logic.{inl, inr}
 use mathlib.Core.Option.{some}
 use native.Mathlib.Omega.{arith}
 use lib.ListN.{length, take, drop, length-drop}
 use Rattle.rules.specs.Basics.{bytes}
-use Rattle.rules.specs.Parsers.{Parsed, bad, ok, pure, guard, _>>=_, _>>_, literal, sized}
+use Rattle.rules.specs.Parsers.{Parsed, bad, ok, pure, guard, _>>=_, _>>_, one, byte, literal, sized}
 use Rattle.rules.specs.Markup.{Attribute, space, tagAttributes, attributes, isDistinct, Nodes, end, Element, endTag, body, element, content, document}
-use Rattle.rules.proofs.Parsers.{next-ok, map-ok, whole-ok}
+use Rattle.rules.proofs.Parsers.{next-ok, map-ok, else-ok, byte-ok, whole-ok}
 use Rattle.rules.proofs.Tests.{clash}
-use Rattle.text.specs.Reads.{Good}
+use Rattle.text.specs.Reads.{Good, Reads, upto, none}
 use Rattle.text.specs.declared.Read.{Read}
 use Rattle.text.specs.declared.Read.the-variants.{At, Bad}
-use Rattle.text.proofs.Reading.{none-of}
 use Rattle.markup.specs.Attributes.{AttributesAt}
-use Rattle.markup.specs.Tags.{HeadTo, TagAt, empty-tag, open-tag, no-tag}
-use Rattle.markup.specs.declared.tag.Tag.the-variants.{Empty, Open, Bad as Tag·Bad}
+use Rattle.markup.specs.Tags.{HeadTo}
 use Rattle.markup.proofs.Names.{name-is}
-use Rattle.element.specs.Places.{ElementAt, KidsAt, no-kids, kids, ReadsOn, moves}
+use Rattle.element.specs.Ends.{closingIn, ClosingAt}
+use Rattle.element.specs.Places.{ElementAt, NodesAt, KidsAt, no-kids, kids, ReadsOn, stops, moves}
+use Rattle.element.proofs.Ends.{tag-passed, space-passed, body-closes}
 
 abbrev made : (name : List ℕ) (attrs : List Attribute) (kids : Nodes) → Element
 made n l k = record { name = n; attrs = l; kids = k }
@@ -90,45 +91,46 @@ attributes-within {s} {m = m} {v = v} h e =
     passed true l t r = cc
     passed false l t r = clash (cc)
 
--- its children
-module _ {s : List ℕ} {at depth : ℕ} {v : Element} where
-  closed : {n m i : ℕ} (h : HeadTo s at n m) (stop : ℕ) → Good 0 tagAttributes s m stop → Good 0 space s stop i → (e : ElementAt s at depth v)
-      → body (v .name) (content (within h e .fuel) (within h e .inner)) (drop i s) ≡ ok (v .kids) (within h e .after)
-  closed {n} {m} {i} h stop a g e =
-      let w = within h e in
-      let x : drop stop s ≡ w .left = left-is (sym (a .reads) ∙ w .attrs) in
-      let y : drop i s ≡ w .still = left-is (sym (g .reads) ∙ ap space x ∙ w .gap) in
-      rw y (w .closes)
-    where
-      left-is : {A : Type 0} {a b : A} {x y : List ℕ} → _≡_ {A = Parsed A} (ok a x) (ok b y) → x ≡ y
-      left-is q = cc
+not-empty : {s : List ℕ} {i e : ℕ} → Good 1 (byte 62) s i e → literal (bytes "/>") (drop i s) ≡ bad
+unfolding literal one
+not-empty {s} {i} g = rw (byte-ok 62 (drop i s) (g .reads))
 
-  pub kids-empty : {n m e : ℕ} → TagAt s at (Empty n m e) → ElementAt s at depth v → KidsAt s (depth - 1) (v .kids) Bad
-  kids-empty (empty-tag n m i e t g) x =
-      let q = rw (g .reads) at (closed (t .begins) (t .stop) (t .attrs) (t .gap) x) in
-      let z : end ≡ v .kids = cc in
-      subst (λ (k : Nodes). KidsAt s (depth - 1) k Bad) z no-kids
+-- its children, once it is known where its tag closes
+module _ {s : List ℕ} {at n m i depth : ℕ} {v : Element} (h : HeadTo s at n m) (c : ClosingAt s m i) where
+  closed : (x : ElementAt s at depth v) → body (v .name) (content (within h x .fuel) (within h x .inner)) (drop i s) ≡ ok (v .kids) (within h x .after)
+  closed x =
+      let w = within h x in
+      let y : closingIn false (w .still) ≡ w .still = body-closes (v .name) (content (w .fuel) (w .inner)) (w .still) (w .closes) in
+      rw (c .is ∙ sym (tag-passed (drop m s) (w .attrs)) ∙ sym (space-passed (w .left) (w .gap)) ∙ y) (w .closes)
 
-  pub kids-open : {n m e : ℕ} → TagAt s at (Open n m e) → ElementAt s at depth v → KidsAt s (depth - 1) (v .kids) (At e)
-  kids-open (open-tag n m i e t b g) x =
-      let w = within (t .begins) x in
-      let q = rw (none-of (literal (bytes "/>")) b, g .reads) at (closed (t .begins) (t .stop) (t .attrs) (t .gap) x) in
+  empty : byte 62 (drop i s) ≡ bad → ElementAt s at depth v → end ≡ v .kids
+  empty b x = elim (else-ok ((literal (bytes "/>") >> pure end) (drop i s)) _ (closed x)) [
+    | inl q ↦ map-ok (literal (bytes "/>") (drop i s)) (λ u. end) q .2
+    | inr q ↦ let z = rw b at q in clash (cc)
+  ]
+
+  full : {e : ℕ} → Good 1 (byte 62) s i e → ElementAt s at depth v → NodesAt s e (depth - 1) (v .kids)
+  full {e} g x =
+      let w = within h x in
+      let q = rw (not-empty g, g .reads) at (closed x) in
       let d : w .inner ≡ depth - 1 = omega (arith, w .deep) in
       next-ok (content (w .fuel) (w .inner) (drop e s)) (λ k. endTag (v .name) >> pure k) q (λ k u y q₁.
-      next-ok (endTag (v .name) u) (λ c. pure k) q₁ (λ c u₁ y₁ q₂.
+      next-ok (endTag (v .name) u) (λ c. pure k) q₁ (λ c₁ u₁ y₁ q₂.
       let z : k ≡ v .kids = cc in
-      kids e (v .kids) (record {
+      record {
         fuel = w .fuel;
-        enough = omega (arith, w .enough, t .begins .less .low, t .begins .named .low, t .attrs .low, t .gap .low, g .low);
+        enough = omega (arith, w .enough, h .less .low, h .named .low, c .low, g .low);
         after = u;
         reads = subst (λ (p : ℕ). content (w .fuel) p (drop e s) ≡ ok (v .kids) u) d (y ∙ ap (λ (p : Nodes). ok p u) z);
-      })))
+      }))
 
-  pub kids-never : TagAt s at Tag·Bad → ElementAt s at depth v → KidsAt s (depth - 1) (v .kids) Bad
-  kids-never (no-tag b) x = never b x
+  pub kids-at : {r : Read} → Reads 1 (byte 62) s i r → ElementAt s at depth v → KidsAt s (depth - 1) (v .kids) r
+  kids-at (upto e g) x = kids e (v .kids) (full g x)
+  kids-at (none b) x = subst (λ (k : Nodes). KidsAt s (depth - 1) k Bad) (empty b x) no-kids
 
-pub kids-on : {s : List ℕ} {at n m e : ℕ} → TagAt s at (Open n m e) → ReadsOn s at (At e)
-kids-on (open-tag n m i e t b g) = moves e (omega (arith, t .begins .less .low, t .begins .named .low, t .attrs .low, t .gap .low, g .low)) (g .high)
+pub kids-on : {s : List ℕ} {at n m i : ℕ} {r : Read} → HeadTo s at n m → ClosingAt s m i → Reads 1 (byte 62) s i r → ReadsOn s at r
+kids-on h c (upto e g) = moves e (omega (arith, h .less .low, h .named .low, c .low, g .low)) (g .high)
+kids-on h c (none b) = stops
 
 -- the root of a document
 pub root-at : {s : List ℕ} {i : ℕ} → Good 0 space s 0 i → (v : Element) → document s ≡ some v → ElementAt s i 8 v

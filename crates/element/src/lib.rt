@@ -10,15 +10,16 @@ ghost use Rattle.markup.specs.Attributes.{AttributesAt, Finds};
 ghost use Rattle.element.specs.Places.{ElementAt, NodesAt, FoundOn, ReadsOn, KidsAt, StepsOn, Steps};
 
 pub mod attribute;
+mod closing;
 pub mod value;
 
+use closing::find_closing;
+use markup::scan::read_byte;
 use markup::scan::skip_space;
 use markup::tag::Found;
 use markup::tag::Head;
-use markup::tag::Tag;
 use markup::tag::find_attribute;
 use markup::tag::read_head;
-use markup::tag::read_tag;
 use text::Read;
 
 // Where the one element of a document stands.
@@ -74,20 +75,16 @@ pub fn children(s: &[u8], at: usize) -> Read
     ensures on { λ r. ⌜ ReadsOn (now (s .entry)) at r ⌝ }
     ensures tells { λ r. ⌜ ((d : ℕ) (v : Element) → ElementAt (now (s .entry)) at d v → KidsAt (now (s .entry)) (d - 1) (v .kids) r) ⌝ }
 {
-    let tag = read_tag(s, at);
-    match tag {
-        Tag::Empty {
-            name: _,
-            name_end: _,
-            end: _,
-        } => Read::Bad,
-        Tag::Open {
-            name: _,
-            name_end: _,
-            end,
-        } => Read::At(end),
-        Tag::Bad => Read::Bad,
-    }
+    let head = read_head(s, at);
+    let Head::Named {
+        name: _,
+        name_end: from,
+    } = head
+    else {
+        return Read::Bad;
+    };
+    let i = find_closing(s, from);
+    read_byte(s, i, b'>')
 }
 
 // The first of elements side by side: where it stands, and where the others stand; or that there is none.

@@ -1,3 +1,4 @@
 pub mod AttributeFaults
 pub mod ElementFaults
 pub mod Inputs
+pub mod Sides

@@ -1,11 +1,11 @@
 // The invariants of each kind, whose breach is RULE.
 ghost use mathlib.Core.Path.{_≡_};
-ghost use mathlib.Core.Bool.{_||_};
+ghost use mathlib.Core.Bool.{_&&_};
 ghost use Prim.Native.Nat.{ℕ, _≤_};
 ghost use lib.ListN.{length};
 ghost use Rattle.rules.specs.Basics.{bytes, exactlyOne, exists, same, words};
 ghost use Rattle.rules.specs.Markup.{Element};
-ghost use Rattle.rules.specs.Invariants.{hasSuch, valued, breaksTime, breaksFlag, isWrong, isCrossed, breaksInterval, breaksMoney, breaksIdentifier, breaksCode, breaksPart};
+ghost use Rattle.rules.specs.Invariants.{hasSuch, hasQualifier, valued, endpointOf, breaksTime, breaksFlag, isWrong, isCrossed, breaksSide, breaksInterval, breaksMoney, breaksIdentifier, breaksCode, breaksPart};
 ghost use Rattle.rules.specs.Types.{lineOf};
 ghost use Rattle.timestamp.specs.Moments.{momentOf};
 ghost use Rattle.element.specs.Places.{ElementAt};
@@ -65,12 +65,16 @@ fn has_wrong(s: &[u8], at: usize, depth: usize, side: Side) -> bool
     bounds::is_wrong(s, i, side)
 }
 
-// A side of IVL_TS, by what it says.
+// A side of IVL_TS, by what it says. A valued bound has no flavor, so that its child is not asked again.
 fn breaks_side(s: &[u8], at: usize, depth: usize, side: Side, endpoint: Endpoint) -> bool
     requires { ⌜ at ≤ length (now s) ⌝ ∗ ⌜ 1 ≤ depth ⌝ }
-    ensures { λ r. ⌜ ((v : Element) → ElementAt (now (s .entry)) at depth v → r ≡ (breaksFlag (sideMeant side) (v .attrs) (endpointMeant endpoint) || isWrong (sideMeant side) (v .kids))) ⌝ }
+    ensures { λ r. ⌜ ((shift : ℕ) (v : Element) → ElementAt (now (s .entry)) at depth v → endpointMeant endpoint ≡ endpointOf shift (sideMeant side) (v .kids) → r ≡ breaksSide (sideMeant side) shift (v .attrs) (v .kids)) ⌝ }
 {
-    breaks_flag(s, at, side, endpoint) | has_wrong(s, at, depth, side)
+    let flag = breaks_flag(s, at, side, endpoint);
+    if let Endpoint::Valued(_) = endpoint {
+        return flag;
+    }
+    flag | has_wrong(s, at, depth, side)
 }
 
 // Low's tick, of a valued low, is after high's.
@@ -154,6 +158,17 @@ fn has_qualifier(s: &[u8], at: usize, qualifier: &[u8]) -> bool
     form::name::has_word(s, q, qualifier)
 }
 
+// Whether the part at a position has both PFX and SFX.
+fn has_both_ends(s: &[u8], at: usize) -> bool
+    requires { ⌜ at ≤ length (now s) ⌝ }
+    ensures { λ r. ⌜ ((d : ℕ) (v : Element) → ElementAt (now (s .entry)) at d v → r ≡ (hasQualifier "PFX" (v .attrs) && hasQualifier "SFX" (v .attrs))) ⌝ }
+{
+    if has_qualifier(s, at, b"PFX") {
+        return has_qualifier(s, at, b"SFX");
+    }
+    false
+}
+
 // A part of EN, non-null: no value or an empty one, or both PFX and SFX.
 fn breaks_part(s: &[u8], at: usize) -> bool
     requires { ⌜ at ≤ length (now s) ⌝ }
@@ -161,9 +176,7 @@ fn breaks_part(s: &[u8], at: usize) -> bool
 {
     let null = is_null(s, at);
     let value = has_some_text(s, at, b"value");
-    let prefix = has_qualifier(s, at, b"PFX");
-    let suffix = has_qualifier(s, at, b"SFX");
-    !null & (!value | (prefix & suffix))
+    !null & (!value | has_both_ends(s, at))
 }
 
 // Whether the element at a position, of a kind, breaks the invariants of that kind.

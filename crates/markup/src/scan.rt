@@ -1,7 +1,9 @@
 // White space, names and fixed bytes at a position of a text.
 ghost use mathlib.Core.Path.{_≡_};
+ghost use mathlib.Core.Bool.{_||_};
 ghost use Prim.Native.Nat.{_≤_};
 ghost use lib.ListN.{length};
+ghost use Rattle.rules.specs.Basics.{isFrom};
 ghost use Rattle.rules.specs.Parsers.{many, byte, literal};
 ghost use Rattle.rules.specs.Markup.{isSpace, space, someSpace, isNameStart, isNameByte, name};
 ghost use Rattle.text.specs.Reads.{Good, Reads};
@@ -38,18 +40,28 @@ pub fn read_some_space(s: &[u8], at: usize) -> Read
     if at < end { Read::At(end) } else { Read::Bad }
 }
 
+// Whether a byte is an ASCII letter.
+fn is_letter(c: u8) -> bool
+    ensures { λ r. ⌜ r ≡ (isFrom 65 90 c || isFrom 97 122 c) ⌝ }
+{
+    ((b'A' <= c) & (c <= b'Z')) | ((b'a' <= c) & (c <= b'z'))
+}
+
 // Whether a name may begin with a byte.
 fn is_name_start(c: u8) -> bool
     ensures { λ r. ⌜ r ≡ isNameStart c ⌝ }
 {
-    ((b'A' <= c) & (c <= b'Z')) | ((b'a' <= c) & (c <= b'z')) | (c == b'_')
+    is_letter(c) | (c == b'_')
 }
 
-// Whether a name may go on with a byte.
+// Whether a name may go on with a byte. Most are letters, so that is asked first.
 fn is_name_byte(c: u8) -> bool
     ensures { λ r. ⌜ r ≡ isNameByte c ⌝ }
 {
-    is_name_start(c) | ((b'0' <= c) & (c <= b'9')) | (c == b'.') | (c == b'-') | (c == b':')
+    if is_letter(c) {
+        return true;
+    }
+    (c == b'_') | ((b'0' <= c) & (c <= b'9')) | (c == b'.') | (c == b'-') | (c == b':')
 }
 
 // The end of the bytes, if any, at a position with which a name may go on.
