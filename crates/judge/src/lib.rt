@@ -6,6 +6,7 @@ ghost use lib.ListN.{length};
 ghost use Rattle.rules.specs.Basics.{ifSome};
 ghost use Rattle.rules.specs.Refusal.{firstOf, _when_};
 ghost use Rattle.rules.specs.Markup.{Element, end as noNodes, document};
+ghost use Rattle.rules.specs.Invariants.{isNull};
 ghost use Rattle.rules.specs.Types.{memberTypes, typeAmong};
 ghost use Rattle.rules.specs.Judge.{member, breaksNull, childFaults, topFaults};
 ghost use Rattle.refusal.specs.Meaning.{refusalOf, faultOf};
@@ -51,34 +52,35 @@ fn refused_if(refusal: Refusal, so: bool) -> Verdict
     Verdict::Accepted
 }
 
-// Whether the element at a position is null, and has another attribute of its line or a child.
-fn breaks_null(s: &[u8], at: usize, depth: usize, kind: Kind) -> bool
+// Whether the element at a position is null, which the caller knows, and has another attribute of its line or a child.
+fn breaks_null(s: &[u8], at: usize, depth: usize, kind: Kind, null: bool) -> bool
     requires { ⌜ at ≤ length (now s) ⌝ ∗ ⌜ 1 ≤ depth ⌝ }
-    ensures { λ r. ⌜ ((v : Element) → ElementAt (now (s .entry)) at depth v → r ≡ breaksNull (kindMeant kind) (v .attrs) (v .kids)) ⌝ }
+    ensures { λ r. ⌜ ((v : Element) → ElementAt (now (s .entry)) at depth v → null ≡ isNull (v .attrs) → r ≡ breaksNull (kindMeant kind) (v .attrs) (v .kids)) ⌝ }
 {
-    if is_null(s, at) {
+    if null {
         let i = element::attributes(s, at);
         return has_own(s, i, kind) | has_children(s, at, depth);
     }
     false
 }
 
-// The first fault of the element at a position, of a kind, but for those of its children.
+// The first fault of the element at a position, of a kind and null or not, but for those of its children.
 fn own_fault(
     s: &[u8],
     at: usize,
     depth: usize,
     kind: Kind,
     standing: Standing,
+    null: bool,
     shift: u64,
 ) -> Verdict
     requires { ⌜ at ≤ length (now s) ⌝ ∗ ⌜ 1 ≤ depth ⌝ ∗ ⌜ shift ≤ 1680 ⌝ }
-    ensures { λ r. ⌜ ((v : Element) → ElementAt (now (s .entry)) at depth v → faultOf r ≡ firstOf (ownFaults shift (standingMeant standing) (kindMeant kind) v)) ⌝ }
+    ensures { λ r. ⌜ ((v : Element) → ElementAt (now (s .entry)) at depth v → null ≡ isNull (v .attrs) → faultOf r ≡ firstOf (ownFaults shift (standingMeant standing) (kindMeant kind) v)) ⌝ }
 {
     let i = element::attributes(s, at);
     let carried = attributes_fault(s, i, kind, standing, shift);
     let missing = refused_if(Refusal::Shape, lacks(s, at, kind));
-    let broken = breaks(s, at, depth, kind, shift) | breaks_null(s, at, depth, kind);
+    let broken = breaks(s, at, depth, kind, shift) | breaks_null(s, at, depth, kind, null);
     first(carried, first(missing, refused_if(Refusal::Rule, broken)))
 }
 
@@ -115,8 +117,8 @@ fn element_fault(
     if depth == 0 {
         return Verdict::Accepted;
     }
-    let own = own_fault(s, at, depth, kind, standing, shift);
     let null = is_null(s, at);
+    let own = own_fault(s, at, depth, kind, standing, null, shift);
     let content = children(s, at);
     let Read::At(i) = content else {
         return first(own, end_fault(kind, null, 0));

@@ -170,10 +170,10 @@ child-fault-returns-3 t c = λ v h. rw (c .enum-told2 .given .1)
 
 -- src/lib.rt:102:9
 element-fault-returns : (t : ℕ) → element-fault-lts.Need-returns (
-  own-fault-reads.Asked,
-  own-fault-reads.Learnt,
   is-null-reads.Asked,
   is-null-reads.Learnt,
+  own-fault-reads.Asked,
+  own-fault-reads.Learnt,
   children-reads.Asked,
   children-reads.Learnt,
   end-fault-reads.Asked,
@@ -187,10 +187,10 @@ element-fault-returns t c = λ v h. too-deep (subst (λ (d : ℕ). ElementAt (c 
 
 -- src/lib.rt:104:9
 element-fault-own-fault-requires : (t : ℕ) → element-fault-lts.Need-own-fault-requires (
-  own-fault-reads.Asked,
-  own-fault-reads.Learnt,
   is-null-reads.Asked,
   is-null-reads.Learnt,
+  own-fault-reads.Asked,
+  own-fault-reads.Learnt,
   children-reads.Asked,
   children-reads.Learnt,
   end-fault-reads.Asked,
@@ -200,14 +200,14 @@ element-fault-own-fault-requires : (t : ℕ) → element-fault-lts.Need-own-faul
   row-fault-below t,
   row-fault.Post,
 ) (element-fault-at t) element-fault.Post
-element-fault-own-fault-requires t c κs = (c .before .before .pre .1 .0, (omega (arith, c .if1 .left), c .before .before .pre .1 .1))
+element-fault-own-fault-requires t c κs = (c .before .before .before .pre .1 .0, (omega (arith, c .before .if1 .left), c .before .before .before .pre .1 .1))
 
 -- src/lib.rt:105:9
 element-fault-is-null-requires : (t : ℕ) → element-fault-lts.Need-is-null-requires (
-  own-fault-reads.Asked,
-  own-fault-reads.Learnt,
   is-null-reads.Asked,
   is-null-reads.Learnt,
+  own-fault-reads.Asked,
+  own-fault-reads.Learnt,
   children-reads.Asked,
   children-reads.Learnt,
   end-fault-reads.Asked,
@@ -217,14 +217,14 @@ element-fault-is-null-requires : (t : ℕ) → element-fault-lts.Need-is-null-re
   row-fault-below t,
   row-fault.Post,
 ) (element-fault-at t) element-fault.Post
-element-fault-is-null-requires t c κs = c .before .before .before .pre .1 .0
+element-fault-is-null-requires t c κs = c .before .before .pre .1 .0
 
 -- src/lib.rt:106:9
 element-fault-children-requires : (t : ℕ) → element-fault-lts.Need-children-requires (
-  own-fault-reads.Asked,
-  own-fault-reads.Learnt,
   is-null-reads.Asked,
   is-null-reads.Learnt,
+  own-fault-reads.Asked,
+  own-fault-reads.Learnt,
   children-reads.Asked,
   children-reads.Learnt,
   end-fault-reads.Asked,
@@ -238,10 +238,10 @@ element-fault-children-requires t c κs = c .before .before .before .before .pre
 
 -- src/lib.rt:107:18
 element-fault-enum-known-content : (t : ℕ) → element-fault-lts.Need-enum-known-content (
-  own-fault-reads.Asked,
-  own-fault-reads.Learnt,
   is-null-reads.Asked,
   is-null-reads.Learnt,
+  own-fault-reads.Asked,
+  own-fault-reads.Learnt,
   children-reads.Asked,
   children-reads.Learnt,
   end-fault-reads.Asked,
@@ -255,10 +255,10 @@ element-fault-enum-known-content t c = search needs
 
 -- src/lib.rt:108:27
 element-fault-enum-told : (t : ℕ) → element-fault-lts.Need-enum-told (
-  own-fault-reads.Asked,
-  own-fault-reads.Learnt,
   is-null-reads.Asked,
   is-null-reads.Learnt,
+  own-fault-reads.Asked,
+  own-fault-reads.Learnt,
   children-reads.Asked,
   children-reads.Learnt,
   end-fault-reads.Asked,
@@ -272,10 +272,10 @@ element-fault-enum-told t c = search needs
 
 -- src/lib.rt:108:27
 element-fault-end-fault-requires : (t : ℕ) → element-fault-lts.Need-end-fault-requires (
-  own-fault-reads.Asked,
-  own-fault-reads.Learnt,
   is-null-reads.Asked,
   is-null-reads.Learnt,
+  own-fault-reads.Asked,
+  own-fault-reads.Learnt,
   children-reads.Asked,
   children-reads.Learnt,
   end-fault-reads.Asked,
@@ -289,10 +289,10 @@ element-fault-end-fault-requires t c κs = search needs
 
 -- src/lib.rt:108:9
 element-fault-first-requires : (t : ℕ) → element-fault-lts.Need-first-requires (
-  own-fault-reads.Asked,
-  own-fault-reads.Learnt,
   is-null-reads.Asked,
   is-null-reads.Learnt,
+  own-fault-reads.Asked,
+  own-fault-reads.Learnt,
   children-reads.Asked,
   children-reads.Learnt,
   end-fault-reads.Asked,
@@ -306,10 +306,10 @@ element-fault-first-requires t c κs = search needs
 
 -- src/lib.rt:108:9
 element-fault-returns-2 : (t : ℕ) → element-fault-lts.Need-returns-2 (
-  own-fault-reads.Asked,
-  own-fault-reads.Learnt,
   is-null-reads.Asked,
   is-null-reads.Learnt,
+  own-fault-reads.Asked,
+  own-fault-reads.Learnt,
   children-reads.Asked,
   children-reads.Learnt,
   end-fault-reads.Asked,
@@ -319,14 +319,14 @@ element-fault-returns-2 : (t : ℕ) → element-fault-lts.Need-returns-2 (
   row-fault-below t,
   row-fault.Post,
 ) (element-fault-at t) element-fault.Post
-element-fault-returns-2 t c = λ v h. rw (c .first .ensures) (own-and-children (c .before .before .before .before .before .before .before .before .before .args .shift) (standingMeant (c .before .before .before .before .before .before .before .before .before .args .standing)) (kindMeant (c .before .before .before .before .before .before .before .before .before .args .kind)) v (c .before .before .before .before .before .before .own-fault .ensures v h) (no-children (c .before .before .before .before .before .before .before .before .before .args .shift) (kindMeant (c .before .before .before .before .before .before .before .before .before .args .kind)) (c .before .before .before .before .before .is-null .ensures _ v h) (kids-none (c .before .before .enum-told .given .1) (c .before .before .before .before .children .ensures .1 _ v h)) (c .before .end-fault .ensures (c .before .before .before .before .before .before .before .before .before .args .shift))))
+element-fault-returns-2 t c = λ v h. rw (c .first .ensures) (own-and-children (c .before .before .before .before .before .before .before .before .before .args .shift) (standingMeant (c .before .before .before .before .before .before .before .before .before .args .standing)) (kindMeant (c .before .before .before .before .before .before .before .before .before .args .kind)) v (c .before .before .before .before .before .own-fault .ensures v h (c .before .before .before .before .before .before .is-null .ensures _ v h)) (no-children (c .before .before .before .before .before .before .before .before .before .args .shift) (kindMeant (c .before .before .before .before .before .before .before .before .before .args .kind)) (c .before .before .before .before .before .before .is-null .ensures _ v h) (kids-none (c .before .before .enum-told .given .1) (c .before .before .before .before .children .ensures .1 _ v h)) (c .before .end-fault .ensures (c .before .before .before .before .before .before .before .before .before .args .shift))))
 
 -- src/lib.rt:110:32
 element-fault-sub-row-fault : (t : ℕ) → element-fault-lts.Need-sub-row-fault (
-  own-fault-reads.Asked,
-  own-fault-reads.Learnt,
   is-null-reads.Asked,
   is-null-reads.Learnt,
+  own-fault-reads.Asked,
+  own-fault-reads.Learnt,
   children-reads.Asked,
   children-reads.Learnt,
   end-fault-reads.Asked,
@@ -340,10 +340,10 @@ element-fault-sub-row-fault t c = omega (arith, c .before .before .before .befor
 
 -- src/lib.rt:110:16
 element-fault-row-fault-requires : (t : ℕ) → element-fault-lts.Need-row-fault-requires (
-  own-fault-reads.Asked,
-  own-fault-reads.Learnt,
   is-null-reads.Asked,
   is-null-reads.Learnt,
+  own-fault-reads.Asked,
+  own-fault-reads.Learnt,
   children-reads.Asked,
   children-reads.Learnt,
   end-fault-reads.Asked,
@@ -357,10 +357,10 @@ element-fault-row-fault-requires t c κs = (omega (arith, c .before .before .bef
 
 -- src/lib.rt:110:5
 element-fault-first-requires-2 : (t : ℕ) → element-fault-lts.Need-first-requires-2 (
-  own-fault-reads.Asked,
-  own-fault-reads.Learnt,
   is-null-reads.Asked,
   is-null-reads.Learnt,
+  own-fault-reads.Asked,
+  own-fault-reads.Learnt,
   children-reads.Asked,
   children-reads.Learnt,
   end-fault-reads.Asked,
@@ -374,10 +374,10 @@ element-fault-first-requires-2 t c κs = search needs
 
 -- src/lib.rt:97:1
 element-fault-returns-3 : (t : ℕ) → element-fault-lts.Need-returns-3 (
-  own-fault-reads.Asked,
-  own-fault-reads.Learnt,
   is-null-reads.Asked,
   is-null-reads.Learnt,
+  own-fault-reads.Asked,
+  own-fault-reads.Learnt,
   children-reads.Asked,
   children-reads.Learnt,
   end-fault-reads.Asked,
@@ -387,7 +387,7 @@ element-fault-returns-3 : (t : ℕ) → element-fault-lts.Need-returns-3 (
   row-fault-below t,
   row-fault.Post,
 ) (element-fault-at t) element-fault.Post
-element-fault-returns-3 t c = λ v h. rw (c .first2 .ensures) (own-and-children (c .before .before .before .before .before .before .before .before .before .before .args .shift) (standingMeant (c .before .before .before .before .before .before .before .before .before .before .args .standing)) (kindMeant (c .before .before .before .before .before .before .before .before .before .before .args .kind)) v (c .before .before .before .before .before .before .before .own-fault .ensures v h) (some-children (c .before .before .before .before .before .before .before .before .before .before .args .shift) (kindMeant (c .before .before .before .before .before .before .before .before .before .before .args .kind)) (c .before .before .before .before .before .before .is-null .ensures _ v h) (v .kids) (c .before .row-fault .ensures (v .kids) (kids-some (c .before .before .before .content .given .1) (c .before .before .before .before .before .children .ensures .1 _ v h)))))
+element-fault-returns-3 t c = λ v h. rw (c .first2 .ensures) (own-and-children (c .before .before .before .before .before .before .before .before .before .before .args .shift) (standingMeant (c .before .before .before .before .before .before .before .before .before .before .args .standing)) (kindMeant (c .before .before .before .before .before .before .before .before .before .before .args .kind)) v (c .before .before .before .before .before .before .own-fault .ensures v h (c .before .before .before .before .before .before .before .is-null .ensures _ v h)) (some-children (c .before .before .before .before .before .before .before .before .before .before .args .shift) (kindMeant (c .before .before .before .before .before .before .before .before .before .before .args .kind)) (c .before .before .before .before .before .before .before .is-null .ensures _ v h) (v .kids) (c .before .row-fault .ensures (v .kids) (kids-some (c .before .before .before .content .given .1) (c .before .before .before .before .before .children .ensures .1 _ v h)))))
 
 -- src/lib.rt:150:9
 member-fault-type-of-requires : (t : ℕ) → member-fault-lts.Need-type-of-requires (
@@ -690,10 +690,10 @@ pub +child-fault+element-fault+member-fault+row-fault-spec : {M : Type 1} → st
     (child-fault-returns-2 t)
     (child-fault-returns-3 t))
     (λ t. element-fault-lts.spec (
-      own-fault-reads.Asked,
-      own-fault-reads.Learnt,
       is-null-reads.Asked,
       is-null-reads.Learnt,
+      own-fault-reads.Asked,
+      own-fault-reads.Learnt,
       children-reads.Asked,
       children-reads.Learnt,
       end-fault-reads.Asked,
@@ -706,8 +706,8 @@ pub +child-fault+element-fault+member-fault+row-fault-spec : {M : Type 1} → st
     (element-fault-at t)
     element-fault.Post
     (element-fault-returns t)
-    (element-fault-own-fault-requires t)
     (element-fault-is-null-requires t)
+    (element-fault-own-fault-requires t)
     (element-fault-children-requires t)
     (element-fault-enum-known-content t)
     (element-fault-enum-told t)

@@ -6,13 +6,8 @@ use Rattle.judge.proofs.breaks_null.Tie as tie
 use Rattle.judge.proofs.breaks_null.Reads as reads
 use Rattle.judge.proofs.breaks_null.Lts as lts
 use Rattle.datatype.proofs.reading.has_children.Reads as has-children-reads
-use Rattle.datatype.proofs.reading.is_null.Reads as is-null-reads
 use Rattle.element.proofs.attributes.Reads as attributes-reads
 use Rattle.judge.proofs.attributes.has_own.Reads as has-own-reads
-
--- src/lib.rt:59:8
-is-null-requires : tie.Need-is-null-requires
-is-null-requires c κs = search needs
 
 -- src/lib.rt:60:13
 attributes-requires : tie.Need-attributes-requires
@@ -28,17 +23,16 @@ has-children-requires c κs = search needs
 
 -- src/lib.rt:61:9
 returns : tie.Need-returns
-returns c = λ v h. rw (sym (c .before .before .before .before .is-null .ensures _ v h) ∙ c .before .before .before .if1 .taken, c .before .has-own .ensures (v .attrs) (c .before .before .attributes .ensures .1 _ v h), c .has-children .ensures v h)
+returns c = λ v h n. rw (sym n ∙ c .before .before .before .if1 .taken, c .before .has-own .ensures (v .attrs) (c .before .before .attributes .ensures .1 _ v h), c .has-children .ensures v h)
 
 -- src/lib.rt:55:1
 returns-2 : tie.Need-returns-2
-returns-2 c = λ v h. rw (sym (c .before .is-null .ensures _ v h) ∙ c .if1 .left)
+returns-2 c = λ v h n. rw (sym n ∙ c .if1 .left)
 
 pub breaks-null-spec : {M : Type 1} → statement M
 breaks-null-spec =
     tie.close
     (tie.spec
-    is-null-requires
     attributes-requires
     has-own-requires
     has-children-requires

@@ -54,10 +54,10 @@ first-requires-2 c κs = search needs
 
 -- src/lib.rt:67:1
 returns : tie.Need-returns
-returns c = λ v h. rw (c .first2 .ensures, c .before .first .ensures) (own-first (c .before .before .before .before .before .before .before .before .before .before .args .shift) (standingMeant (c .before .before .before .before .before .before .before .before .before .before .args .standing)) (kindMeant (c .before .before .before .before .before .before .before .before .before .before .args .kind)) v
+returns c = λ v h n. rw (c .first2 .ensures, c .before .first .ensures) (own-first (c .before .before .before .before .before .before .before .before .before .before .args .shift) (standingMeant (c .before .before .before .before .before .before .before .before .before .before .args .standing)) (kindMeant (c .before .before .before .before .before .before .before .before .before .before .args .kind)) v
     (c .before .before .before .before .before .before .before .attributes-fault .ensures (v .attrs) (c .before .before .before .before .before .before .before .before .attributes .ensures .1 _ v h))
     (when-so SHAPE (c .before .before .before .before .before .refused-if .ensures) (c .before .before .before .before .before .before .lacks .ensures _ v h))
-    (when-so RULE (c .before .before .refused-if2 .ensures) (or-both (c .before .before .before .before .breaks .ensures v h) (c .before .before .before .breaks-null .ensures v h))))
+    (when-so RULE (c .before .before .refused-if2 .ensures) (or-both (c .before .before .before .before .breaks .ensures v h) (c .before .before .before .breaks-null .ensures v h n))))
 
 pub own-fault-spec : {M : Type 1} → statement M
 own-fault-spec =
