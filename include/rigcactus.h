@@ -23,7 +23,11 @@
  *   the input is accepted, and must overlap no other memory that is lent to the same call; const memory may overlap const.
  * - Threads. There is no state, no allocation, no lock and no errno: any number of threads may call at the same time, and
  *   the same arguments always give the same answer.
- * - Time. A call ends, after work that grows with the length of the input and stops at RIGCACTUS_MOST_BYTES.
+ * - Lengths. A length is a size_t of 64 bits and at most PTRDIFF_MAX, as of any memory. A longer input than
+ *   RIGCACTUS_MOST_BYTES is refused unread; a longer list than RIGCACTUS_MOST_LIST_BYTES is no use.
+ * - Time. A call ends, after work that grows with the length of the input and stops at RIGCACTUS_MOST_BYTES. One start tag
+ *   with many attributes takes work that grows with their square: docs/BENCH.md has the worst case.
+ * - Stack. docs/C-API.md says how much a service takes. There is no recursion beyond the 8 levels of a record.
  *
  * Link with librigcactus.a (Linux, x86-64). The header is C11 and C++. docs/C-API.md has a complete program.
  */
