@@ -24,7 +24,8 @@ proved = $(shell find crates \( -name '*.rt' -o -name '*.antt' \) -not -path '*/
 # The services that the archive has. Adding one here has tests/services.rs try it.
 services = rigcactus_cut rigcactus_tick rigcactus_check rigcactus_list rigcactus_compare
 c_api = $(patsubst %,target/tests/c_api_%,1 2 3 4 5)
-tests = target/tests/header_c $(c_api) target/tests/services target/tests/stack target/tests/replay target/tests/seeds target/tests/markup_stack target/tests/markup_reader
+tests = target/tests/header_c $(c_api) target/tests/services target/tests/stack target/tests/replay target/tests/planted target/tests/seeds \
+	target/tests/markup_stack target/tests/markup_reader
 places = 0 16 32 48
 cxx = $(shell command -v $(CXX) 2> /dev/null)
 expat = $(shell $(CC) -include expat.h -fsyntax-only -x c /dev/null 2> /dev/null && echo yes)
@@ -96,6 +97,9 @@ target/tests/libsecond.a: tests/fuzz/second.rs $(wildcard tests/*.rs)
 
 target/tests/replay: tests/fuzz/services.c $(header) $(archive) target/tests/libsecond.a
 	$(CC) $(CFLAGS) -DREPLAY -Iinclude -o $@ $< $(archive) target/tests/libsecond.a -lpthread -ldl -lm
+
+target/tests/planted: tests/fuzz/services.c tests/fuzz/planted.c $(header) $(archive) target/tests/libsecond.a
+	$(CC) $(CFLAGS) -DREPLAY -Iinclude $(services:%=-Wl,--wrap=%) -o $@ tests/fuzz/services.c tests/fuzz/planted.c $(archive) target/tests/libsecond.a -lpthread -ldl -lm
 
 target/tests/seeds: tests/fuzz/seeds.rs tests/table.rs $(records) $(wildcard examples/names/* examples/records/*)
 	@rm -rf $@ && mkdir -p $@
