@@ -126,10 +126,9 @@ target/tests/compare_expat: tests/markup/expat.c $(markup_archive)
 # the tests either.
 SECONDS ?= 1800
 COVERAGE = -C codegen-units=1 -C passes=sancov-module $(patsubst %,-C llvm-args=-sanitizer-coverage-%,level=3 inline-8bit-counters pc-table trace-compares)
-FUZZ_CC ?= clang
 
-fuzz: target/fuzz/services target/tests/seeds target/tests/replay
-	tests/fuzz/run $(SECONDS)
+fuzz: $(archive)
+	@tests/fuzz/run $(SECONDS)
 
 target/fuzz/librigcactus.a: $(archive) tests/fuzz/instrument
 	@mkdir -p $(@D)
@@ -140,7 +139,7 @@ target/fuzz/libsecond.a: tests/fuzz/second.rs $(wildcard tests/*.rs)
 	$(RUSTC) $(RUSTFLAGS) $(COVERAGE) --crate-type staticlib -o $@ $<
 
 target/fuzz/services: tests/fuzz/services.c $(header) target/fuzz/librigcactus.a target/fuzz/libsecond.a
-	$(FUZZ_CC) $(CFLAGS) -O1 -g -fsanitize=fuzzer,address,undefined -fno-sanitize-recover=all -Iinclude -o $@ $< $(@D)/librigcactus.a $(@D)/libsecond.a -lpthread -ldl -lm
+	clang $(CFLAGS) -O1 -g -fsanitize=fuzzer,address,undefined -fno-sanitize-recover=all -Iinclude -o $@ $< $(@D)/librigcactus.a $(@D)/libsecond.a -lpthread -ldl -lm
 
 # The bench is linked with the services at four places, since their speed depends on that. Without expat nothing is there to compare
 # checking with.
