@@ -10,6 +10,7 @@
 #     make valgrind runs every command, and damaged records, under valgrind
 #     make bench    compares speed with Rust's standard library, with glibc and with expat
 #     make compare-expat    compares the reader of markup with expat on a million texts; it needs expat
+#     make fuzz     fuzzes the services for half an hour, or for SECONDS=N; it needs clang with libFuzzer
 #     make clean    removes target/
 
 RUSTC ?= rustc
@@ -39,13 +40,14 @@ proved = $(shell find crates \( -name '*.rt' -o -name '*.antt' \) -not -path '*/
 # The services that the archive has. Adding one here has tests/services.rs try it.
 services = rigcactus_cut rigcactus_tick rigcactus_check rigcactus_list rigcactus_compare
 c_api = $(patsubst %,target/tests/c_api_%,1 2 3 4 5)
-tests = target/tests/header_c $(c_api) target/tests/services target/tests/markup_stack target/tests/markup_reader target/tests/moment target/tests/damage
+tests = target/tests/header_c $(c_api) target/tests/services target/tests/stack target/tests/replay target/tests/planted target/tests/seeds \
+	target/tests/markup_stack target/tests/markup_reader target/tests/moment target/tests/damage
 places = 0 16 32 48
 cxx = $(shell command -v $(CXX) 2> /dev/null)
 can_sanitize = $(shell mkdir -p target && echo 'int main(void) { return 0; }' | $(CC) $(SANITIZE) -x c -o target/can_sanitize - 2> /dev/null && echo yes)
 expat = $(shell $(CC) -include expat.h -fsyntax-only -x c /dev/null 2> /dev/null && echo yes)
 
-.PHONY: all run install uninstall test sanitize valgrind bench compare-expat clean
+.PHONY: all run install uninstall test sanitize valgrind bench compare-expat fuzz clean
 .DELETE_ON_ERROR:
 .SECONDARY:
 
@@ -148,6 +150,26 @@ target/tests/services: $(wildcard tests/*.rs) $(records) $(archive) Makefile
 	@mkdir -p $(@D)
 	$(RUSTC) $(RUSTFLAGS) $(services:%=--cfg %) -o $@ tests/services.rs $(LINK_RUST)
 
+target/tests/stack: $(wildcard tests/*.rs) $(records) $(archive) Makefile
+	@mkdir -p $(@D)
+	$(RUSTC) $(RUSTFLAGS) $(services:%=--cfg %) -o $@ tests/stack.rs $(LINK_RUST)
+
+# What the fuzzer does to an input, done to stored ones: the same source, without a fuzzer.
+target/tests/libsecond.a: tests/fuzz/second.rs $(wildcard tests/*.rs)
+	@mkdir -p $(@D)
+	$(RUSTC) $(RUSTFLAGS) --crate-type staticlib -o $@ $<
+
+target/tests/replay: tests/fuzz/services.c $(header) $(archive) target/tests/libsecond.a
+	$(CC) $(CFLAGS) -DREPLAY -Iinclude -o $@ $< $(archive) target/tests/libsecond.a -lpthread -ldl -lm
+
+target/tests/planted: tests/fuzz/services.c tests/fuzz/planted.c $(header) $(archive) target/tests/libsecond.a
+	$(CC) $(CFLAGS) -DREPLAY -Iinclude $(services:%=-Wl,--wrap=%) -o $@ tests/fuzz/services.c tests/fuzz/planted.c $(archive) target/tests/libsecond.a -lpthread -ldl -lm
+
+target/tests/seeds: tests/fuzz/seeds.rs tests/table.rs $(records) $(wildcard examples/names/* examples/records/*)
+	@rm -rf $@ && mkdir -p $@
+	$(RUSTC) $(RUSTFLAGS) -o target/tests/make_seeds $<
+	target/tests/make_seeds $@
+
 target/tests/markup_stack: tests/markup/stack.c $(markup_archive)
 	@mkdir -p $(@D)
 	$(CC) $(CFLAGS) -o $@ $< $(markup_archive)
@@ -163,6 +185,25 @@ compare-expat: target/tests/compare_expat
 target/tests/compare_expat: tests/markup/expat.c $(markup_archive)
 	@mkdir -p $(@D)
 	$(CC) $(CFLAGS) -o $@ $< $(markup_archive) -lexpat
+
+# The fuzzer is led by the branches that are taken in the services and in the second implementations, both compiled for it here. Not among
+# the tests either.
+SECONDS ?= 1800
+COVERAGE = -C codegen-units=1 -C passes=sancov-module $(patsubst %,-C llvm-args=-sanitizer-coverage-%,level=3 inline-8bit-counters pc-table trace-compares)
+
+fuzz: $(archive)
+	@tests/fuzz/run $(SECONDS)
+
+target/fuzz/librigcactus.a: $(archive) tests/fuzz/instrument
+	@mkdir -p $(@D)
+	tests/fuzz/instrument $@
+
+target/fuzz/libsecond.a: tests/fuzz/second.rs $(wildcard tests/*.rs)
+	@mkdir -p $(@D)
+	$(RUSTC) $(RUSTFLAGS) $(COVERAGE) --crate-type staticlib -o $@ $<
+
+target/fuzz/services: tests/fuzz/services.c $(header) target/fuzz/librigcactus.a target/fuzz/libsecond.a
+	clang $(CFLAGS) -O1 -g -fsanitize=fuzzer,address,undefined -fno-sanitize-recover=all -Iinclude -o $@ $< $(@D)/librigcactus.a $(@D)/libsecond.a -lpthread -ldl -lm
 
 # The bench is linked with the services at four places, since their speed depends on that. Without expat nothing is there to compare
 # checking with.

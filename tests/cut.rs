@@ -53,6 +53,11 @@ fn answer(judged: &Judged, room: u64) -> u64 {
     }
 }
 
+/// The answer that is due to a text and a room.
+pub fn due(text: &[u8], room: u64) -> u64 {
+    answer(&judge(text), room)
+}
+
 /// Counts of answers, by kind. Only answers that were due are counted here.
 #[derive(Default)]
 struct Counts {
@@ -152,7 +157,7 @@ impl Trial {
 
     /// Tries a text once at each fence, and in memory of just its size, where a memory checker sees a read beside it.
     fn fence(&mut self, text: &[u8], room: u64) {
-        let due = answer(&judge(text), room);
+        let due = due(text, room);
         let first = cut(self.fenced.place_first(text), room);
         let last = cut(self.fenced.place_last(text), room);
         let alone = cut(&Box::<[u8]>::from(text), room);
@@ -265,7 +270,7 @@ fn length(random: &mut Random) -> usize {
 }
 
 /// A text: whole, damaged, or bytes without a plan.
-fn text(random: &mut Random) -> Vec<u8> {
+pub fn text(random: &mut Random) -> Vec<u8> {
     let length = length(random);
     match random.below(10) {
         0 => (0..length).map(|_| random.byte()).collect(),

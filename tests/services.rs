@@ -3,7 +3,7 @@
 //!
 //!     services [--cases N] [--seed S] [--only-made] [--service NAME]
 //!
-//! N is how many texts or records are tried with each service (1000000), made from the seed S (1); a record to list is tried with two
+//! N is how many texts, records or pairs are tried with each service (500000), made from the seed S (1); a record to list is tried with two
 //! lists, and half as many are made. The same N and S make the same ones. Besides, every text of some kinds is tried, as every short one
 //! and every day, unless --only-made is given. NAME is the one service to try. A table says how often each answer occurred. The exit
 //! status is 1 where a service and the other implementation differ, or where some answer hardly occurred, and 2 for bad usage.
@@ -16,6 +16,7 @@ mod lent;
 mod likeness;
 mod list;
 mod markup;
+mod options;
 mod pairs;
 mod places;
 mod random;
@@ -26,19 +27,14 @@ mod tick;
 
 use std::process::ExitCode;
 
-pub struct Options {
-    pub cases: u64,
-    pub seed: u64,
-    pub only_made: bool,
-    service: Option<String>,
-}
+use options::Options;
 
 /// What tries each service, and says whether it agrees with the other implementation.
 const SERVICES: [(&str, fn(&Options) -> bool); 5] =
     [("cut", cut::run), ("tick", tick::run), ("check", check::run), ("list", list::run), ("compare", compare::run)];
 
 fn options() -> Option<Options> {
-    let mut options = Options { cases: 1_000_000, seed: 1, only_made: false, service: None };
+    let mut options = Options { cases: 500_000, seed: 1, only_made: false, service: None };
     let mut words = std::env::args().skip(1);
     while let Some(word) = words.next() {
         match word.as_str() {

@@ -90,9 +90,27 @@ impl Calendar {
 
 /// What is due: a tick and a precision, or a refusal.
 #[derive(Clone, Copy, PartialEq)]
-enum Due {
+pub enum Due {
     At { tick: i64, precision: u64 },
     Refused(u64),
+}
+
+impl Due {
+    /// The answer as the service packs it.
+    pub fn answer(self) -> u64 {
+        match self {
+            Due::At { precision, .. } => precision * 256,
+            Due::Refused(refusal) => refusal,
+        }
+    }
+
+    /// What the lent number is afterwards.
+    pub fn after(self, before: i64) -> i64 {
+        match self {
+            Due::At { tick, .. } => tick,
+            Due::Refused(_) => before,
+        }
+    }
 }
 
 fn is_digits(text: &str) -> bool {
@@ -148,7 +166,7 @@ pub fn read(text: &str, agreed: i64, calendar: &Calendar) -> Option<(i64, u64)> 
     Some((tick, (whole.len() + fraction.len()) as u64))
 }
 
-fn due(text: &[u8], agreed: i64, calendar: &Calendar) -> Due {
+pub fn due(text: &[u8], agreed: i64, calendar: &Calendar) -> Due {
     if !(-840..=840).contains(&agreed) {
         return Due::Refused(OFFSET);
     }
@@ -252,10 +270,7 @@ impl Trial {
 
     /// Compares an answer, and the lent number after it, with those that are due.
     fn compare(&mut self, case: Case, answer: u64, after: i64) {
-        let (due_answer, due_after) = match case.due {
-            Due::At { tick, precision } => (precision * 256, tick),
-            Due::Refused(refusal) => (refusal, case.before),
-        };
+        let (due_answer, due_after) = (case.due.answer(), case.due.after(case.before));
         if (answer, after) == (due_answer, due_after) {
             self.counts.add(case.due);
         } else {
@@ -400,7 +415,7 @@ fn lengthen(random: &mut Random, text: &mut Vec<u8>) {
 }
 
 /// A text: a timestamp, a damaged one, a long one, or bytes without a plan.
-fn text(random: &mut Random) -> Vec<u8> {
+pub fn text(random: &mut Random) -> Vec<u8> {
     let mut text = timestamp(random);
     match random.below(1000) {
         0..=9 => lengthen(random, &mut text),

@@ -1,0 +1,99 @@
+//! Writes the inputs that the fuzzer begins with, one file for each, to a folder that is there:
+//!
+//!     seeds FOLDER
+//!
+//! They are the records of tests/records and of examples/records, the names of examples/names, and some timestamps, in the form that
+//! tests/fuzz/services.c reads.
+
+#[path = "../table.rs"]
+mod table;
+
+use std::fs;
+use std::path::{Path, PathBuf};
+
+/// The services by their numbers in an input.
+const CUT: u8 = 0;
+const TICK: u8 = 1;
+const CHECK: u8 = 2;
+const LIST: u8 = 3;
+const COMPARE: u8 = 4;
+
+/// What parts two records in an input.
+const PART: u8 = 0xFF;
+
+/// Timestamps of each precision, with an offset and without, and texts that are none.
+const TIMESTAMPS: [&str; 18] = [
+    "0001", "9999", "202405", "19700101", "20000229", "19000229", "2024050112", "2024050112+01", "202405011230-0130", "20240501093000",
+    "20240501093000.25+0530", "20000101000000.0001+0000", "99991231235959.9999", "0001010100+14", "2024050112Z", "20240501+01",
+    "20240501093000.", "",
+];
+
+struct Writer {
+    folder: PathBuf,
+    count: usize,
+}
+
+impl Writer {
+    fn write(&mut self, service: u8, offset: i64, room: usize, bytes: &[u8]) {
+        let mut input = vec![service];
+        // Offsets that do not fit two bytes stand for those that are refused.
+        input.extend(i16::try_from(offset).unwrap_or(i16::MAX).to_le_bytes());
+        input.extend((room as u16).to_le_bytes());
+        input.push(0xA4);
+        input.extend(bytes);
+        self.count += 1;
+        fs::write(self.folder.join(format!("{:05}", self.count)), input).unwrap();
+    }
+
+    /// The stored records: each checked and listed; those of list.txt with their lists, and the pairs.
+    fn tables(&mut self) {
+        for (_, line) in table::lines(include_str!("../records/check.txt")) {
+            let words: Vec<&str> = line.splitn(3, ' ').collect();
+            let (offset, record) = (words[1].parse().unwrap(), table::bytes(words[2]));
+            self.write(CHECK, offset, 0, &record);
+            self.write(LIST, offset, 1024, &record);
+        }
+        for (_, line) in table::lines(include_str!("../records/list.txt")) {
+            let words: Vec<&str> = line.splitn(5, ' ').collect();
+            self.write(LIST, words[1].parse().unwrap(), words[2].parse().unwrap(), &table::bytes(words[4]));
+        }
+        for (_, line) in table::lines(include_str!("../records/compare.txt")) {
+            let words: Vec<&str> = line.splitn(3, ' ').collect();
+            let (first, second) = words[2].split_once(" ~ ").unwrap();
+            let pair = [table::bytes(first), table::bytes(second)].join(&PART);
+            self.write(COMPARE, words[1].parse().unwrap(), 0, &pair);
+        }
+    }
+
+    fn examples(&mut self) {
+        for record in files("examples/records") {
+            self.write(CHECK, 120, 0, &record);
+            self.write(LIST, 120, 64, &record);
+            self.write(COMPARE, 120, 0, &record);
+        }
+        for name in files("examples/names") {
+            for room in [0, name.len() / 2, name.len()] {
+                self.write(CUT, 0, room, &name);
+            }
+        }
+        for text in TIMESTAMPS {
+            self.write(TICK, 0, 0, text.as_bytes());
+            self.write(TICK, -840, 0, text.as_bytes());
+        }
+    }
+}
+
+/// What the files of a folder hold, in the order of their names.
+fn files(folder: &str) -> Vec<Vec<u8>> {
+    let mut paths: Vec<PathBuf> = fs::read_dir(folder).unwrap().map(|entry| entry.unwrap().path()).collect();
+    paths.sort();
+    paths.iter().map(|path| fs::read(path).unwrap()).collect()
+}
+
+fn main() {
+    let folder = std::env::args().nth(1).expect("usage: seeds FOLDER");
+    let mut writer = Writer { folder: Path::new(&folder).to_path_buf(), count: 0 };
+    writer.tables();
+    writer.examples();
+    println!("{} inputs in {folder}", writer.count);
+}

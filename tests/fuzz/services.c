@@ -1,0 +1,503 @@
+/*
+ * Fuzzes the five services through the C interface. An input chooses a service and its arguments; the answer is held to what the header
+ * says of it, to the other services, to the same call with other arguments, and to the second implementations of second.rs. All that is
+ * lent stands beside a page that nobody may touch, so a read or a write past its end stops the run, though the services are compiled
+ * without any check of their own. tests/fuzz/run says how this is built and run.
+ *
+ * An input is:
+ *
+ *     byte 0           the service: 0 cut, 1 tick, 2 check, 3 list, 4 compare, by the remainder of 5
+ *     bytes 1 and 2    the agreed offset, signed, lowest first
+ *     bytes 3 and 4    the room of a cut, or the length of the lent list
+ *     byte 5           what the lent list and the lent tick are filled with; and, if its lowest bit is set, offset and room are moved to
+ *                      the top of their 64 bits
+ *     the rest         the text or the record; for compare two records, parted by a byte FF, or one that is compared with itself
+ */
+#define _DEFAULT_SOURCE
+#include "rigcactus.h"
+
+#include <stdio.h>
+#include <stdlib.h>
+#include <string.h>
+#include <sys/mman.h>
+
+/* The second implementations. */
+uint64_t second_cut(const uint8_t *text, size_t text_len, uint64_t room);
+uint64_t second_tick(const uint8_t *text, size_t text_len, int64_t offset, int64_t *tick);
+uint64_t second_check(const uint8_t *record, size_t record_len, int64_t offset);
+uint64_t second_list(const uint8_t *record, size_t record_len, int64_t offset, uint8_t *list, size_t list_len);
+uint64_t second_compare(const uint8_t *first, size_t first_len, const uint8_t *second, size_t second_len, int64_t offset);
+
+enum { PAGE = 4096, ROOM = 32768, HEAD = 6, MOST_LIST = 2047, SPACES = 2 };
+
+/* The first and the last tick that a timestamp can have. */
+static const int64_t FIRST_TICK = -504000000, LAST_TICK = 3155379479999999;
+
+/* Ends the run, so that the fuzzer keeps the input. */
+#define CLAIM(holds) \
+    do { \
+        if (!(holds)) { \
+            fprintf(stderr, "services.c:%d: %s\n", __LINE__, #holds); \
+            abort(); \
+        } \
+    } while (0)
+
+/*
+ * One byte for each kind of answer: a fuzzer that knows this section counts the first of each kind as something new, beside what the
+ * instrumented code shows.
+ */
+static uint8_t seen[5][12][64] __attribute__((section("__libfuzzer_extra_counters"), used));
+
+static void see(int service, uint64_t answer, uint64_t result)
+{
+    seen[service][rigcactus_refusal(answer)][result & 63] = 1;
+}
+
+/* ---- Lent memory -------------------------------------------------------------------------------------------------- */
+
+struct lent {
+    uint8_t *bytes;
+    size_t length;
+};
+
+/* Room between two pages that nobody may touch. */
+struct fenced {
+    uint8_t *start;
+};
+
+static struct fenced new_fenced(void)
+{
+    uint8_t *base = mmap(NULL, ROOM + 2 * PAGE, PROT_NONE, MAP_PRIVATE | MAP_ANONYMOUS, -1, 0);
+    CLAIM(base != MAP_FAILED && mprotect(base + PAGE, ROOM, PROT_READ | PROT_WRITE) == 0);
+    return (struct fenced){base + PAGE};
+}
+
+/* Copies bytes to the last place before the fence, or to the first after it. */
+static struct lent place(struct fenced fenced, const uint8_t *bytes, size_t length, int last)
+{
+    uint8_t *at = last ? fenced.start + ROOM - length : fenced.start;
+    if (length > 0)
+        memcpy(at, bytes, length);
+    return (struct lent){at, length};
+}
+
+static struct fenced one, two, list_room, tick_room;
+
+static void set_up(void)
+{
+    if (one.start)
+        return;
+    one = new_fenced();
+    two = new_fenced();
+    list_room = new_fenced();
+    tick_room = new_fenced();
+}
+
+/* Whether bytes are all of one value. */
+static int is_all(const uint8_t *bytes, size_t length, uint8_t value)
+{
+    for (size_t i = 0; i < length; i++)
+        if (bytes[i] != value)
+            return 0;
+    return 1;
+}
+
+/* ---- What an answer is -------------------------------------------------------------------------------------------- */
+
+static int is_offset(int64_t offset)
+{
+    return -RIGCACTUS_MOST_OFFSET <= offset && offset <= RIGCACTUS_MOST_OFFSET;
+}
+
+/* Another agreed offset that may be. */
+static int64_t other_offset(int64_t offset)
+{
+    return offset == 60 ? -300 : 60;
+}
+
+static uint64_t check(struct lent record, int64_t offset)
+{
+    return rigcactus_check(record.bytes, record.length, offset);
+}
+
+/* OFFSET, TOO LONG and NOT UTF-8 are given exactly where they apply: the smallest of them, and before anything else. */
+static void claim_first_refusals(struct lent record, int64_t offset, int refusal)
+{
+    int is_text = rigcactus_refusal(rigcactus_cut(record.bytes, record.length, 0)) != RIGCACTUS_NOT_UTF8;
+
+    if (!is_offset(offset))
+        CLAIM(refusal == RIGCACTUS_OFFSET);
+    else if (record.length > RIGCACTUS_MOST_BYTES)
+        CLAIM(refusal == RIGCACTUS_TOO_LONG);
+    else if (!is_text)
+        CLAIM(refusal == RIGCACTUS_NOT_UTF8);
+    else
+        CLAIM(refusal == RIGCACTUS_ACCEPTED || refusal >= RIGCACTUS_MARKUP);
+}
+
+/* ---- Cut ---------------------------------------------------------------------------------------------------------- */
+
+/* Whether a beginning of a UTF-8 text is whole characters: none goes on after it. */
+static int is_whole(struct lent text, size_t length)
+{
+    return length == text.length || (text.bytes[length] & 0xC0) != 0x80;
+}
+
+static void claim_cut(struct lent text, uint64_t room, size_t length)
+{
+    size_t most = room < text.length ? (size_t)room : text.length;
+
+    CLAIM(length <= most && is_whole(text, length));
+    for (size_t longer = length + 1; longer <= most; longer++)
+        CLAIM(!is_whole(text, longer));
+    CLAIM(rigcactus_cut(text.bytes, length, room) == (uint64_t)length << 8);
+    CLAIM(rigcactus_cut(text.bytes, text.length, length) == (uint64_t)length << 8);
+    CLAIM(rigcactus_cut(text.bytes, text.length, UINT64_MAX) == (uint64_t)text.length << 8);
+}
+
+static void try_cut(const uint8_t *bytes, size_t length, uint64_t room)
+{
+    struct lent text = place(one, bytes, length, 1);
+    uint64_t answer = rigcactus_cut(text.bytes, text.length, room);
+    int refusal = rigcactus_refusal(answer);
+
+    see(0, answer, rigcactus_length(answer) == length ? 0 : rigcactus_length(answer) == room ? 1 : 2);
+    CLAIM(answer == second_cut(text.bytes, text.length, room));
+    CLAIM((refusal == RIGCACTUS_TOO_LONG) == (length > RIGCACTUS_MOST_BYTES));
+    if (refusal == RIGCACTUS_ACCEPTED) {
+        claim_cut(text, room, rigcactus_length(answer));
+    } else {
+        CLAIM(answer == RIGCACTUS_TOO_LONG || answer == RIGCACTUS_NOT_UTF8);
+        CLAIM(rigcactus_cut(text.bytes, text.length, 0) == answer);
+    }
+    CLAIM(length == 0 || memcmp(text.bytes, bytes, length) == 0);
+    text = place(one, bytes, length, 0);
+    CLAIM(rigcactus_cut(text.bytes, text.length, room) == answer);
+}
+
+/* ---- Tick --------------------------------------------------------------------------------------------------------- */
+
+/* The digits of a timestamp before any offset. */
+static int digits_of(struct lent text)
+{
+    int digits = 0;
+    for (size_t i = 0; i < text.length && text.bytes[i] != '+' && text.bytes[i] != '-'; i++)
+        digits += text.bytes[i] != '.';
+    return digits;
+}
+
+static int has_offset(struct lent text)
+{
+    for (size_t i = 0; i < text.length; i++)
+        if (text.bytes[i] == '+' || text.bytes[i] == '-')
+            return 1;
+    return 0;
+}
+
+static void claim_tick(struct lent text, int64_t offset, uint64_t answer, int64_t tick)
+{
+    int precision = rigcactus_precision(answer);
+    int64_t at_zero = 0;
+
+    CLAIM(answer == (uint64_t)precision << 8);
+    CLAIM(4 <= precision && precision <= 18 && (precision > 14 || precision % 2 == 0));
+    CLAIM(precision == digits_of(text));
+    CLAIM(FIRST_TICK <= tick && tick <= LAST_TICK);
+    CLAIM(rigcactus_tick(text.bytes, text.length, 0, &at_zero) == answer);
+    CLAIM(tick == (has_offset(text) ? at_zero : at_zero - offset * 60 * RIGCACTUS_TICKS_PER_SECOND));
+}
+
+/* A text is a timestamp exactly if a record of type TS with that value is accepted, and else its value is to blame. */
+static void claim_as_record(struct lent text, int64_t offset, int refusal)
+{
+    static const char before[] = "<t xsi:type=\"TS\" value=\"", after[] = "\"/>";
+    size_t head = sizeof before - 1, tail = sizeof after - 1, length = head + text.length + tail;
+    uint8_t *record = two.start + ROOM - length;
+
+    for (size_t i = 0; i < text.length; i++)
+        if (text.bytes[i] < ' ' || text.bytes[i] > '~' || strchr("<&\"", text.bytes[i]))
+            return;
+    if (length > RIGCACTUS_MOST_BYTES)
+        return;
+    memcpy(record, before, head);
+    memcpy(record + head, text.bytes, text.length);
+    memcpy(record + head + text.length, after, tail);
+    CLAIM(rigcactus_check(record, length, offset) == (uint64_t)refusal);
+}
+
+static void try_tick(const uint8_t *bytes, size_t length, int64_t offset, uint8_t fill)
+{
+    uint8_t before[8];
+    memset(before, fill, sizeof before);
+    struct lent text = place(one, bytes, length, 1);
+    int64_t *tick = (int64_t *)place(tick_room, before, 8, 1).bytes, due;
+    memcpy(&due, before, 8);
+    uint64_t answer = rigcactus_tick(text.bytes, text.length, offset, tick);
+    int refusal = rigcactus_refusal(answer);
+
+    see(1, answer, rigcactus_precision(answer));
+    CLAIM(answer == second_tick(text.bytes, text.length, offset, &due) && *tick == due);
+    CLAIM((refusal == RIGCACTUS_OFFSET) == !is_offset(offset));
+    CLAIM((refusal == RIGCACTUS_TOO_LONG) == (is_offset(offset) && length > RIGCACTUS_MOST_BYTES));
+    if (refusal == RIGCACTUS_ACCEPTED) {
+        claim_tick(text, offset, answer, *tick);
+    } else {
+        CLAIM(answer == RIGCACTUS_OFFSET || answer == RIGCACTUS_TOO_LONG || answer == RIGCACTUS_VALUE);
+        CLAIM(memcmp(tick, before, 8) == 0);
+    }
+    claim_as_record(text, offset, refusal);
+    CLAIM(length == 0 || memcmp(text.bytes, bytes, length) == 0);
+    text = place(one, bytes, length, 0);
+    tick = (int64_t *)place(tick_room, before, 8, 0).bytes;
+    CLAIM(rigcactus_tick(text.bytes, text.length, offset, tick) == answer && *tick == due);
+}
+
+/* ---- Check -------------------------------------------------------------------------------------------------------- */
+
+/* White space around a record changes nothing, as long as it is not too long. */
+static void claim_space_around(const uint8_t *bytes, size_t length, int64_t offset, uint64_t answer)
+{
+    uint8_t *with_space = two.start + ROOM - length - SPACES;
+
+    if (length + SPACES > RIGCACTUS_MOST_BYTES)
+        return;
+    with_space[0] = '\n';
+    if (length > 0)
+        memcpy(with_space + 1, bytes, length);
+    with_space[length + 1] = ' ';
+    CLAIM(rigcactus_check(with_space, length + SPACES, offset) == answer);
+}
+
+static void try_check(const uint8_t *bytes, size_t length, int64_t offset)
+{
+    struct lent record = place(one, bytes, length, 1);
+    uint64_t answer = check(record, offset);
+    int refusal = rigcactus_refusal(answer);
+
+    see(2, answer, 0);
+    CLAIM(answer == second_check(record.bytes, record.length, offset));
+    CLAIM(answer <= RIGCACTUS_RULE);
+    claim_first_refusals(record, offset, refusal);
+    /* The agreed offset decides OFFSET, and whether bounds are crossed, which is RULE; nothing else. */
+    if (is_offset(offset)) {
+        uint64_t other = check(record, other_offset(offset));
+        CLAIM(other == answer || (answer == RIGCACTUS_ACCEPTED && other == RIGCACTUS_RULE) || (answer == RIGCACTUS_RULE && other == RIGCACTUS_ACCEPTED));
+    }
+    claim_space_around(bytes, length, offset, answer);
+    CLAIM(length == 0 || memcmp(record.bytes, bytes, length) == 0);
+    CLAIM(check(place(one, bytes, length, 0), offset) == answer);
+}
+
+/* ---- List --------------------------------------------------------------------------------------------------------- */
+
+/* The place where a bound lies: a tick is twice its number, and the gap after it one more. */
+static int64_t low_place(struct rigcactus_stretch stretch)
+{
+    return 2 * stretch.low_tick + (stretch.low_kind == RIGCACTUS_OPEN);
+}
+
+static int64_t high_place(struct rigcactus_stretch stretch)
+{
+    return 2 * stretch.high_tick - (stretch.high_kind == RIGCACTUS_OPEN);
+}
+
+static void claim_bound(int kind, int64_t tick, int may_be_unbounded)
+{
+    CLAIM(RIGCACTUS_UNBOUNDED <= kind && kind <= RIGCACTUS_CLOSED);
+    if (kind == RIGCACTUS_UNBOUNDED)
+        CLAIM(may_be_unbounded && tick == 0);
+    else
+        CLAIM(FIRST_TICK <= tick && tick <= LAST_TICK);
+}
+
+/* A list has stretches of one place or more, that rise, and with a place between one and the next that is in neither. */
+static void claim_stretches(const uint8_t *list, size_t count)
+{
+    struct rigcactus_stretch before = {0, 0, 0, 0};
+
+    for (size_t i = 0; i < count; i++) {
+        struct rigcactus_stretch stretch = rigcactus_stretch_at(list, i);
+        claim_bound(stretch.low_kind, stretch.low_tick, i == 0);
+        claim_bound(stretch.high_kind, stretch.high_tick, i == count - 1);
+        if (stretch.low_kind != RIGCACTUS_UNBOUNDED && stretch.high_kind != RIGCACTUS_UNBOUNDED)
+            CLAIM(low_place(stretch) <= high_place(stretch));
+        if (i > 0)
+            CLAIM(high_place(before) + 1 < low_place(stretch));
+        before = stretch;
+    }
+}
+
+/* What checking says of a record that is listed. */
+static void claim_checked(struct lent record, int64_t offset, int refusal)
+{
+    int checked = rigcactus_refusal(check(record, offset));
+
+    if (checked == RIGCACTUS_ACCEPTED)
+        CLAIM(refusal == RIGCACTUS_ACCEPTED || refusal == RIGCACTUS_TYPE || refusal >= RIGCACTUS_UNKNOWN_BOUND);
+    else if (checked <= RIGCACTUS_TYPE)
+        CLAIM(refusal == checked);
+    else
+        CLAIM(refusal == checked || refusal == RIGCACTUS_TYPE);
+}
+
+/* With room enough the answer is the same, but that NO ROOM becomes a count that had no room; and the stretches are the same. */
+static void claim_with_room(struct lent record, int64_t offset, struct lent list, uint64_t answer)
+{
+    uint8_t all[RIGCACTUS_MOST_LIST_BYTES];
+    memset(all, 0x5A, sizeof all);
+    uint64_t with_room = rigcactus_list(record.bytes, record.length, offset, all, sizeof all);
+    size_t count = rigcactus_count(with_room), written = count * RIGCACTUS_STRETCH_BYTES;
+
+    if (rigcactus_refusal(answer) == RIGCACTUS_NO_ROOM) {
+        CLAIM(with_room == (uint64_t)count << 8);
+        CLAIM(list.length / RIGCACTUS_STRETCH_BYTES < count && count <= RIGCACTUS_MOST_INTERVALS);
+        claim_stretches(all, count);
+    } else {
+        CLAIM(with_room == answer);
+        CLAIM(memcmp(all, list.bytes, written) == 0);
+    }
+    CLAIM(is_all(all + written, sizeof all - written, 0x5A));
+}
+
+static void try_list(const uint8_t *bytes, size_t length, int64_t offset, size_t list_length, uint8_t fill)
+{
+    static uint8_t before[MOST_LIST], due[MOST_LIST];
+    memset(before, fill, list_length);
+    memset(due, fill, list_length);
+    struct lent record = place(one, bytes, length, 1), list = place(list_room, before, list_length, 1);
+    /* Bytes before the list, which are to stay too; behind it is the fence. */
+    memset(list.bytes - 64, 0x69, 64);
+    uint64_t answer = rigcactus_list(record.bytes, record.length, offset, list.bytes, list.length);
+    int refusal = rigcactus_refusal(answer);
+    size_t count = rigcactus_count(answer), written = count * RIGCACTUS_STRETCH_BYTES;
+
+    see(3, answer, count);
+    CLAIM(answer == second_list(record.bytes, record.length, offset, due, list_length));
+    CLAIM(memcmp(list.bytes, due, list_length) == 0);
+    CLAIM(refusal <= RIGCACTUS_NO_ROOM);
+    CLAIM(refusal == RIGCACTUS_ACCEPTED ? answer == (uint64_t)count << 8 : answer == (uint64_t)refusal);
+    CLAIM(count <= RIGCACTUS_MOST_INTERVALS && written <= list.length);
+    CLAIM(is_all(list.bytes + written, list.length - written, fill) && is_all(list.bytes - 64, 64, 0x69));
+    claim_stretches(list.bytes, count);
+    claim_checked(record, offset, refusal);
+    claim_with_room(record, offset, list, answer);
+    CLAIM(length == 0 || memcmp(record.bytes, bytes, length) == 0);
+    record = place(one, bytes, length, 0);
+    list = place(list_room, before, list_length, 0);
+    CLAIM(rigcactus_list(record.bytes, record.length, offset, list.bytes, list.length) == answer);
+    CLAIM(memcmp(list.bytes, due, list_length) == 0);
+}
+
+/* ---- Compare ------------------------------------------------------------------------------------------------------ */
+
+static uint64_t compare(struct lent first, struct lent second, int64_t offset)
+{
+    return rigcactus_compare(first.bytes, first.length, second.bytes, second.length, offset);
+}
+
+static uint64_t refused(int record, int refusal)
+{
+    return (uint64_t)record << 8 | (uint64_t)refusal;
+}
+
+/* Whether a record is of a type that can be listed; asked of an accepted record. */
+static int is_listed(struct lent record, int64_t offset)
+{
+    return rigcactus_list(record.bytes, record.length, offset, NULL, 0) != RIGCACTUS_TYPE;
+}
+
+/* A record with itself: TYPE if it is a set; else never no, and unknown where it is null in some way. */
+static void claim_itself(struct lent record, int64_t offset, uint64_t other)
+{
+    uint64_t itself = compare(record, record, offset);
+
+    if (itself == refused(2, RIGCACTUS_TYPE))
+        CLAIM(is_listed(record, offset) && other == itself);
+    else
+        CLAIM(itself == RIGCACTUS_YES << 16 || itself == RIGCACTUS_UNKNOWN << 16);
+    if (other == RIGCACTUS_YES << 16)
+        CLAIM(itself == other);
+}
+
+static void claim_compared(struct lent first, struct lent second, int64_t offset, uint64_t answer)
+{
+    int comparison = rigcactus_comparison(answer);
+
+    if (answer != refused(2, RIGCACTUS_TYPE))
+        CLAIM(RIGCACTUS_YES <= comparison && comparison <= RIGCACTUS_UNKNOWN && answer == (uint64_t)comparison << 16);
+    if (is_listed(first, offset) != is_listed(second, offset))
+        CLAIM(answer == refused(2, RIGCACTUS_TYPE));
+    CLAIM(compare(second, first, offset) == answer);
+    claim_itself(first, offset, answer);
+    claim_itself(second, offset, answer);
+}
+
+static void try_compare(const uint8_t *bytes, size_t length, int64_t offset)
+{
+    const uint8_t *part = length > 0 ? memchr(bytes, 0xFF, length) : NULL;
+    size_t first_length = part ? (size_t)(part - bytes) : length, second_length = part ? length - first_length - 1 : length;
+    const uint8_t *second_bytes = part ? part + 1 : bytes;
+    struct lent first = place(one, bytes, first_length, 1), second = place(two, second_bytes, second_length, 1);
+    uint64_t answer = compare(first, second, offset);
+    int first_refusal = rigcactus_refusal(check(first, offset)), second_refusal = rigcactus_refusal(check(second, offset));
+
+    see(4, answer, rigcactus_comparison(answer) << 2 | rigcactus_refused_record(answer));
+    CLAIM(answer == second_compare(first.bytes, first.length, second.bytes, second.length, offset));
+    if (first_refusal != RIGCACTUS_ACCEPTED)
+        CLAIM(answer == refused(1, first_refusal));
+    else if (second_refusal != RIGCACTUS_ACCEPTED)
+        CLAIM(answer == refused(2, second_refusal));
+    else
+        claim_compared(first, second, offset, answer);
+    CLAIM(first_length == 0 || memcmp(first.bytes, bytes, first_length) == 0);
+    CLAIM(second_length == 0 || memcmp(second.bytes, second_bytes, second_length) == 0);
+    CLAIM(compare(place(one, bytes, first_length, 0), place(two, second_bytes, second_length, 0), offset) == answer);
+}
+
+/* ---- Inputs ------------------------------------------------------------------------------------------------------- */
+
+int LLVMFuzzerTestOneInput(const uint8_t *input, size_t input_len);
+
+int LLVMFuzzerTestOneInput(const uint8_t *input, size_t input_len)
+{
+    if (input_len < HEAD || input_len > HEAD + ROOM - 64)
+        return 0;
+    set_up();
+    uint16_t low = (uint16_t)(input[1] | input[2] << 8), room = (uint16_t)(input[3] | input[4] << 8);
+    uint8_t fill = input[5];
+    int far = fill & 1;
+    int64_t offset = (int64_t)(int16_t)low * (far ? INT64_C(1) << 48 : 1);
+    uint64_t cut_room = far ? (uint64_t)room << 48 : room;
+    const uint8_t *bytes = input + HEAD;
+    size_t length = input_len - HEAD;
+
+    switch (input[0] % 5) {
+    case 0: try_cut(bytes, length, cut_room); break;
+    case 1: try_tick(bytes, length, offset, fill); break;
+    case 2: try_check(bytes, length, offset); break;
+    case 3: try_list(bytes, length, offset, room & MOST_LIST, fill); break;
+    default: try_compare(bytes, length, offset); break;
+    }
+    return 0;
+}
+
+#ifdef REPLAY
+/* Tries stored inputs, for a build without a fuzzer: replay FILE.. */
+int main(int count, char **names)
+{
+    static uint8_t input[HEAD + ROOM];
+
+    for (int i = 1; i < count; i++) {
+        FILE *file = fopen(names[i], "rb");
+        if (!file) {
+            perror(names[i]);
+            return 2;
+        }
+        size_t length = fread(input, 1, sizeof input, file);
+        fclose(file);
+        LLVMFuzzerTestOneInput(input, length);
+    }
+    printf("%d inputs\n", count - 1);
+    return 0;
+}
+#endif

@@ -1,0 +1,318 @@
+//! Measures how much stack each service takes: it is called on a stack of its own, filled with a word that nothing writes by chance, and
+//! afterwards the lowest word that changed is looked for.
+//!
+//!     stack [--cases N] [--seed S]
+//!
+//! N is how many inputs are made for each service (10000) from the seed S (1), beside those that are made to go deep and those of
+//! tests/records. The exit status is 1 where a service takes more than docs/C-API.md says, and 2 for bad usage.
+
+// Only what makes inputs is used of the files here, and not what tries them.
+#![allow(dead_code)]
+
+mod check;
+mod compare;
+mod cut;
+mod faults;
+mod lent;
+mod likeness;
+mod list;
+mod markup;
+mod options;
+mod pairs;
+mod places;
+mod random;
+mod records;
+mod sets;
+mod table;
+mod tick;
+
+use std::ffi::c_void;
+use std::process::ExitCode;
+
+use options::Options;
+use random::Random;
+use records::Maker;
+use tick::Calendar;
+
+extern "C" {
+    fn rigcactus_cut(text: *const u8, text_len: usize, room: u64) -> u64;
+    fn rigcactus_tick(text: *const u8, text_len: usize, offset: i64, tick: *mut i64) -> u64;
+    fn rigcactus_check(record: *const u8, record_len: usize, offset: i64) -> u64;
+    fn rigcactus_list(record: *const u8, record_len: usize, offset: i64, list: *mut u8, list_len: usize) -> u64;
+    fn rigcactus_compare(first: *const u8, first_len: usize, second: *const u8, second_len: usize, offset: i64) -> u64;
+
+    /// Calls a service with five words on the stack that ends at `top`.
+    fn call_on_stack(top: *mut u64, service: *const c_void, words: *const u64) -> u64;
+    fn mmap(address: *mut c_void, length: usize, protection: i32, flags: i32, file: i32, offset: i64) -> *mut c_void;
+    fn mprotect(address: *mut c_void, length: usize, protection: i32) -> i32;
+}
+
+std::arch::global_asm!(
+    ".globl call_on_stack",
+    "call_on_stack:",
+    "push rbp",
+    "mov rbp, rsp",
+    "mov rsp, rdi",
+    "mov rax, rsi",
+    "mov r10, rdx",
+    "mov rdi, [r10]",
+    "mov rsi, [r10 + 8]",
+    "mov rdx, [r10 + 16]",
+    "mov rcx, [r10 + 24]",
+    "mov r8, [r10 + 32]",
+    "call rax",
+    "mov rsp, rbp",
+    "pop rbp",
+    "ret",
+);
+
+#[derive(Clone, Copy, PartialEq)]
+enum Service {
+    Cut,
+    Tick,
+    Check,
+    List,
+    Compare,
+}
+use Service::*;
+
+/// The services, and the most bytes of stack that each is said to take.
+const SERVICES: [(Service, &str, usize); 5] =
+    [(Cut, "cut", 256), (Tick, "tick", 1024), (Check, "check", 8192), (List, "list", 49152), (Compare, "compare", 8192)];
+
+// ---- The stack -----------------------------------------------------------------------------------------------------
+
+const PAGE: usize = 4096;
+const WORDS: usize = 128 * 1024 / 8;
+const PAINT: u64 = 0xA5C3_96E1_7B2D_584F;
+
+/// Painted memory above a page that nobody may touch.
+struct Stack {
+    words: &'static mut [u64],
+}
+
+impl Stack {
+    fn new() -> Stack {
+        // SAFETY: the mapping is new, nothing else knows its address, and it is never unmapped. All but its first page is made accessible
+        // before a slice is made of it.
+        unsafe {
+            let base = mmap(std::ptr::null_mut(), PAGE + 8 * WORDS, 0, 0x22, -1, 0);
+            assert!(base as isize != -1, "mmap failed");
+            let inside = base.cast::<u8>().add(PAGE);
+            assert!(mprotect(inside.cast(), 8 * WORDS, 3) == 0, "mprotect failed");
+            let words = std::slice::from_raw_parts_mut(inside.cast::<u64>(), WORDS);
+            words.fill(PAINT);
+            Stack { words }
+        }
+    }
+
+    /// Calls a service and says how many bytes of stack were written, the return address included.
+    fn measure(&mut self, service: Service, input: &Input) -> usize {
+        let (first, second) = (&input.first, &input.second);
+        let mut tick = 0_i64;
+        let mut list = [0_u8; 1024];
+        let (at, length, number) = (first.as_ptr() as u64, first.len() as u64, input.number as u64);
+        let (function, words): (*const c_void, [u64; 5]) = match service {
+            Cut => (rigcactus_cut as *const c_void, [at, length, number, 0, 0]),
+            Tick => (rigcactus_tick as *const c_void, [at, length, number, &raw mut tick as u64, 0]),
+            Check => (rigcactus_check as *const c_void, [at, length, number, 0, 0]),
+            List => (rigcactus_list as *const c_void, [at, length, number, list.as_mut_ptr() as u64, 1024]),
+            Compare => (rigcactus_compare as *const c_void, [at, length, second.as_ptr() as u64, second.len() as u64, number]),
+        };
+        // SAFETY: the words are the service's arguments, with pointers to memory of the lengths beside them, and the stack is free.
+        unsafe { call_on_stack(self.words.as_mut_ptr().add(WORDS), function, words.as_ptr()) };
+        let lowest = self.words.iter().position(|word| *word != PAINT).unwrap_or(WORDS);
+        self.words[lowest..].fill(PAINT);
+        8 * (WORDS - lowest)
+    }
+}
+
+// ---- Inputs --------------------------------------------------------------------------------------------------------
+
+/// A text, a record or two; and the room or the agreed offset.
+struct Input {
+    what: String,
+    first: Vec<u8>,
+    second: Vec<u8>,
+    number: i64,
+}
+
+fn input(what: &str, first: impl Into<Vec<u8>>) -> Input {
+    let first = first.into();
+    Input { what: what.to_string(), second: first.clone(), first, number: 0 }
+}
+
+/// An interval, its bounds at a place of a line, so that those of different places lie apart; at place 0 it has no bounds.
+fn interval(name: &str, place: usize) -> String {
+    if place == 0 {
+        return format!("<{name} xsi:type=\"IVL_TS\"/>");
+    }
+    let (low, high) = (1000 + 20 * place, 1010 + 20 * place);
+    let flags = "lowClosed=\"true\" highClosed=\"false\"";
+    format!("<{name} xsi:type=\"IVL_TS\" {flags}><low value=\"{low}0229235959.9999+1400\"/><high value=\"{high}0228235959.9999-1400\"/></{name}>")
+}
+
+/// Sets within sets, of the types given from the outside in, each with an interval before or after the inner set; in the innermost set
+/// so many intervals. With seven levels these have no bounds, for which no level is left.
+fn nested(types: &[usize], inner_last: bool, many: usize) -> String {
+    let mut place = 0;
+    let mut next = |name: &str| {
+        place += usize::from(types.len() < 7);
+        interval(name, place)
+    };
+    let mut record = String::new();
+    for (level, of_type) in types.iter().enumerate().rev() {
+        let names = if *of_type == 2 { ["minuend", "subtrahend"] } else { ["term", "term"] };
+        let content = if level + 1 == types.len() {
+            let more: String = (0..many).map(|_| next("term")).collect();
+            if *of_type == 2 { next(names[0]) + &next(names[1]) } else { more }
+        } else if inner_last {
+            next(names[0]) + &record.replace("NAME", names[1])
+        } else {
+            record.replace("NAME", names[0]) + &next(names[1])
+        };
+        record = format!("<NAME xsi:type=\"{}\">{content}</NAME>", records::SET_TYPES[*of_type]);
+    }
+    record.replace("NAME", "t")
+}
+
+/// Every nesting of the three types of sets, of one to seven levels.
+fn nested_sets() -> Vec<Input> {
+    let mut inputs = Vec::new();
+    for levels in 1..=7 {
+        for number in 0..3_usize.pow(levels) {
+            let types: Vec<usize> = (0..levels).map(|level| number / 3_usize.pow(level) % 3).collect();
+            for (inner_last, many) in [(false, 2), (true, 2), (false, 26), (true, 26)] {
+                inputs.push(input("sets within sets", nested(&types, inner_last, many)));
+            }
+        }
+    }
+    inputs
+}
+
+/// A row of the same texts, as many as there is room for in the longest record, between two others.
+fn filled(before: &str, one: &str, after: &str) -> String {
+    let count = (faults::MOST_BYTES - before.len() - after.len()) / one.len();
+    format!("{before}{}{after}", one.repeat(count))
+}
+
+/// Records that are long, wide or deep, of every type.
+fn long_records() -> Vec<Input> {
+    let part = "<part value=\"&amp;&lt;\u{10FFFF}\" type=\"TITLE\" qualifier=\"LS AC NB PR HON BR AD SP MID CL IN PFX\"/>";
+    let deep = "<a>".repeat(7);
+    let end = "</a>".repeat(7);
+    let attributes: String = (0..1200).map(|n| format!(" a{n:04}=\"{n}\"")).collect();
+    let oid = format!("2.{}", "9".repeat(126));
+    vec![
+        input("many parts", filled("<t xsi:type=\"EN\">", part, "</t>")),
+        input("a long part", filled("<t xsi:type=\"EN\"><part value=\"", "&quot;\u{EB}", "\"/></t>")),
+        input("many qualifiers", filled("<t xsi:type=\"EN\"><part value=\"a\" qualifier=\"SFX", " HON", "\"/></t>")),
+        input("an amount", "<t xsi:type=\"MO\" value=\"-999999999999.9999\" currency=\"EUR\"/>"),
+        input("a long value", filled("<t xsi:type=\"MO\" currency=\"EUR\" value=\"", "9", "\"/>")),
+        input("a long identifier", filled(&format!("<t xsi:type=\"II\" root=\"{oid}\" extension=\""), "&apos;", "\"/>")),
+        input(
+            "a code",
+            format!("<t xsi:type=\"CD\" code=\"a\" codeSystem=\"{oid}\" codeSystemName=\"a\" codeSystemVersion=\"a\"><displayName value=\"a\"/></t>"),
+        ),
+        input("a timestamp", "<t xsi:type=\"TS\" value=\"99991231235959.9999-1400\"/>"),
+        input("an interval", interval("t", 1)),
+        input("many terms", filled("<t xsi:type=\"QSU_TS\">", &interval("term", 1), "</t>")),
+        input("siblings at the eighth level", filled(&deep, "<b/>", &end)),
+        input("siblings at the ninth level", filled(&format!("{deep}<a>"), "<b/>", &format!("</a>{end}"))),
+        input("tags without an end", filled("", "<a>", "")),
+        input("white space", filled("<t xsi:type=\"TS\"", " ", "value=\"2024\"/>")),
+        input("many attributes", format!("<t xsi:type=\"TS\"{attributes}/>")),
+        input("a long name", filled("<", "a", "/>")),
+        input("a long attribute's name", filled("<t xsi:type=\"TS\" ", "a", "=\"\"/>")),
+    ]
+}
+
+/// Texts that are long or wide.
+fn long_texts() -> Vec<Input> {
+    let mut inputs: Vec<Input> = [("ASCII", "a"), ("two bytes", "\u{EB}"), ("four bytes", "\u{10FFFF}"), ("digits", "9"), ("all widths", "a\u{EB}\u{20AC}\u{10000}")]
+        .map(|(what, one)| input(what, filled("", one, "")))
+        .into_iter()
+        .collect();
+    inputs.extend(["0001", "99991231235959.9999+1400", "20000229", "2024050112-14", "20240501123059.1+0530"].map(|text| input(text, text)));
+    inputs.push(input("too long", vec![b'a'; faults::MOST_BYTES + 1]));
+    inputs.push(input("none", ""));
+    inputs
+}
+
+/// The records of tests/records, and the pairs.
+fn stored() -> Vec<Input> {
+    let mut inputs = Vec::new();
+    for (table, count) in [(include_str!("records/check.txt"), 3), (include_str!("records/list.txt"), 5)] {
+        for (number, line) in table::lines(table) {
+            let words: Vec<&str> = line.splitn(count, ' ').collect();
+            let mut input = input(&format!("a stored record, line {number}"), table::bytes(words[count - 1]));
+            input.number = words[1].parse().unwrap();
+            inputs.push(input);
+        }
+    }
+    for (number, line) in table::lines(include_str!("records/compare.txt")) {
+        let words: Vec<&str> = line.splitn(3, ' ').collect();
+        let (first, second) = words[2].split_once(" ~ ").unwrap();
+        let mut input = input(&format!("a stored pair, line {number}"), table::bytes(first));
+        (input.second, input.number) = (table::bytes(second), words[1].parse().unwrap());
+        inputs.push(input);
+    }
+    inputs
+}
+
+/// An input that is made from random numbers, as tests/services.rs makes it.
+fn made(service: Service, random: &mut Random, calendar: &Calendar) -> Input {
+    let offset = random.from(0, 1680) as i64 - 840;
+    let mut maker = Maker { random, offset, calendar };
+    let (first, second) = match service {
+        Cut => (cut::text(maker.random), Vec::new()),
+        Tick => (tick::text(maker.random), Vec::new()),
+        Check => (maker.record(), Vec::new()),
+        List => (maker.record_to_list(), Vec::new()),
+        Compare => maker.pair(),
+    };
+    Input { what: "a made input".to_string(), first, second, number: offset }
+}
+
+// ---- The measurement -----------------------------------------------------------------------------------------------
+
+/// The most that some inputs take, and one of those that do.
+fn most<'a>(stack: &mut Stack, service: Service, inputs: impl Iterator<Item = &'a Input>) -> (usize, &'a Input) {
+    let measured = inputs.map(|input| (stack.measure(service, input), input));
+    measured.reduce(|most, next| if next.0 > most.0 { next } else { most }).unwrap()
+}
+
+fn options() -> Option<Options> {
+    let mut options = Options { cases: 10_000, seed: 1, only_made: false, service: None };
+    let mut words = std::env::args().skip(1);
+    while let Some(word) = words.next() {
+        match word.as_str() {
+            "--cases" => options.cases = words.next()?.parse().ok()?,
+            "--seed" => options.seed = words.next()?.parse().ok()?,
+            _ => return None,
+        }
+    }
+    Some(options)
+}
+
+fn main() -> ExitCode {
+    let Some(options) = options() else {
+        eprintln!("usage: stack [--cases N] [--seed S]");
+        return ExitCode::from(2);
+    };
+    let calendar = Calendar::new();
+    let mut random = Random::new(options.seed);
+    let mut stack = Stack::new();
+    let inputs: Vec<Input> = [nested_sets(), long_records(), long_texts(), stored()].into_iter().flatten().collect();
+    let mut within = true;
+    for (service, name, bound) in SERVICES {
+        let (bytes, deepest) = most(&mut stack, service, inputs.iter());
+        let bytes_of_made = (0..options.cases).map(|_| stack.measure(service, &made(service, &mut random, &calendar))).max().unwrap_or(0);
+        let shown = deepest.first[..deepest.first.len().min(60)].escape_ascii();
+        println!("{name:<8}{bytes:>8} bytes of stack at most, {bytes_of_made:>8} with inputs that are made; {bound:>8} are said to be enough");
+        println!("        by {}: {shown}", deepest.what);
+        within &= bytes.max(bytes_of_made) <= bound;
+    }
+    println!("{} inputs and {} that are made for each service", inputs.len(), options.cases);
+    if within { ExitCode::SUCCESS } else { ExitCode::from(1) }
+}
