@@ -1,11 +1,20 @@
-# The tables of docs/BENCH.md, from files PLACE/SERVICE.times and 0/SERVICE.instructions. Each has a line with names, `set bytes inputs` and
-# those of the sides, and then a line for each set.
+# One part of the tables of docs/BENCH.md, as the variable `part` says. Files PLACE/SERVICE.times and 0/SERVICE.instructions have a line with
+# names, `set bytes inputs` and those of the sides, and then a line for each set; 0/SERVICE.shares has a line for each function, with its share
+# of the instructions in percent.
 
 FNR == 1 {
   count = split(FILENAME, path, "/")
   split(path[count], file, ".")
   service = file[1]
   place = path[count - 1]
+}
+
+file[2] == "shares" {
+  shares[service] = shares[service] (shares[service] == "" ? "" : ", ") "`" $1 "` " $2 " %"
+  next
+}
+
+FNR == 1 {
   for (i = 4; i <= NF; i++) side[i] = $i
   next
 }
@@ -60,7 +69,7 @@ function head(columns,  count, names, i, line) {
   count = split(columns, names, "|")
   line = "|"
   for (i = 1; i <= count; i++) line = line "---|"
-  print "\n| " columns " |\n" line
+  print (titled ? "\n" : "") "| " columns " |\n" line
 }
 
 function glance(service, what, set, other, name) {
@@ -111,12 +120,12 @@ function by_place(service, other, sets,  count, names, i, j, places, line) {
   }
 }
 
+# A line above a table, with an empty one between it and a table before it.
 function title(text) {
-  print "\n" text
+  print (titled++ ? "\n" : "") text
 }
 
 function glances() {
-  title("## Ratios at a glance")
   head("Service | Input | Bytes | Instead of it | Instructions | Instead | Ratio | ns | Instead | Ratio")
   glance("cut", "ASCII", "ascii-100", "std", "Rust's std")
   glance("cut", "ASCII", "ascii-16000", "std", "Rust's std")
@@ -142,7 +151,6 @@ function glances() {
 
 function growths(  lengths) {
   lengths = "100 200 500 1000 2000 4000 8000 16000"
-  title("## How cost grows")
   title("Cutting ASCII, beside Rust's standard library:")
   growth("cut", "ascii", "std", lengths, "byte")
   title("Cutting words of mixed scripts, beside Rust's standard library:")
@@ -157,30 +165,51 @@ function growths(  lengths) {
   growth("list", "flat", "expat+icl", "1 2 4 8 16 32", "interval")
 }
 
-function details(  texts, records) {
+function cuts(  texts) {
   texts = "ascii latin scattered two three four planes mixed"
-  records = "time pass money badge reason name-100 name-1000 name-16000"
-  title("## By input")
-  title("Cutting, beside Rust's standard library:")
+  title("Beside Rust's standard library:")
   by_set("cut", "std", texts)
-  title("Cutting, beside glibc's `mbrtowc`:")
-  by_set("cut", "mbrtowc", texts)
-  title("Ratios of the time of cutting to that of Rust's standard library, by the place of the service:")
+  title("Ratios of time to Rust's standard library, by the place of the service:")
   by_place("cut", "std", texts)
-  title("Turning a timestamp into a tick, beside glibc:")
-  by_set("tick", "glibc", "desk all")
-  title("Listing, beside expat and Boost.ICL:")
-  by_set("list", "expat+icl", "flat-32 deep-32 both-32 less-32")
-  title("Listing, beside `rigcactus_check` of the same record:")
-  by_set("list", "check", "flat-1 flat-32 deep-32 both-32 less-32")
-  title("Comparing, beside expat's parse of both:")
+  title("Beside glibc's `mbrtowc`:")
+  by_set("cut", "mbrtowc", texts)
+}
+
+function lists(  records) {
+  records = "flat-1 flat-32 deep-32 both-32 less-32"
+  title("Beside expat and Boost.ICL:")
+  by_set("list", "expat+icl", records)
+  title("Beside `rigcactus_check` of the same record:")
+  by_set("list", "check", records)
+}
+
+function compares(  records) {
+  records = "time pass money badge reason name-100 name-1000 name-16000"
+  title("Beside expat's parse of both:")
   by_set("compare", "expat", records)
-  title("Comparing, beside `rigcactus_check` of both:")
+  title("Beside `rigcactus_check` of both:")
   by_set("compare", "check", records)
 }
 
+function share(service) {
+  print "| " service " | " (shares[service] == "" ? "-" : shares[service]) " |"
+}
+
+function all_shares() {
+  head("Service | Functions and their shares of its instructions, over all inputs of the bench")
+  share("cut")
+  share("tick")
+  share("check")
+  share("list")
+  share("compare")
+}
+
 END {
-  glances()
-  growths()
-  details()
+  if (part == "glance") glances()
+  else if (part == "shares") all_shares()
+  else if (part == "growth") growths()
+  else if (part == "cut") cuts()
+  else if (part == "tick") by_set("tick", "glibc", "desk all")
+  else if (part == "list") lists()
+  else if (part == "compare") compares()
 }
