@@ -108,7 +108,7 @@ benches = cut tick $(if $(expat),check compare $(if $(boost),list))
 bench: $(foreach bench,$(benches),$(places:%=target/bench/%/$(bench)))
 	@bench/times
 	@bench/instructions
-	@bench/ratios
+	@bench/ratios measured glance shares growth
 
 bench-page: bench
 	bench/page
