@@ -8,7 +8,8 @@
 #     make test     tries the library, the header and the program
 #     make sanitize runs the program's tests, and damaged records, under AddressSanitizer and UBSan
 #     make valgrind runs every command, and damaged records, under valgrind
-#     make bench    compares speed with Rust's standard library, with glibc and with expat
+#     make bench    compares speed with what would be used instead: Rust's standard library, glibc, expat, Boost.ICL
+#     make bench-page    the same, and puts the tables into docs/BENCH.md
 #     make compare-expat    compares the reader of markup with expat on a million texts; it needs expat
 #     make fuzz     fuzzes the services for half an hour, or for SECONDS=N; it needs clang with libFuzzer
 #     make clean    removes target/
@@ -46,8 +47,9 @@ places = 0 16 32 48
 cxx = $(shell command -v $(CXX) 2> /dev/null)
 can_sanitize = $(shell mkdir -p target && echo 'int main(void) { return 0; }' | $(CC) $(SANITIZE) -x c -o target/can_sanitize - 2> /dev/null && echo yes)
 expat = $(shell $(CC) -include expat.h -fsyntax-only -x c /dev/null 2> /dev/null && echo yes)
+boost = $(shell $(CXX) -include boost/version.hpp -fsyntax-only -x c++ /dev/null 2> /dev/null && echo yes)
 
-.PHONY: all run install uninstall test sanitize valgrind bench compare-expat fuzz clean
+.PHONY: all run install uninstall test sanitize valgrind bench bench-page compare-expat fuzz clean
 .DELETE_ON_ERROR:
 .SECONDARY:
 
@@ -206,11 +208,15 @@ target/fuzz/services: tests/fuzz/services.c $(header) target/fuzz/librigcactus.a
 	clang $(CFLAGS) -O1 -g -fsanitize=fuzzer,address,undefined -fno-sanitize-recover=all -Iinclude -o $@ $< $(@D)/librigcactus.a $(@D)/libsecond.a -lpthread -ldl -lm
 
 # The bench is linked with the services at four places, since their speed depends on that. Without expat nothing is there to compare
-# checking with.
-benches = cut tick $(if $(expat),check) list compare
+# checking and comparing with, and listing is compared with Boost.ICL's sets as well.
+benches = cut tick $(if $(expat),check compare $(if $(boost),list))
 bench: $(foreach bench,$(benches),$(places:%=target/bench/%/$(bench)))
 	@bench/times
 	@bench/instructions
+	@bench/ratios measured glance shares growth
+
+bench-page: bench
+	bench/page
 
 target/bench/%/librigcactus.a: $(archive) bench/place
 	bench/place $* $@ $(services)
@@ -218,17 +224,25 @@ target/bench/%/librigcactus.a: $(archive) bench/place
 target/bench/%/cut: bench/cut.rs target/bench/%/librigcactus.a
 	$(RUSTC) $(RUSTFLAGS) -o $@ $< -L native=$(@D) -l static=rigcactus
 
-target/bench/%/tick: bench/tick.c $(header) target/bench/%/librigcactus.a
+target/bench/%/tick: bench/tick.c bench/sides.h $(header) target/bench/%/librigcactus.a
 	$(CC) $(CFLAGS) -Iinclude -o $@ $< $(@D)/librigcactus.a
 
-target/bench/%/check: bench/check.c $(header) target/bench/%/librigcactus.a
+target/bench/%/check: bench/check.c bench/sides.h bench/records.h $(header) target/bench/%/librigcactus.a
 	$(CC) $(CFLAGS) -Iinclude -o $@ $< $(@D)/librigcactus.a -lexpat
 
-target/bench/%/list: bench/list.c $(header) target/bench/%/librigcactus.a
-	$(CC) $(CFLAGS) -Iinclude -o $@ $< $(@D)/librigcactus.a
+target/bench/%/compare: bench/compare.c bench/sides.h bench/records.h $(header) target/bench/compare_expat.o target/bench/%/librigcactus.a
+	$(CC) $(CFLAGS) -Iinclude -o $@ $< target/bench/compare_expat.o $(@D)/librigcactus.a -lexpat
 
-target/bench/%/compare: bench/compare.c $(header) target/bench/%/librigcactus.a
-	$(CC) $(CFLAGS) -Iinclude -o $@ $< $(@D)/librigcactus.a
+target/bench/%/list: bench/list.c bench/sides.h bench/records.h $(header) target/bench/list_expat_icl.o target/bench/%/librigcactus.a
+	$(CC) $(CFLAGS) -Iinclude -o $@ $< target/bench/list_expat_icl.o $(@D)/librigcactus.a -lexpat -lstdc++ -lm
+
+target/bench/compare_expat.o: bench/compare_expat.c bench/compare_expat.h $(header)
+	@mkdir -p $(@D)
+	$(CC) $(CFLAGS) -Iinclude -c -o $@ $<
+
+target/bench/list_expat_icl.o: bench/list_expat_icl.cpp bench/list_expat_icl.h $(header)
+	@mkdir -p $(@D)
+	$(CXX) -std=c++17 -O3 -Wall -Wextra -Werror -Iinclude -c -o $@ $<
 
 clean:
 	rm -rf target

@@ -1,74 +1,44 @@
 /*
- * Listing a set of times: rigcactus_list beside rigcactus_check on the same records. Listing judges a record as checking does, so that the
- * difference is what the sets cost.
- *
- *     list                          times both on every set of records, in one run, and prints the ratios
- *     list SIDE RECORDS TIMES       runs one side alone, TIMES over all records of a set: SIDE is rigcactus or check, RECORDS one of the
- *                                   table's (for counting instructions)
+ * Listing a set of times: rigcactus_list beside an expat parse with Boost.ICL's sets; and beside rigcactus_check of the same records, which
+ * is what judging them costs. sides.h says how it is run.
  */
 #define _POSIX_C_SOURCE 199309L
-#include "rigcactus.h"
+#include "list_expat_icl.h"
+#include "records.h"
 
-#include <stdbool.h>
-#include <stdio.h>
-#include <stdlib.h>
-#include <string.h>
-#include <time.h>
+/* What a record is: a union of intervals, sets of two members within sets, or two unions of half the intervals each in one set. */
+enum shape { FLAT, DEEP, BOTH, LESS };
 
-/* How many records a set has. */
-enum { RECORDS = 10 };
-
-/* Rounds over all records of a set. The best round counts. */
-enum { ROUNDS = 1000 };
-
-/* Records of so many intervals: a union of them, or sets within sets with the bounds at the eighth level. */
 struct set {
     const char *name;
     int intervals;
-    bool deep;
+    enum shape shape;
 };
 
 static const struct set sets[] = {
-    {"flat-1", 1, false},   {"flat-2", 2, false},   {"flat-4", 4, false}, {"flat-8", 8, false},
-    {"flat-16", 16, false}, {"flat-32", 32, false}, {"deep-32", 32, true},
+    {"flat-1", 1, FLAT},   {"flat-2", 2, FLAT},   {"flat-4", 4, FLAT},   {"flat-8", 8, FLAT},   {"flat-16", 16, FLAT},
+    {"flat-32", 32, FLAT}, {"deep-32", 32, DEEP}, {"both-32", 32, BOTH}, {"less-32", 32, LESS},
 };
 
-static const size_t set_count = sizeof sets / sizeof sets[0];
-
-struct record {
-    char bytes[RIGCACTUS_MOST_BYTES];
-    size_t length;
-};
-
-/* Whether a record is accepted. */
-typedef bool side(const struct record *);
-
+static struct record records[MOST_RECORDS];
 static uint8_t list[RIGCACTUS_MOST_LIST_BYTES];
+static struct rigcactus_stretch stretches[RIGCACTUS_MOST_INTERVALS];
 
-static bool rigcactus(const struct record *record)
+/* The listing sides give a count, and leave the stretches. */
+static int64_t rigcactus(size_t i)
 {
-    uint64_t answer = rigcactus_list((const uint8_t *)record->bytes, record->length, 0, list, sizeof list);
-    return rigcactus_refusal(answer) == RIGCACTUS_ACCEPTED;
+    uint64_t answer = rigcactus_list((const uint8_t *)records[i].bytes, records[i].length, 0, list, sizeof list);
+    return rigcactus_refusal(answer) == RIGCACTUS_ACCEPTED ? (int64_t)rigcactus_count(answer) : -1;
 }
 
-static bool check(const struct record *record)
+static int64_t expat_icl(size_t i)
 {
-    return rigcactus_check((const uint8_t *)record->bytes, record->length, 0) == RIGCACTUS_ACCEPTED;
+    return (int64_t)icl_list(records[i].bytes, records[i].length, stretches, RIGCACTUS_MOST_INTERVALS);
 }
 
-/* Numbers that look random and are the same in every run. */
-static int below(int end)
+static int64_t check(size_t i)
 {
-    static uint64_t state = 1;
-    state = state * UINT64_C(6364136223846793005) + UINT64_C(1442695040888963407);
-    return (int)(state >> 33) % end;
-}
-
-static void append(struct record *record, const char *text)
-{
-    size_t length = strlen(text);
-    memcpy(record->bytes + record->length, text, length);
-    record->length += length;
+    return rigcactus_check((const uint8_t *)records[i].bytes, records[i].length, 0) == RIGCACTUS_ACCEPTED;
 }
 
 /* An interval of a few hours on the n-th day of a year. */
@@ -79,6 +49,29 @@ static void append_interval(struct record *record, const char *name, int n)
              "<%s xsi:type=\"IVL_TS\" lowClosed=\"true\" highClosed=\"false\"><low value=\"2024%02d%02d09%02d\"/><high value=\"2024%02d%02d1%d%02d\"/></%s>",
              name, 1 + n / 28, 1 + n % 28, below(60), 1 + n / 28, 1 + n % 28, below(10), below(60), name);
     append(record, text);
+}
+
+static void append_start(struct record *record, const char *name, const char *type)
+{
+    char text[64];
+    snprintf(text, sizeof text, "<%s xsi:type=\"%s\">", name, type);
+    append(record, text);
+}
+
+static void append_end(struct record *record, const char *name)
+{
+    char text[64];
+    snprintf(text, sizeof text, "</%s>", name);
+    append(record, text);
+}
+
+/* The intervals of a union are in no order: every seventh day, and again from the next one on. */
+static void append_union(struct record *record, const char *name, int intervals)
+{
+    append_start(record, name, "QSU_TS");
+    for (int i = 0; i < intervals; i++)
+        append_interval(record, "term", i * 7 % intervals);
+    append_end(record, name);
 }
 
 /*
@@ -92,110 +85,77 @@ static void append_deep(struct record *record, const char *name, int level, int 
         return;
     }
     bool difference = level % 2 == 0 && intervals > 1;
-    char tag[64];
-    snprintf(tag, sizeof tag, "<%s xsi:type=\"%s\">", name, difference ? "QSD_TS" : "QSU_TS");
-    append(record, tag);
+    append_start(record, name, difference ? "QSD_TS" : "QSU_TS");
     int half = intervals > 1 ? intervals / 2 : intervals;
     append_deep(record, difference ? "minuend" : "term", level + 1, first, half);
     if (intervals > 1)
         append_deep(record, difference ? "subtrahend" : "term", level + 1, first + half, intervals - half);
-    snprintf(tag, sizeof tag, "</%s>", name);
-    append(record, tag);
+    append_end(record, name);
 }
 
-/* The intervals of a union are in no order: every seventh day, and again from the next one on. */
-static void make_record(const struct set *set, struct record *record)
+/* Two unions with intervals on the same days, which overlap. */
+static void append_pair(struct record *record, const char *type, const char *first, const char *second, int intervals)
+{
+    append_start(record, "stay", type);
+    append_union(record, first, intervals / 2);
+    append_union(record, second, intervals / 2);
+    append_end(record, "stay");
+}
+
+static void make_times(const struct set *set, struct record *record)
 {
     record->length = 0;
-    if (set->deep) {
+    if (set->shape == FLAT)
+        append_union(record, "stay", set->intervals);
+    else if (set->shape == DEEP)
         append_deep(record, "stay", 1, 0, set->intervals);
-        return;
-    }
-    append(record, "<stay xsi:type=\"QSU_TS\">");
-    for (int i = 0; i < set->intervals; i++)
-        append_interval(record, "term", i * 7 % set->intervals);
-    append(record, "</stay>");
+    else if (set->shape == BOTH)
+        append_pair(record, "QSI_TS", "term", "term", set->intervals);
+    else
+        append_pair(record, "QSD_TS", "minuend", "subtrahend", set->intervals);
 }
 
-/* Runs a side over all records, and says how many it accepted. */
-static int run(side *run_side, const struct record *records)
+static const char *set_name(size_t set)
 {
-    int accepted = 0;
-    for (int i = 0; i < RECORDS; i++)
-        accepted += run_side(&records[i]);
-    return accepted;
+    return sets[set].name;
 }
 
-/* The time of a round, in nanoseconds for each call. */
-static double round_time(side *run_side, const struct record *records)
+static bool is_same_stretch(struct rigcactus_stretch one, struct rigcactus_stretch other)
 {
-    static volatile int kept;
-    struct timespec start, end;
-    clock_gettime(CLOCK_MONOTONIC, &start);
-    kept = run(run_side, records);
-    clock_gettime(CLOCK_MONOTONIC, &end);
-    (void)kept;
-    return ((double)(end.tv_sec - start.tv_sec) * 1e9 + (double)(end.tv_nsec - start.tv_nsec)) / RECORDS;
+    return one.low_kind == other.low_kind && one.low_tick == other.low_tick && one.high_kind == other.high_kind &&
+           one.high_tick == other.high_tick;
 }
 
-static struct record records[RECORDS];
-
-/* Whether every record is listed, and a union of intervals that lie apart as those intervals. */
-static bool are_listed(const struct set *set)
+/* Both sides must come to the same stretches; those of a union are its intervals, which lie apart. */
+static bool is_agreed(const struct set *set, size_t i)
 {
-    for (int i = 0; i < RECORDS; i++) {
-        uint64_t answer = rigcactus_list((const uint8_t *)records[i].bytes, records[i].length, 0, list, sizeof list);
-        if (rigcactus_refusal(answer) != RIGCACTUS_ACCEPTED || (!set->deep && rigcactus_count(answer) != (size_t)set->intervals))
-            return false;
-    }
-    return true;
-}
-
-static bool compare(const struct set *set)
-{
-    for (int i = 0; i < RECORDS; i++)
-        make_record(set, &records[i]);
-    if (!are_listed(set) || run(check, records) != RECORDS) {
-        printf("%s: not all records are accepted, or not as they should be\n", set->name);
+    int64_t count = rigcactus(i);
+    if (!check(i) || count <= 0 || expat_icl(i) != count || (set->shape == FLAT && count != set->intervals))
         return false;
-    }
-    double ours = 1e9, theirs = 1e9;
-    for (int i = 0; i < ROUNDS; i++) {
-        double time = round_time(rigcactus, records);
-        ours = time < ours ? time : ours;
-        time = round_time(check, records);
-        theirs = time < theirs ? time : theirs;
-    }
-    printf("%-10s%10zu%11.1f ns%11.1f ns%14.2f%20.1f ns\n", set->name, records[0].length, ours, theirs, ours / theirs, ours / set->intervals);
+    for (size_t k = 0; k < (size_t)count; k++)
+        if (!is_same_stretch(rigcactus_stretch_at(list, k), stretches[k]))
+            return false;
     return true;
 }
 
-static int run_one(const char *side_name, const char *set_name, const char *times)
+static size_t prepare(size_t set)
 {
-    side *run_side = strcmp(side_name, "rigcactus") == 0 ? rigcactus : strcmp(side_name, "check") == 0 ? check : NULL;
-    for (size_t i = 0; i < set_count; i++) {
-        if (run_side != NULL && strcmp(sets[i].name, set_name) == 0) {
-            for (int j = 0; j < RECORDS; j++)
-                make_record(&sets[i], &records[j]);
-            for (int n = atoi(times); n > 0; n--)
-                round_time(run_side, records);
+    for (size_t i = 0; i < MOST_RECORDS; i++) {
+        make_times(&sets[set], &records[i]);
+        if (!is_agreed(&sets[set], i))
             return 0;
-        }
     }
-    return 2;
+    return MOST_RECORDS;
+}
+
+static size_t bytes(void)
+{
+    return records[0].length;
 }
 
 int main(int argc, char **argv)
 {
-    if (argc == 4)
-        return run_one(argv[1], argv[2], argv[3]);
-    if (argc != 1) {
-        fputs("usage: list [rigcactus|check RECORDS TIMES]\n", stderr);
-        return 2;
-    }
-    printf("%-10s%10s%14s%14s%14s%23s\n", "records", "bytes", "list", "check", "list / check", "list an interval");
-    for (size_t i = 0; i < set_count; i++)
-        if (!compare(&sets[i]))
-            return 1;
-    return 0;
+    static const struct side sides[] = {{"rigcactus", rigcactus}, {"expat+icl", expat_icl}, {"check", check}};
+    const struct bench bench = {sides, 3, sizeof sets / sizeof sets[0], set_name, prepare, bytes};
+    return icl_begin() ? bench_main(&bench, argc, argv) : 3;
 }
