@@ -114,12 +114,12 @@ pub fn char_length(s: &[u8], at: usize) -> usize
 }
 
 // The bytes that are tested together for being ASCII.
-const BLOCK: usize = 128;
+const BLOCK: usize = 32;
 
 // Whether the block at a position is ASCII.
 fn is_ascii_block(s: &[u8], at: usize) -> bool
-    requires { ⌜ at + 128 ≤ length (now s) ⌝ }
-    ensures { λ r. ⌜ r ≡ every isAscii (take 128 (drop at (now (s .entry)))) ⌝ }
+    requires { ⌜ at + 32 ≤ length (now s) ⌝ }
+    ensures { λ r. ⌜ r ≡ every isAscii (take 32 (drop at (now (s .entry)))) ⌝ }
 {
     let mut all = true;
     let mut k = 0;

@@ -45,7 +45,7 @@ loop-less c = search needs
 
 -- src/lib.rt:131:5
 loop-again : tie.Need-loop-again Inv-loop μ-loop
-loop-again c = skips-block _ _ _ 128 (c .before .before .before .loop .inv) (omega (arith, c .before .before .before .loop .inv .high)) (sym (c .before .is-ascii-block .ensures) ∙ not-false _ (c .if1 .left))
+loop-again c = skips-block _ _ _ 32 (c .before .before .before .loop .inv) (omega (arith, c .before .before .before .loop .inv .high)) (sym (c .before .is-ascii-block .ensures) ∙ not-false _ (c .if1 .left))
 
 -- src/lib.rt:126:1
 returns-2 : tie.Need-returns-2 Inv-loop μ-loop
