@@ -168,6 +168,9 @@ skips-block s i j n k h a = record {
   whole = k .whole ∙ rw (← take-append-drop n (drop j s)) (ascii-all (take n (drop j s)) (drop n (drop j s)) a ∙ ap isUtf8 (drop-drop n j s));
 }
 
+pub skips-on : {s : List ℕ} {i j k : ℕ} → Skips s i j → Skips s j k → Skips s i k
+skips-on a b = record { low = omega (arith, a .low, b .low); high = b .high; whole = a .whole ∙ b .whole }
+
 pub after-ascii : (s : List ℕ) (at j : ℕ) → at < length s → getD s at 0 < 128 → Skips s (at + 1) j → isUtf8 (drop at s) ≡ isUtf8 (drop j s)
 after-ascii s at j h a k = first ∙ k .whole
   where

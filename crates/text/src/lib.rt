@@ -113,45 +113,43 @@ pub fn char_length(s: &[u8], at: usize) -> usize
     }
 }
 
-// The bytes that are tested together for being ASCII.
-const BLOCK: usize = 32;
-
-// Whether the block at a position is ASCII.
-fn is_ascii_block(s: &[u8], at: usize) -> bool
-    requires { ⌜ at + 32 ≤ length (now s) ⌝ }
-    ensures { λ r. ⌜ r ≡ every isAscii (take 32 (drop at (now (s .entry)))) ⌝ }
+// Whether the bytes of a block, so many from a position on, are ASCII.
+fn is_ascii_block(s: &[u8], at: usize, size: usize) -> bool
+    requires { ⌜ at + size ≤ length (now s) ⌝ }
+    ensures { λ r. ⌜ r ≡ every isAscii (take size (drop at (now (s .entry)))) ⌝ }
 {
     let mut all = true;
     let mut k = 0;
-    while k < BLOCK {
+    while k < size {
         all = all & (s[at + k] < 128);
         k += 1;
     }
     all
 }
 
-// The end of the blocks of ASCII that begin at a position.
-fn skip_ascii_blocks(s: &[u8], at: usize) -> usize
-    requires { ⌜ at ≤ length (now s) ⌝ }
+// The end of the blocks of ASCII that begin at a position, each of so many bytes.
+fn skip_ascii_blocks(s: &[u8], at: usize, size: usize) -> usize
+    requires { ⌜ at ≤ length (now s) ⌝ ∗ ⌜ 1 ≤ size ⌝ }
     ensures { λ r. ⌜ Skips (now (s .entry)) at r ⌝ }
 {
     let mut i = at;
-    while BLOCK <= s.len() - i {
-        if !is_ascii_block(s, i) {
+    while size <= s.len() - i {
+        if !is_ascii_block(s, i, size) {
             return i;
         }
-        i += BLOCK;
+        i += size;
     }
     i
 }
 
-// How far to go past an ASCII byte: one byte, and at some positions the blocks that follow it too.
+// How far to go past an ASCII byte: one byte, and at some positions the blocks that follow it too, large ones and then small ones.
 fn after_ascii(s: &[u8], at: usize) -> usize
     requires { ⌜ at < length (now s) ⌝ }
     ensures { λ r. ⌜ Skips (now (s .entry)) (at + 1) r ⌝ }
 {
     if at % 64 == 0 {
-        return skip_ascii_blocks(s, at + 1);
+        let end = skip_ascii_blocks(s, at + 1, 128);
+        return skip_ascii_blocks(s, end, 32);
     }
     at + 1
 }

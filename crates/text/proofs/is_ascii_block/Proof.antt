@@ -14,10 +14,10 @@ use Rattle.text.proofs.is_ascii_block.Reads as reads
 use Rattle.text.proofs.is_ascii_block.Lts as lts
 
 abbrev Inv-loop : tie.InvT-loop
-Inv-loop s at all₀ k₀ all k = (k ≤ 32) × (all ≡ every isAscii (take k (drop at s)))
+Inv-loop s at size all₀ k₀ all k = (k ≤ size) × (all ≡ every isAscii (take k (drop at s)))
 
 abbrev μ-loop : tie.MeasureT-loop
-μ-loop s at all₀ k₀ all k = 32 - k
+μ-loop s at size all₀ k₀ all k = size - k
 
 -- src/lib.rt:118:5
 loop-holds : tie.Need-loop-holds Inv-loop μ-loop
@@ -46,7 +46,7 @@ loop-again c = (omega arith, rw (c .before .before .loop .inv .1) (every-more is
 
 -- src/lib.rt:112:1
 returns : tie.Need-returns Inv-loop μ-loop
-returns c = let e : c .before .loop .k ≡ 32 = omega arith in c .before .loop .inv .1 ∙ ap (λ k. every isAscii (take k (drop (c .before .before .args .at) (c .before .before .args .s .now)))) e
+returns c = let e : c .before .loop .k ≡ c .before .before .args .size = omega arith in c .before .loop .inv .1 ∙ ap (λ k. every isAscii (take k (drop (c .before .before .args .at) (c .before .before .args .s .now)))) e
 
 pub is-ascii-block-spec : {M : Type 1} → statement M
 is-ascii-block-spec =

@@ -14,14 +14,14 @@ use Rattle.text.proofs.skip_ascii_blocks.Lts as lts
 use Rattle.text.proofs.is_ascii_block.Reads as is-ascii-block-reads
 
 abbrev Inv-loop : tie.InvT-loop
-Inv-loop s at i₀ i = Skips s at i
+Inv-loop s at size i₀ i = Skips s at i
 
 abbrev μ-loop : tie.MeasureT-loop
-μ-loop s at i₀ i = length s - i
+μ-loop s at size i₀ i = length s - i
 
 -- src/lib.rt:131:5
 loop-holds : tie.Need-loop-holds Inv-loop μ-loop
-loop-holds c = skips-none _ _ (c .before .pre)
+loop-holds c = skips-none _ _ (c .before .pre .0)
 
 -- src/lib.rt:131:20
 sub-loop : tie.Need-sub-loop Inv-loop μ-loop
@@ -45,7 +45,7 @@ loop-less c = search needs
 
 -- src/lib.rt:131:5
 loop-again : tie.Need-loop-again Inv-loop μ-loop
-loop-again c = skips-block _ _ _ 32 (c .before .before .before .loop .inv) (omega (arith, c .before .before .before .loop .inv .high)) (sym (c .before .is-ascii-block .ensures) ∙ not-false _ (c .if1 .left))
+loop-again c = skips-block _ _ _ _ (c .before .before .before .loop .inv) (omega (arith, c .before .before .before .loop .inv .high)) (sym (c .before .is-ascii-block .ensures) ∙ not-false _ (c .if1 .left))
 
 -- src/lib.rt:126:1
 returns-2 : tie.Need-returns-2 Inv-loop μ-loop
