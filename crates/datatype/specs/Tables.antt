@@ -1,16 +1,20 @@
 -- What the code's table says, in the words of the rules ("Types, after decoding the five references").
 use Prim.Native.Nat.{ℕ}
+use mathlib.Core.Path.{_≡_}
 use mathlib.Core.Bool.{Bool, true, false, _&&_, cond}
 use mathlib.Core.List.{List, [], _∷_, _++_}
 use mathlib.Core.Option.{Option, none, some}
 use Rattle.rules.specs.Basics.{same, isFrom}
 use Rattle.rules.specs.Forms.{Form}
-use Rattle.rules.specs.Types.{Kind, Column as RulesColumn, ChildKind, always, typed, Child, lineOf}
+use Rattle.rules.specs.Types.{Kind, Column as RulesColumn, ChildKind, always, typed, Child, Line as RulesLine, IVL-TS, QSU-TS, QSD-TS, CD, EN, lineOf}
 use Rattle.rules.specs.Judge.{Standing as RulesStanding, top, member, inside, typeColumns, nullColumns}
 use Rattle.form.specs.Meaning.{formOf}
 use Rattle.datatype.specs.Meaning.{kindMeant}
 use Rattle.datatype.specs.declared.table.Standing.{Standing}
 use Rattle.datatype.specs.declared.table.Standing.the-variants.{Top, Member, Inside}
+use Rattle.datatype.specs.declared.table.Row.{Row}
+use Rattle.datatype.specs.declared.table.Row.the-variants.{Empty, Bounds, Terms, Difference, Display, Parts}
+use Rattle.datatype.specs.declared.table.Line.{Line}
 use Rattle.datatype.specs.declared.table.Next.{Next}
 use Rattle.datatype.specs.declared.table.Next.the-variants.{Always, Typed, Nothing as NoStep}
 use Rattle.datatype.specs.declared.table.Column.{Column}
@@ -43,6 +47,21 @@ abbrev pub hasTypeColumn : RulesStanding → Bool
 hasTypeColumn top = true
 hasTypeColumn member = true
 hasTypeColumn inside = false
+
+-- the children that a row holds, by a type line that has it
+abbrev pub rowMeant : Row → List Child
+rowMeant Empty = []
+rowMeant Bounds = lineOf IVL-TS .children
+rowMeant Terms = lineOf QSU-TS .children
+rowMeant Difference = lineOf QSD-TS .children
+rowMeant Display = lineOf CD .children
+rowMeant Parts = lineOf EN .children
+
+-- the constants of a type line
+pub record LineMeant (line : RulesLine) (r : Line) : Type 0 where
+  pub nullable : r .0 ≡ line .nullable
+  pub enough : r .1 ≡ line .enough
+  pub row : rowMeant (r .2) ≡ line .children
 
 -- a step of a row of children: the child's kind, and the stage that the row is brought to
 pub record Step : Type 0 where

@@ -12,7 +12,7 @@ ghost use Rattle.rules.specs.Types.{CD, Part, lineOf};
 ghost use Rattle.rules.specs.Judge.{nullColumns};
 ghost use Rattle.form.specs.Meaning.{formOf};
 ghost use Rattle.datatype.specs.Meaning.{kindMeant};
-ghost use Rattle.datatype.specs.Tables.{formMeant, formAmong, columnsOf, standingMeant, hasTypeColumn, stepMeant, stepAmong};
+ghost use Rattle.datatype.specs.Tables.{formMeant, formAmong, columnsOf, standingMeant, hasTypeColumn, LineMeant, stepMeant, stepAmong};
 use crate::kind::Kind;
 use element::is_named;
 use form::Form;
@@ -95,23 +95,51 @@ fn part_column(name: &[u8]) -> Column
     takes(name, b"value", Form::AnyText, part)
 }
 
+// The rows of children that kinds have: none; low and high; terms; a minuend and a subtrahend; a displayName; parts.
+enum Row {
+    Empty,
+    Bounds,
+    Terms,
+    Difference,
+    Display,
+    Parts,
+}
+
+// What is constant in a type line: whether the element may carry a nullFlavor, the stage that its row of children reaches unless it is null,
+// and the row.
+struct Line(bool, u64, Row);
+
+// The line of a kind.
+fn line_of(kind: Kind) -> Line
+    ensures { λ r. ⌜ LineMeant (lineOf (kindMeant kind)) r ⌝ }
+{
+    match kind {
+        Kind::Ts => Line(true, 0, Row::Empty),
+        Kind::IvlTs => Line(true, 0, Row::Bounds),
+        Kind::QsuTs => Line(true, 1, Row::Terms),
+        Kind::QsiTs => Line(true, 1, Row::Terms),
+        Kind::QsdTs => Line(true, 2, Row::Difference),
+        Kind::Mo => Line(true, 0, Row::Empty),
+        Kind::Ii => Line(true, 0, Row::Empty),
+        Kind::Cd => Line(true, 0, Row::Display),
+        Kind::En => Line(true, 1, Row::Parts),
+        Kind::DisplayName => Line(false, 0, Row::Empty),
+        Kind::Part => Line(true, 0, Row::Empty),
+    }
+}
+
 // Whether elements of a kind may carry a nullFlavor.
 fn is_nullable(kind: Kind) -> bool
     ensures { λ r. ⌜ r ≡ lineOf (kindMeant kind) .nullable ⌝ }
 {
-    match kind {
-        Kind::Ts => true,
-        Kind::IvlTs => true,
-        Kind::QsuTs => true,
-        Kind::QsiTs => true,
-        Kind::QsdTs => true,
-        Kind::Mo => true,
-        Kind::Ii => true,
-        Kind::Cd => true,
-        Kind::En => true,
-        Kind::DisplayName => false,
-        Kind::Part => true,
-    }
+    line_of(kind).0
+}
+
+// The stage that a row of children of an element of a kind reaches, unless the element is null.
+pub fn enough(kind: Kind) -> u64
+    ensures { λ r. ⌜ r ≡ lineOf (kindMeant kind) .enough ⌝ }
+{
+    line_of(kind).1
 }
 
 // Whether an element carries an xsi:type where it stands.
@@ -154,10 +182,21 @@ pub enum Next {
     Nothing,
 }
 
-// A step that is taken if the child has the step's name and the row stands at a stage from `low` to `high`; otherwise another.
-fn step_if(named: bool, stage: u64, low: u64, high: u64, step: Next, other: Next) -> Next
-    ensures { λ r. ⌜ stepMeant r ≡ cond (named && isFrom low high stage) (stepMeant step) (stepMeant other) ⌝ }
+// A step that is taken if the element at a position has the step's name and the row stands at a stage from `low` to `high`; otherwise another.
+fn step_if(
+    s: &[u8],
+    at: usize,
+    stage: u64,
+    name: &[u8],
+    low: u64,
+    high: u64,
+    step: Next,
+    other: Next,
+) -> Next
+    requires { ⌜ at ≤ length (now s) ⌝ }
+    ensures { λ r. ⌜ ((d : ℕ) (v : Element) → ElementAt (now (s .entry)) at d v → stepMeant r ≡ cond (same (now (name .entry)) (v .name) && isFrom low high stage) (stepMeant step) (stepMeant other)) ⌝ }
 {
+    let named = is_named(s, at, name);
     if named & ((low <= stage) & (stage <= high)) {
         return step;
     }
@@ -170,84 +209,25 @@ pub fn next_child(s: &[u8], at: usize, kind: Kind, stage: u64) -> Next
     ensures { λ r. ⌜ ((d : ℕ) (v : Element) → ElementAt (now (s .entry)) at d v → stepMeant r ≡ stepAmong (lineOf (kindMeant kind) .children) stage (v .name)) ⌝ }
 {
     let none = Next::Nothing;
-    match kind {
-        Kind::IvlTs => {
-            let high = step_if(
-                is_named(s, at, b"high"),
-                stage,
-                0,
-                1,
-                Next::Always(Kind::Ts, 2),
-                none,
-            );
-            step_if(
-                is_named(s, at, b"low"),
-                stage,
-                0,
-                0,
-                Next::Always(Kind::Ts, 1),
-                high,
-            )
+    let row = line_of(kind).2;
+    match row {
+        Row::Empty => none,
+        Row::Bounds => {
+            let high = step_if(s, at, stage, b"high", 0, 1, Next::Always(Kind::Ts, 2), none);
+            step_if(s, at, stage, b"low", 0, 0, Next::Always(Kind::Ts, 1), high)
         }
-        Kind::QsuTs => step_if(is_named(s, at, b"term"), stage, 0, 1, Next::Typed(1), none),
-        Kind::QsiTs => step_if(is_named(s, at, b"term"), stage, 0, 1, Next::Typed(1), none),
-        Kind::QsdTs => {
-            let subtrahend = step_if(
-                is_named(s, at, b"subtrahend"),
-                stage,
-                1,
-                1,
-                Next::Typed(2),
-                none,
-            );
-            step_if(
-                is_named(s, at, b"minuend"),
-                stage,
-                0,
-                0,
-                Next::Typed(1),
-                subtrahend,
-            )
+        Row::Terms => step_if(s, at, stage, b"term", 0, 1, Next::Typed(1), none),
+        Row::Difference => {
+            let last = step_if(s, at, stage, b"subtrahend", 1, 1, Next::Typed(2), none);
+            step_if(s, at, stage, b"minuend", 0, 0, Next::Typed(1), last)
         }
-        Kind::Cd => step_if(
-            is_named(s, at, b"displayName"),
-            stage,
-            0,
-            0,
-            Next::Always(Kind::DisplayName, 1),
-            none,
-        ),
-        Kind::En => step_if(
-            is_named(s, at, b"part"),
-            stage,
-            0,
-            1,
-            Next::Always(Kind::Part, 1),
-            none,
-        ),
-        Kind::Ts => none,
-        Kind::Mo => none,
-        Kind::Ii => none,
-        Kind::DisplayName => none,
-        Kind::Part => none,
-    }
-}
-
-// The stage that a row of children of an element of a kind reaches, unless the element is null.
-pub fn enough(kind: Kind) -> u64
-    ensures { λ r. ⌜ r ≡ lineOf (kindMeant kind) .enough ⌝ }
-{
-    match kind {
-        Kind::Ts => 0,
-        Kind::IvlTs => 0,
-        Kind::QsuTs => 1,
-        Kind::QsiTs => 1,
-        Kind::QsdTs => 2,
-        Kind::Mo => 0,
-        Kind::Ii => 0,
-        Kind::Cd => 0,
-        Kind::En => 1,
-        Kind::DisplayName => 0,
-        Kind::Part => 0,
+        Row::Display => {
+            let step = Next::Always(Kind::DisplayName, 1);
+            step_if(s, at, stage, b"displayName", 0, 0, step, none)
+        }
+        Row::Parts => {
+            let step = Next::Always(Kind::Part, 1);
+            step_if(s, at, stage, b"part", 0, 1, step, none)
+        }
     }
 }

@@ -8,7 +8,8 @@ ghost use Rattle.rules.specs.Parsers.{ok};
 ghost use Rattle.rules.specs.Markup.{value};
 ghost use Rattle.rules.specs.Forms.{isQualifiers};
 ghost use Rattle.form.specs.Words.{alongBy, isQualifier};
-use crate::parts::part_end;
+use crate::parts::Part;
+use crate::parts::are_parts;
 use element::value::next;
 use element::value::start;
 use markup::value::Char;
@@ -52,7 +53,7 @@ pub fn has_word(s: &[u8], q: usize, w: &[u8]) -> bool
 }
 
 // Whether a word is a qualifier.
-fn is_qualifier(w: &[u8]) -> bool
+pub fn is_qualifier(w: &[u8]) -> bool
     ensures { λ r. ⌜ r ≡ isQualifier (now (w .entry)) ⌝ }
 {
     text::is_same(w, b"LS")
@@ -74,15 +75,5 @@ fn is_qualifier(w: &[u8]) -> bool
 pub fn is_qualifiers(t: &[u8]) -> bool
     ensures { λ r. ⌜ r ≡ isQualifiers (now (t .entry)) ⌝ }
 {
-    let mut from = 0;
-    loop {
-        let end = part_end(t, from, b' ');
-        if !is_qualifier(&t[from..end]) {
-            return false;
-        }
-        if end == t.len() {
-            return true;
-        }
-        from = end + 1;
-    }
+    are_parts(t, b' ', Part::Qualifier)
 }

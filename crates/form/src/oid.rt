@@ -3,8 +3,10 @@ ghost use mathlib.Core.Path.{_≡_};
 ghost use mathlib.Core.Bool.{true, _&&_, _||_};
 ghost use Prim.Native.Nat.{_<_};
 ghost use lib.Dec.{leb, eqb};
-ghost use Rattle.rules.specs.Basics.{every, split, decimal};
+ghost use Rattle.rules.specs.Basics.{decimal};
 ghost use Rattle.rules.specs.Forms.{isPlainNumber, isRoot};
+use crate::parts::Part;
+use crate::parts::are_parts;
 use crate::parts::part_end;
 use text::digits;
 
@@ -12,7 +14,7 @@ use text::digits;
 const MOST: usize = 128;
 
 // Whether a text is a number: digits, with no leading zero.
-fn is_number(n: &[u8]) -> bool
+pub fn is_number(n: &[u8]) -> bool
     ensures { λ r. ⌜ r ≡ isPlainNumber (now (n .entry)) ⌝ }
 {
     if n.len() == 0 {
@@ -52,23 +54,6 @@ fn may_lead(a: &[u8], b: &[u8]) -> bool
     true
 }
 
-// Whether a text is numbers parted by dots.
-fn are_numbers(t: &[u8]) -> bool
-    ensures { λ r. ⌜ r ≡ every isPlainNumber (split 46 (now (t .entry))) ⌝ }
-{
-    let mut from = 0;
-    loop {
-        let end = part_end(t, from, b'.');
-        if !is_number(&t[from..end]) {
-            return false;
-        }
-        if end == t.len() {
-            return true;
-        }
-        from = end + 1;
-    }
-}
-
 // Whether a text is an OID of at most 128 bytes.
 pub fn is_root(t: &[u8]) -> bool
     ensures { λ r. ⌜ r ≡ isRoot (now (t .entry)) ⌝ }
@@ -76,7 +61,7 @@ pub fn is_root(t: &[u8]) -> bool
     if MOST < t.len() {
         return false;
     }
-    if !are_numbers(t) {
+    if !are_parts(t, b'.', Part::Number) {
         return false;
     }
     let first = part_end(t, 0, b'.');

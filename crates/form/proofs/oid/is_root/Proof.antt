@@ -8,7 +8,7 @@ use Rattle.form.proofs.oid.is_root.Statement.{statement}
 use Rattle.form.proofs.oid.is_root.Tie as tie
 use Rattle.form.proofs.oid.is_root.Reads as reads
 use Rattle.form.proofs.oid.is_root.Lts as lts
-use Rattle.form.proofs.oid.are_numbers.Reads as are-numbers-reads
+use Rattle.form.proofs.parts.are_parts.Reads as are-parts-reads
 use Rattle.form.proofs.oid.may_lead.Reads as may-lead-reads
 use Rattle.form.proofs.parts.part_end.Reads as part-end-reads
 
@@ -17,12 +17,12 @@ returns : tie.Need-returns
 returns c = root-long (c .before .before .args .t .now) (c .if1 .taken)
 
 -- src/oid.rt:79:9
-are-numbers-requires : tie.Need-are-numbers-requires
-are-numbers-requires c κs = search needs
+are-parts-requires : tie.Need-are-parts-requires
+are-parts-requires c κs = search needs
 
 -- src/oid.rt:80:9
 returns-2 : tie.Need-returns-2
-returns-2 c = root-other (c .before .before .before .before .args .t .now) (sym (c .before .are-numbers .ensures) ∙ not-true _ (c .if2 .taken))
+returns-2 c = root-other (c .before .before .before .before .args .t .now) (sym (c .before .are-parts .ensures) ∙ not-true _ (c .if2 .taken))
 
 -- src/oid.rt:82:9
 part-end-requires : tie.Need-part-end-requires
@@ -66,18 +66,18 @@ part-may-lead-end-2 c = search needs
 
 -- src/oid.rt:88:5
 may-lead-requires : tie.Need-may-lead-requires
-may-lead-requires c κs = root-numbers (c .before .before .before .before .before .before .before .before .before .args .t .now) _ _ (sym (c .before .before .before .before .before .before .are-numbers .ensures) ∙ not-false _ (c .before .before .before .before .before .if2 .left)) (c .before .before .before .before .part-end .ensures) (omega (arith, c .before .before .before .before .part-end .ensures .high, c .before .before .before .if3 .left)) (c .before .before .part-end2 .ensures)
+may-lead-requires c κs = root-numbers (c .before .before .before .before .before .before .before .before .before .args .t .now) _ _ (sym (c .before .before .before .before .before .before .are-parts .ensures) ∙ not-false _ (c .before .before .before .before .before .if2 .left)) (c .before .before .before .before .part-end .ensures) (omega (arith, c .before .before .before .before .part-end .ensures .high, c .before .before .before .if3 .left)) (c .before .before .part-end2 .ensures)
 
 -- src/oid.rt:73:1
 returns-4 : tie.Need-returns-4
-returns-4 c = c .may-lead .ensures ∙ root-two (c .before .before .before .before .before .before .before .before .before .before .args .t .now) _ _ (sym (c .before .before .before .before .before .before .before .are-numbers .ensures) ∙ not-false _ (c .before .before .before .before .before .before .if2 .left)) (c .before .before .before .before .before .part-end .ensures) (omega (arith, c .before .before .before .before .before .part-end .ensures .high, c .before .before .before .before .if3 .left)) (c .before .before .before .part-end2 .ensures) (c .before .before .before .before .before .before .before .before .if1 .left)
+returns-4 c = c .may-lead .ensures ∙ root-two (c .before .before .before .before .before .before .before .before .before .before .args .t .now) _ _ (sym (c .before .before .before .before .before .before .before .are-parts .ensures) ∙ not-false _ (c .before .before .before .before .before .before .if2 .left)) (c .before .before .before .before .before .part-end .ensures) (omega (arith, c .before .before .before .before .before .part-end .ensures .high, c .before .before .before .before .if3 .left)) (c .before .before .before .part-end2 .ensures) (c .before .before .before .before .before .before .before .before .if1 .left)
 
 pub is-root-spec : {M : Type 1} → statement M
 is-root-spec =
     tie.close
     (tie.spec
     returns
-    are-numbers-requires
+    are-parts-requires
     returns-2
     part-end-requires
     returns-3

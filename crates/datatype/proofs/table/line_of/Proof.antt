@@ -1,112 +1,89 @@
--- `datatype::table::is_nullable` meets its contract.
+-- `datatype::table::line_of` meets its contract: each kind's line, by the rules' line.
+use mathlib.Core.Path.{refl}
 use Rattle.rules.specs.Types.{lineOf}
 use borrow.Author.Needs.{needs}
-use Rattle.datatype.proofs.table.is_nullable.Statement.{statement}
-use Rattle.datatype.proofs.table.is_nullable.Tie as tie
-use Rattle.datatype.proofs.table.is_nullable.Reads as reads
-use Rattle.datatype.proofs.table.is_nullable.Lts as lts
+use Rattle.datatype.proofs.table.line_of.Statement.{statement}
+use Rattle.datatype.proofs.table.line_of.Tie as tie
 
--- src/table.rt:83:21
 enum-told : tie.Need-enum-told
 enum-told c = search needs
 
--- src/table.rt:84:24
 enum-told-2 : tie.Need-enum-told-2
 enum-told-2 c = search needs
 
--- src/table.rt:85:24
 enum-told-3 : tie.Need-enum-told-3
 enum-told-3 c = search needs
 
--- src/table.rt:86:24
 enum-told-4 : tie.Need-enum-told-4
 enum-told-4 c = search needs
 
--- src/table.rt:87:24
 enum-told-5 : tie.Need-enum-told-5
 enum-told-5 c = search needs
 
--- src/table.rt:88:21
 enum-told-6 : tie.Need-enum-told-6
 enum-told-6 c = search needs
 
--- src/table.rt:89:21
 enum-told-7 : tie.Need-enum-told-7
 enum-told-7 c = search needs
 
--- src/table.rt:90:21
 enum-told-8 : tie.Need-enum-told-8
 enum-told-8 c = search needs
 
--- src/table.rt:91:21
 enum-told-9 : tie.Need-enum-told-9
 enum-told-9 c = search needs
 
--- src/table.rt:92:30
 enum-told-10 : tie.Need-enum-told-10
 enum-told-10 c = search needs
 
--- src/table.rt:93:23
 enum-told-11 : tie.Need-enum-told-11
 enum-told-11 c = search needs
 
--- src/table.rt:79:1
 returns : tie.Need-returns
 unfolding lineOf
-returns c = rw (c .enum-told .given .1)
+returns c = search needs
 
--- src/table.rt:79:1
 returns-2 : tie.Need-returns-2
 unfolding lineOf
-returns-2 c = rw (c .enum-told2 .given .1)
+returns-2 c = search needs
 
--- src/table.rt:79:1
 returns-3 : tie.Need-returns-3
 unfolding lineOf
-returns-3 c = rw (c .enum-told3 .given .1)
+returns-3 c = search needs
 
--- src/table.rt:79:1
 returns-4 : tie.Need-returns-4
 unfolding lineOf
-returns-4 c = rw (c .enum-told4 .given .1)
+returns-4 c = search needs
 
--- src/table.rt:79:1
 returns-5 : tie.Need-returns-5
 unfolding lineOf
-returns-5 c = rw (c .enum-told5 .given .1)
+returns-5 c = search needs
 
--- src/table.rt:79:1
 returns-6 : tie.Need-returns-6
 unfolding lineOf
-returns-6 c = rw (c .enum-told6 .given .1)
+returns-6 c = search needs
 
--- src/table.rt:79:1
 returns-7 : tie.Need-returns-7
 unfolding lineOf
-returns-7 c = rw (c .enum-told7 .given .1)
+returns-7 c = search needs
 
--- src/table.rt:79:1
 returns-8 : tie.Need-returns-8
 unfolding lineOf
-returns-8 c = rw (c .enum-told8 .given .1)
+returns-8 c = search needs
 
--- src/table.rt:79:1
 returns-9 : tie.Need-returns-9
 unfolding lineOf
-returns-9 c = rw (c .enum-told9 .given .1)
+returns-9 c = search needs
 
--- src/table.rt:79:1
 returns-10 : tie.Need-returns-10
 unfolding lineOf
-returns-10 c = rw (c .enum-told10 .given .1)
+returns-10 c = search needs
 
--- src/table.rt:79:1
 returns-11 : tie.Need-returns-11
 unfolding lineOf
-returns-11 c = rw (c .enum-told11 .given .1)
+returns-11 c = search needs
 
-pub is-nullable-spec : {M : Type 1} → statement M
-is-nullable-spec =
+pub line-of-spec : {M : Type 1} → statement M
+line-of-spec =
     tie.close
     (tie.spec
     enum-told
