@@ -168,6 +168,10 @@ fn zones() {
         b"2024050112+1401;2024050112-1401;2024050112+15;2024050112-15;2024050112+9959;",
         60,
     );
+}
+
+// Texts that are no offset, or that stand where none may, and offsets at the first and the last time.
+fn other_zones() {
     show_texts(
         b"no zone",
         b"2024050112Z;20240501120000Z;2024050112z;2024050112+;2024050112+1;2024050112+001;2024050112+00000;2024050112+01:00;",
@@ -246,6 +250,7 @@ fn main() {
     precisions();
     parts();
     zones();
+    other_zones();
     forms();
     most_bytes();
     too_many_bytes();

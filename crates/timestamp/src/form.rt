@@ -1,8 +1,11 @@
 // The form of a timestamp: what is written, before anything is asked of its numbers.
 ghost use mathlib.Core.Path.{_≡_};
-ghost use Prim.Native.Nat.{_≤_, _<_};
+ghost use mathlib.Core.Bool.{cond};
+ghost use mathlib.Core.List.{List, [], _∷_, _++_};
+ghost use Prim.Native.Nat.{ℕ, _+_, _^_, _≤_, _<_};
+ghost use lib.Dec.{eqb};
 ghost use lib.ListN.{length};
-ghost use Rattle.timestamp.specs.Written.{PartsAt, HoursAt, ZoneAt, ZoneBy, fractionAfter, zoneAfter, FormOf};
+ghost use Rattle.timestamp.specs.Written.{partsOf, PartsAt, HoursAt, ZoneAt, ZoneBy, fractionAfter, zoneAfter, FormOf};
 ghost use Rattle.text.specs.Numbers.{FractionBy};
 use text::digits;
 use text::digits::Fraction;
@@ -52,6 +55,33 @@ pub enum Form {
     Bad,
 }
 
+// A number where one more part is read into its place, the number before elsewhere.
+fn placed(before: u64, place: usize, count: usize, n: u64) -> u64
+    ensures { λ r. ⌜ r ≡ cond (eqb count place) n before ⌝ }
+{
+    if count == place {
+        return n;
+    }
+    before
+}
+
+// The parts with one more after them, of two digits.
+fn with_next(p: Parts, n: u64) -> Parts
+    requires { ⌜ p .count < 5 ⌝ ∗ ⌜ p .end + 2 < 2 ^ 64 ⌝ }
+    ensures { λ r. ⌜ ((l : List ℕ) → p ≡ partsOf l (p .end) → r ≡ partsOf (l ++ n ∷ []) (p .end + 2)) ⌝ }
+{
+    let count = p.count;
+    Parts {
+        count: count + 1,
+        month: placed(p.month, 0, count, n),
+        day: placed(p.day, 1, count, n),
+        hour: placed(p.hour, 2, count, n),
+        minute: placed(p.minute, 3, count, n),
+        second: placed(p.second, 4, count, n),
+        end: p.end + 2,
+    }
+}
+
 // The parts after the year.
 fn read_parts(s: &[u8]) -> Parts
     requires { ⌜ 4 ≤ length (now s) ⌝ }
@@ -66,38 +96,15 @@ fn read_parts(s: &[u8]) -> Parts
         second: 0,
         end: 4,
     };
-    let Number::Is(month) = digits::read(s, 4, 2) else {
-        return p;
-    };
-    p.count = 1;
-    p.month = month;
-    p.end = 6;
-    let Number::Is(day) = digits::read(s, 6, 2) else {
-        return p;
-    };
-    p.count = 2;
-    p.day = day;
-    p.end = 8;
-    let Number::Is(hour) = digits::read(s, 8, 2) else {
-        return p;
-    };
-    p.count = 3;
-    p.hour = hour;
-    p.end = 10;
-    let Number::Is(minute) = digits::read(s, 10, 2) else {
-        return p;
-    };
-    p.count = 4;
-    p.minute = minute;
-    p.end = 12;
-    let Number::Is(second) = digits::read(s, 12, 2) else {
-        return p;
-    };
-    p.count = 5;
-    p.second = second;
-    p.end = 14;
+    while p.count < 5 {
+        let Number::Is(n) = digits::read(s, p.end, 2) else {
+            return p;
+        };
+        p = with_next(p, n);
+    }
     p
 }
+
 // Hours of two digits, and minutes of two more if they stand there.
 fn read_hours(s: &[u8], at: usize) -> Hours
     requires { ⌜ at ≤ length (now s) ⌝ }
