@@ -63,10 +63,10 @@ for service in $(sed -n 's/^uint64_t \(rigcactus_[a-z]*\)(.*/\1/p' include/rigca
 done
 
 # To a folder that stands in for the root, and away again.
-make install PREFIX=/opt/desk DESTDIR="$folder/root" > "$folder/said" 2>&1 || fail "make install with DESTDIR failed: $(cat "$folder/said")"
-expect_files "$folder/root/opt/desk" "${files[@]}"
-grep -qx 'prefix=/opt/desk' "$folder/root/opt/desk/lib/pkgconfig/rigcactus.pc" || fail 'another prefix in rigcactus.pc'
-make uninstall PREFIX=/opt/desk DESTDIR="$folder/root" > "$folder/said" 2>&1 || fail "make uninstall failed: $(cat "$folder/said")"
+make install PREFIX=/usr/desk DESTDIR="$folder/root" > "$folder/said" 2>&1 || fail "make install with DESTDIR failed: $(cat "$folder/said")"
+expect_files "$folder/root/usr/desk" "${files[@]}"
+grep -qx 'prefix=/usr/desk' "$folder/root/usr/desk/lib/pkgconfig/rigcactus.pc" || fail 'another prefix in rigcactus.pc'
+make uninstall PREFIX=/usr/desk DESTDIR="$folder/root" > "$folder/said" 2>&1 || fail "make uninstall failed: $(cat "$folder/said")"
 [ -z "$(find "$folder/root" -type f)" ] || fail 'make uninstall left files'
 
 [ "$failures" -eq 0 ]
