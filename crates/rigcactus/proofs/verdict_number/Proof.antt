@@ -1,0 +1,22 @@
+-- `rigcactus::verdict_number` meets its contract.
+use borrow.Author.Needs.{needs}
+use Rattle.rigcactus.proofs.verdict_number.Statement.{statement}
+use Rattle.rigcactus.proofs.verdict_number.Tie as tie
+
+enum-told : tie.Need-enum-told
+enum-told c = search needs
+
+enum-known-v : tie.Need-enum-known-v
+enum-known-v c = search needs
+
+number-requires : tie.Need-number-requires
+number-requires c κs = search needs
+
+returns : tie.Need-returns
+returns c = rw (c .enum-told .given .1)
+
+returns-2 : tie.Need-returns-2
+returns-2 c = search needs
+
+pub verdict-number-spec : {M : Type 1} → statement M
+verdict-number-spec = tie.close (tie.spec enum-told enum-known-v number-requires returns returns-2)
