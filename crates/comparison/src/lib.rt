@@ -1,16 +1,17 @@
 // Comparison of two records: yes, no or unknown.
 ghost use mathlib.Core.Path.{_≡_};
-ghost use mathlib.Core.Bool.{cond};
-ghost use mathlib.Core.Option.{none, some};
+ghost use mathlib.Core.Option.{some};
 ghost use Prim.Native.Nat.{ℕ, _≤_};
 ghost use lib.ListN.{length};
 ghost use Rattle.rules.specs.Basics.{ifSome};
+ghost use Rattle.rules.specs.Refusal.{TYPE, answered};
 ghost use Rattle.rules.specs.Markup.{Element, document};
 ghost use Rattle.rules.specs.Types.{hasType};
-ghost use Rattle.rules.specs.Comparison.{Unknown as unknown, answer, _also_, comparerOf, comparerFor, orUnknown};
+ghost use Rattle.rules.specs.Comparison.{answer, _also_, comparerOf};
+ghost use Rattle.rules.specs.Services.{compared as isCompared, refusedSecond, compareChecked};
 ghost use Rattle.element.specs.Places.{ElementAt};
 ghost use Rattle.datatype.specs.Meaning.{kindMeant};
-ghost use Rattle.comparison.specs.Meaning.{answerMeant, comparedMeant};
+ghost use Rattle.comparison.specs.Meaning.{answerMeant, comparedMeant, unknownIf};
 
 pub mod names;
 pub mod texts;
@@ -84,7 +85,7 @@ fn has_type(s: &[u8], at: usize, kind: Kind) -> bool
 
 // Unknown where a value is null; records that are not compared stay so.
 fn unknown_if(compared: Compared, null: bool) -> Compared
-    ensures { λ r. ⌜ comparedMeant r ≡ ifSome (comparedMeant compared) (λ a. some (cond null unknown a)) none ⌝ }
+    ensures { λ r. ⌜ comparedMeant r ≡ unknownIf null (comparedMeant compared) ⌝ }
 {
     match compared {
         Compared::Is(a) => {
@@ -103,7 +104,7 @@ const DEPTH: usize = 8;
 // The answer on two values of a kind, neither null, or that values of the kind are not compared.
 fn compare_kind(s: &[u8], at: usize, t: &[u8], other: usize, kind: Kind, shift: u64) -> Compared
     requires { ⌜ at ≤ length (now s) ⌝ ∗ ⌜ other ≤ length (now t) ⌝ ∗ ⌜ shift ≤ 1680 ⌝ }
-    ensures { λ r. ⌜ ((v w : Element) → ElementAt (now (s .entry)) at 8 v → ElementAt (now (t .entry)) other 8 w → comparedMeant r ≡ ifSome (comparerOf (kindMeant kind)) (λ f. some (f shift v w)) none) ⌝ }
+    ensures { λ r. ⌜ ((v w : Element) → ElementAt (now (s .entry)) at 8 v → ElementAt (now (t .entry)) other 8 w → comparedMeant r ≡ ifSome (comparerOf (kindMeant kind)) (λ f. isCompared (f shift v w)) (refusedSecond TYPE)) ⌝ }
 {
     match kind {
         Kind::Ts => Compared::Is(times::compare_times(s, at, t, other, shift)),
@@ -123,7 +124,7 @@ fn compare_kind(s: &[u8], at: usize, t: &[u8], other: usize, kind: Kind, shift: 
 // The answer on two documents, or that they are not compared; `shift` is 840 less the agreed offset in minutes.
 pub fn compare(s: &[u8], t: &[u8], shift: u64) -> Compared
     requires { ⌜ shift ≤ 1680 ⌝ }
-    ensures { λ r. ⌜ ((v w : Element) → document (now (s .entry)) ≡ some v → document (now (t .entry)) ≡ some w → comparedMeant r ≡ ifSome (comparerFor v w) (λ f. some (orUnknown f shift v w)) none) ⌝ }
+    ensures { λ r. ⌜ ((v w : Element) → document (now (s .entry)) ≡ some v → document (now (t .entry)) ≡ some w → comparedMeant r ≡ compareChecked shift (answered v) (answered w)) ⌝ }
 {
     let at = root(s);
     let other = root(t);

@@ -1,9 +1,10 @@
 -- The stretches of a canonical set are the ones that the rules mean, and the only ones.
 use Prim.Native.Nat.{ℕ}
 use mathlib.Core.Path.{_≡_, refl, sym, ap, ap₂, _∙_}
-use mathlib.Core.Bool.{Bool}
+use mathlib.Core.Bool.{Bool, true}
 use mathlib.Core.List.{List, [], _∷_, map}
-use lib.IntN.{pos}
+use lib.IntN.{ℤ}
+use lib.Signed.{leZ, ltZ}
 use Rattle.rules.specs.Sets.{Place, Interval as PageInterval, _upto_, closedAt, union, Expression, interval, combine, meant, isIn, AreStretches}
 use Rattle.rules.specs.Stretches.{stretches}
 use Rattle.rules.proofs.Canonical.{canonical-stretches}
@@ -30,13 +31,13 @@ same-stretches s t c d h = stretches-unique (are-stretches s c h) (are-stretches
 pub stretches-meant : (e : Expression) (s : Stretches) → Canonical s → ((x : Place) → isIn (stretchesOf s) x ≡ meant e x) → stretchesOf s ≡ stretches e
 stretches-meant e s c h = is-stretches e (are-stretches s c h)
 
--- [1, 2] and [3, 4] stay apart, because the gap between 2 and 3 is out
-pub stays-apart :
-    let first = closedAt (pos 1) upto closedAt (pos 2) in
-    let second = closedAt (pos 3) upto closedAt (pos 4) in
+-- [a, b] and [c, d] stay apart where b is before c, also where they are neighbours, because the gap between them is out
+pub stays-apart : (a b c d : ℤ) → leZ a b ≡ true → ltZ b c ≡ true → leZ c d ≡ true
+    → let first = closedAt a upto closedAt b in
+    let second = closedAt c upto closedAt d in
     (s : Stretches) → Canonical s → ((x : Place) → isIn (stretchesOf s) x ≡ meant (combine union (interval first) (interval second)) x)
     → stretchesOf s ≡ first ∷ second ∷ []
-stays-apart s c h = stretches-meant _ s c h ∙ apart
+stays-apart a b c d f g h s k e = stretches-meant _ s k e ∙ apart a b c d f g h
 
 -- ---- the code's items, from what they mean
 bound-one : (a b : Bound) → boundOf a ≡ boundOf b → a ≡ b

@@ -20,9 +20,9 @@ use Rattle.rules.proofs.ListingCases.{check-faultless, listing-listed}
 use Rattle.refusal.specs.Meaning.{refusalOf}
 use Rattle.listing.specs.declared.Listed.{Listed}
 use Rattle.listing.specs.declared.Listed.the-variants.{Count, Refused}
-use Rattle.listing.specs.Answers.{listedMeant, packedListed, Answers}
+use Rattle.listing.specs.Answers.{listedMeant, Answers}
 
-packed-answer : (r : Listed) (o : Outcome (List Interval)) → listedMeant r ≡ (o andThen λ ss. answered (length ss)) → packedListed r ≡ packed length o
+packed-answer : (r : Listed) (o : Outcome (List Interval)) → listedMeant r ≡ (o andThen λ ss. answered (length ss)) → packed (λ n. n) (listedMeant r) ≡ packed length o
 packed-answer (Count n) (answered ss) e = let z : n ≡ length ss = cc in rw z refl
 packed-answer (Count n) (refused q) e = clash (cc)
 packed-answer (Refused r) (answered ss) e = clash (cc)
@@ -36,7 +36,7 @@ module _ (offset : ℤ) (input list : List ℕ) where
 
   pub serves-list : (e : Element) → check offset input ≡ answered e → isListed e ≡ true → (r : Listed) (after : List ℕ)
       → ((e : Element) → document input ≡ some e → topFaults (shiftBy offset) e ≡ [] → isListed e ≡ true → Answers (listElement (shiftBy offset) (roomOf list) e) list r after)
-      → Serves (packedListed r) after
+      → Serves (packed (λ n. n) (listedMeant r)) after
   serves-list e accepted l r after h =
       let a = h e (check-answered offset input e .0 accepted .0) (check-faultless offset input accepted) l in
       let z = listing-listed offset (roomOf list) input e accepted l in

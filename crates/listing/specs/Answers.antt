@@ -1,9 +1,9 @@
 -- What the code answers on a record and leaves in the lent list, in the words of the rules ("Sets of times").
-use Prim.Native.Nat.{ℕ, _*_, _^_, _≤_}
+use Prim.Native.Nat.{ℕ, _≤_}
 use mathlib.Core.Path.{_≡_}
 use mathlib.Core.List.{List, flatMap}
 use lib.ListN.{length}
-use Rattle.rules.specs.Refusal.{number, Outcome, answered, refused, _andThen_}
+use Rattle.rules.specs.Refusal.{Outcome, answered, refused, _andThen_}
 use Rattle.rules.specs.Sets.{Interval}
 use Rattle.rules.specs.Listing.{listNumbers}
 use Rattle.rules.specs.Services.{lentAfter, eightBytes, overwrite}
@@ -14,11 +14,6 @@ use Rattle.listing.specs.declared.Listed.the-variants.{Count, Refused}
 abbrev pub listedMeant : Listed → Outcome ℕ
 listedMeant (Count n) = answered n
 listedMeant (Refused r) = refused (refusalOf r)
-
--- the answer as it is packed
-abbrev pub packedListed : Listed → ℕ
-packedListed (Count n) = n * 2 ^ 8
-packedListed (Refused r) = number (refusalOf r)
 
 -- no more than 32 stretches are counted
 abbrev pub Few : Listed → Type 0

@@ -1,16 +1,14 @@
 -- The ways through the comparison service.
-use Prim.Native.Nat.{ℕ, _+_, _*_, _^_}
+use Prim.Native.Nat.{ℕ, _+_}
 use mathlib.Core.Path.{_≡_, refl, sym, _∙_, ap}
 use mathlib.Core.Bool.{true, false}
 use mathlib.Core.List.{List}
 use mathlib.Core.Option.{Option, none, some}
 use lib.IntN.{ℤ}
-use Rattle.rules.specs.Basics.{ifSome}
-use Rattle.rules.specs.Refusal.{Refusal, OFFSET, TYPE, number, firstOf, Outcome, answered, refused}
+use Rattle.rules.specs.Refusal.{Refusal, OFFSET, number, firstOf, Outcome, answered, refused}
 use Rattle.rules.specs.Markup.{Element, document}
 use Rattle.rules.specs.Check.{isOffset, shiftBy, recordFaults, check}
-use Rattle.rules.specs.Comparison.{Answer, Comparer, comparerFor, orUnknown}
-use Rattle.rules.specs.Services.{comparison, compared, refusedSecond, answerNumber, comparedNumber, compareAnswer}
+use Rattle.rules.specs.Services.{Compared, compareChecked, comparison, comparedNumber, compareAnswer}
 use Rattle.rules.proofs.Tests.{clash}
 use Rattle.rules.proofs.Precedence.{check-refused, check-answered}
 use Rattle.judge.specs.Faults.{inputFaults}
@@ -45,14 +43,8 @@ module _ (offset : ℤ) (first second : List ℕ) where
     unfolding comparison
     compare-second r f = rw (accepted, f)
 
-    pub compare-both : (b : Element) → check offset second ≡ answered b → {shift : ℕ} → shift ≡ shiftBy offset → {c : Option Answer}
-        → ((v w : Element) → document first ≡ some v → document second ≡ some w → c ≡ ifSome (comparerFor v w) (λ f. some (orUnknown f shift v w)) none)
-        → ifSome c (λ x. answerNumber x * 2 ^ 16) (number TYPE + 2 * 2 ^ 8) ≡ compareAnswer offset first second
+    pub compare-both : (b : Element) → check offset second ≡ answered b → {shift : ℕ} → shift ≡ shiftBy offset → {c : Compared}
+        → ((v w : Element) → document first ≡ some v → document second ≡ some w → c ≡ compareChecked shift (answered v) (answered w))
+        → comparedNumber c ≡ compareAnswer offset first second
     unfolding comparison
-    compare-both b f {shift} by {c} h =
-        rw (accepted, f, h a b (check-answered offset first a .0 accepted .0) (check-answered offset second b .0 f .0), by) (go (comparerFor a b))
-      where
-        go : (f : Option Comparer) → ifSome (ifSome f (λ f. some (orUnknown f (shiftBy offset) a b)) none) (λ x. answerNumber x * 2 ^ 16) (number TYPE + 2 * 2 ^ 8)
-            ≡ comparedNumber (ifSome f (λ f. compared (orUnknown f (shiftBy offset) a b)) (refusedSecond TYPE))
-        go none = refl
-        go (some f) = refl
+    compare-both b f by h = rw (accepted, f, h a b (check-answered offset first a .0 accepted .0) (check-answered offset second b .0 f .0), by)

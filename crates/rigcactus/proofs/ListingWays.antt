@@ -14,12 +14,12 @@ use Rattle.rules.specs.Judge.{topFaults}
 use Rattle.rules.specs.Check.{isOffset, shiftBy, isTooLong, elementOf, recordFaults, check}
 use Rattle.rules.specs.Listing.{unlisted, listElement}
 use Rattle.rules.specs.ListingPromise.{isListed}
-use Rattle.rules.specs.Services.{listing, roomOf}
+use Rattle.rules.specs.Services.{packed, listing, roomOf}
 use Rattle.rules.proofs.Tests.{clash}
 use Rattle.rules.proofs.Precedence.{firstOf-append, earlier-assoc, earlier-none-right, check-refused, check-answered}
 use Rattle.rules.proofs.ListingCases.{listing-unlisted, listing-faulty, listing-faulty-early}
 use Rattle.judge.specs.Faults.{inputFaults}
-use Rattle.listing.specs.Answers.{packedListed, Answers}
+use Rattle.listing.specs.Answers.{listedMeant, Answers}
 use Rattle.listing.specs.declared.Listed.{Listed}
 use Rattle.listing.proofs.Serving.{Serves, serves-list}
 use Rattle.rigcactus.specs.Faults.{listingFaults}
@@ -87,7 +87,7 @@ module _ (offset : ℤ) (input list : List ℕ) where
 
     pub list-answered : {r : Listed} {after : List ℕ} → none ≡ firstOf (listingFaults shift input)
         → ((e : Element) → document input ≡ some e → topFaults shift e ≡ [] → isListed e ≡ true → Answers (listElement shift (roomOf list) e) list r after)
-        → Serves offset input list (packedListed r) after
+        → Serves offset input list (packed (λ n. n) (listedMeant r)) after
     unfolding firstOf
     list-answered {r} {after} h tells = go (check offset input) refl
       where
@@ -99,6 +99,6 @@ module _ (offset : ℤ) (input list : List ℕ) where
         typed true z = refl
         typed false z = clash (cc)
 
-        go : (o : Outcome Element) → check offset input ≡ o → Serves offset input list (packedListed r) after
+        go : (o : Outcome Element) → check offset input ≡ o → Serves offset input list (packed (λ n. n) (listedMeant r)) after
         go (refused q) f = some-earlier q (firstOf (faultsIn unlisted (elementOf input))) (split h ∙ rw (check-refused offset input q .0 f))
         go (answered e) a = serves-list offset input list e a (typed (isListed e) (type-fault e a h)) r after (rw (← by) tells)

@@ -10,6 +10,7 @@ use lib.Signed.{leZ}
 use mir.Syntax.{w64}
 use mir.Val.{SFits, toZ}
 use mir.ValLaws.{toZ-ofZ}
+use Rattle.rules.specs.Timestamp.{beforeStart}
 use Rattle.rules.specs.Check.{isOffset, shiftBy}
 
 pub in-range : (z : ℤ) → (leZ (negsuc 839) z && leZ z (pos 840)) ≡ isOffset z
@@ -35,9 +36,9 @@ pub small-read : (k : ℕ) → k < 2 ^ 60 → toZ w64 k ≡ pos k
 small-read k h = toZ-ofZ w64 (pos k) (small-fits k h)
 
 -- a tick less the shift of the start
-pub tick-fits : (k : ℕ) → k < 2 ^ 60 → SFits w64 (pos k -ℤ pos 504_000_000)
-tick-fits k h = go (ltb k 504_000_000) refl
+pub tick-fits : (k : ℕ) → k < 2 ^ 60 → SFits w64 (pos k -ℤ pos beforeStart)
+tick-fits k h = go (ltb k beforeStart) refl
   where
-    go : (b : Bool) → ltb k 504_000_000 ≡ b → SFits w64 (cond b (negsuc (504_000_000 - suc k)) (pos (k - 504_000_000)))
+    go : (b : Bool) → ltb k beforeStart ≡ b → SFits w64 (cond b (negsuc (beforeStart - suc k)) (pos (k - beforeStart)))
     go true e = record { sfits = omega arith }
     go false e = record { sfits = omega arith }

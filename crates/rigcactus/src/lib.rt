@@ -4,14 +4,14 @@ ghost use mathlib.Core.Bool.{true};
 ghost use Prim.Native.Nat.{_+_, _*_, _^_, _<_, _≤_};
 ghost use lib.IntN.{subℕ};
 ghost use Rattle.rules.specs.Basics.{ifSome};
-ghost use Rattle.rules.specs.Refusal.{TYPE, number as pageNumber, firstOf};
+ghost use Rattle.rules.specs.Refusal.{number as pageNumber, firstOf};
 ghost use Rattle.rules.specs.Timestamp.{beforeStart};
 ghost use Rattle.rules.specs.Check.{isOffset, shiftBy};
-ghost use Rattle.rules.specs.Services.{packed, answerNumber};
+ghost use Rattle.rules.specs.Services.{packed, answerNumber, comparedNumber};
 ghost use Rattle.refusal.specs.Meaning.{faultOf};
 ghost use Rattle.timestamp.specs.Moments.{outcomeOf};
 ghost use Rattle.comparison.specs.Meaning.{answerMeant, comparedMeant};
-ghost use Rattle.listing.specs.Answers.{Few, packedListed};
+ghost use Rattle.listing.specs.Answers.{Few, listedMeant};
 ghost use Rattle.demands.specs.Demands.{services};
 ghost use Rattle.rigcactus.specs.Faults.{listingFaults};
 use comparison::Answer;
@@ -20,6 +20,7 @@ use listing::Listed;
 use refusal::Refusal;
 use refusal::Verdict;
 use timestamp::Timestamp;
+use timestamp::tick::Tick;
 
 // The longest input that is read, in bytes.
 const MOST: usize = 16_384;
@@ -90,7 +91,7 @@ fn listing_fault(record: &[u8], shift: u64) -> Verdict
 // The packed answer on a listing.
 fn listed_number(listed: Listed) -> u64
     requires { ⌜ Few listed ⌝ }
-    ensures { λ r. ⌜ r ≡ packedListed listed ⌝ }
+    ensures { λ r. ⌜ r ≡ packed (λ n. n) (listedMeant listed) ⌝ }
 {
     match listed {
         Listed::Count(n) => (n as u64) * 256,
@@ -130,11 +131,11 @@ fn answer_number(answer: Answer) -> u64
 
 // The packed answer on two records that were accepted.
 fn compared_number(compared: Compared) -> u64
-    ensures { λ r. ⌜ r ≡ ifSome (comparedMeant compared) (λ a. answerNumber a * 2 ^ 16) (pageNumber TYPE + 2 * 2 ^ 8) ⌝ }
+    ensures { λ r. ⌜ r ≡ comparedNumber (comparedMeant compared) ⌝ }
 {
     match compared {
         Compared::Is(answer) => answer_number(answer) * 65_536,
-        Compared::Other => 5 + 512,
+        Compared::Other => refusal::number(Refusal::Type) + 512,
     }
 }
 
@@ -164,7 +165,7 @@ fn signed_tick(start: u64) -> i64
     requires { ⌜ start < 2 ^ 60 ⌝ }
     ensures { λ r. ⌜ r ≡ subℕ start beforeStart ⌝ }
 {
-    (start as i64) - 504_000_000
+    (start as i64) - (Tick::ORIGIN.0 as i64)
 }
 
 // The number of a timestamp's refusal, 0 if it is none.

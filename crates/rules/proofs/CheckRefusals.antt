@@ -63,7 +63,8 @@ module _ (test : Refusal → Bool) (type : test TYPE ≡ true) (shape : test SHA
   unfolding writtenFaults
   written-passes w = pass-append test (pass-append test (value-when (not (isDate w))) (value-when (not (isClock w)))) (value-when (not (isZone (w .zone))))
 
-  read-passes : (shift : ℕ) (text : List ℕ) → Pass test (faultsOf (readTimestamp shift text))
+  -- those of a timestamp
+  pub read-passes : (shift : ℕ) (text : List ℕ) → Pass test (faultsOf (readTimestamp shift text))
   unfolding readTimestamp
   read-passes shift text = go (whole timestamp text)
     where

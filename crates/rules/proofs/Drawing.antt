@@ -3,11 +3,11 @@ use mathlib.Core.Path.{_≡_, refl, sym, _∙_, ap, ap₂, fun-ext}
 use mathlib.Core.Bool.{Bool, true, false, _&&_, _||_, cond, and-true, and-false, or-false}
 use mathlib.Core.List.{List, [], _∷_, _++_}
 use mathlib.Core.Option.{Option, none, some}
-use lib.IntN.{pos}
+use lib.IntN.{ℤ}
+use lib.Signed.{leZ, ltZ}
 use Rattle.rules.specs.Basics.{ifSome, exists}
 use Rattle.rules.specs.Sets.{Place, previousPlace, _isBefore_, Bound, unbounded, closedAt, Interval, _upto_, firstPlace, fromLow, holds, isIn, AreStretches, union, Expression, interval, combine, meant}
 use Rattle.rules.specs.Stretches.{lowAt, highAt, changes, drawn, placeBefore, stretches}
-use Rattle.rules.proofs.Opened.{opened}
 use Rattle.rules.proofs.Order.{places, before-irreflexive}
 use Rattle.rules.proofs.Edges.{since, half-open, first-low, end-high, since-up}
 use Rattle.rules.proofs.Canonical.{Opens, Follows, Canonical, canonical-stretches}
@@ -155,10 +155,13 @@ same-list a b h = is-stretches b (rw (fun-ext h) at (stretches-are a))
 pub same-times : (a b : Expression) → stretches a ≡ stretches b → (y : Place) → meant a y ≡ meant b y
 same-times a b e y = sym (stretches-are a .all y) ∙ ap (λ ss. isIn ss y) e ∙ stretches-are b .all y
 
--- [1, 2] and [3, 4] are two stretches: the gap between 2 and 3 is out
-pub apart :
-    let first = closedAt (pos 1) upto closedAt (pos 2) in
-    let second = closedAt (pos 3) upto closedAt (pos 4) in
+-- [a, b] and [c, d], where b is before c, are two stretches, also where b and c are neighbours: the gap between them is out
+pub apart : (a b c d : ℤ) → leZ a b ≡ true → ltZ b c ≡ true → leZ c d ≡ true
+    → let first = closedAt a upto closedAt b in
+    let second = closedAt c upto closedAt d in
     stretches (combine union (interval first) (interval second)) ≡ first ∷ second ∷ []
-unfolding opened
-apart = refl
+unfolding meant exists
+apart a b c d f g h =
+    let first = closedAt a upto closedAt b in
+    let second = closedAt c upto closedAt d in
+    sym (is-stretches (combine union (interval first) (interval second)) (canonical-stretches (f, g, (h, tt, tt)) (λ x. ap (λ q. holds first x || q) (or-false (holds second x)))))

@@ -1,6 +1,7 @@
 pub mod Opened
 pub mod WorkedExamples
 pub mod Limits
+pub mod Depth
 pub mod Tests
 pub mod Precedence
 pub mod Parsers

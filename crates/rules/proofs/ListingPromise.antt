@@ -1,17 +1,16 @@
 -- Listing a set of times keeps its promise.
 use Prim.Native.Nat.{ℕ, _*_, _/_, _%_, _^_, _≤_, _<_}
-use Prim.Native.String.{String}
 use mathlib.Core.Path.{_≡_, refl, sym, _∙_, ap}
-use mathlib.Core.Bool.{Bool, true, false}
-use mathlib.Core.List.{List, [], _∷_, _++_, flatMap}
+use mathlib.Core.Bool.{true, false}
+use mathlib.Core.List.{List, [], _∷_, flatMap}
 use mathlib.Core.Option.{some}
 use native.Mathlib.Decide.{decLe}
 use native.Mathlib.Omega.{arith}
-use lib.ListN.{length, take, drop, replicate, length-append, length-drop}
+use lib.ListN.{length, take, drop, length-append, length-drop}
 use lib.Seq.{take-at, drop-at}
 use lib.IntN.{ℤ, pos, negsuc}
-use Rattle.rules.specs.Basics.{every, bytes}
-use Rattle.rules.specs.Refusal.{Refusal, OFFSET, TOO-LONG, NOT-UTF-8, MARKUP, TYPE, SHAPE, VALUE, RULE, UNKNOWN-BOUND, TOO-MANY, NO-ROOM, number, rank, firstOf, Outcome, answered, refused, faultsIn, _andThen_}
+use Rattle.rules.specs.Basics.{every}
+use Rattle.rules.specs.Refusal.{Refusal, OFFSET, TOO-LONG, NOT-UTF-8, MARKUP, TYPE, SHAPE, VALUE, RULE, UNKNOWN-BOUND, TOO-MANY, NO-ROOM, number, rank, firstOf, answered, refused, faultsIn}
 use Rattle.rules.specs.Markup.{Element}
 use Rattle.rules.specs.Check.{shiftBy, elementOf, check}
 use Rattle.rules.specs.Sets.{Bound, unbounded, openAt, closedAt, Interval, Expression}
@@ -19,7 +18,6 @@ use Rattle.rules.specs.Stretches.{stretches}
 use Rattle.rules.specs.Listing.{setOf, intervalsWritten, unlisted, boundNumbers, listNumbers}
 use Rattle.rules.specs.Services.{listing, lowBytes, eightBytes, overwrite, roomOf, listAnswer, listAfter}
 use Rattle.rules.specs.ListingPromise.{isClear, isListed, IsSetOfTimes, fits, Refuses, Lists, PromiseOfSet, ListingPromise}
-use Rattle.rules.proofs.Opened.{opened}
 use Rattle.rules.proofs.Tests.{clash}
 use Rattle.rules.proofs.Precedence.{number-is, number-injective}
 use Rattle.rules.proofs.Ticks.{shiftBy-most}
@@ -206,27 +204,3 @@ module _ (offset : ℤ) (record′ list : List ℕ) where
       λ (e, c, l, u, m). gives-many e c l u m,
     );
   }
-
--- of an accepted record: whether its type is listed, whether nothing is unclear
-abbrev seen : String → Outcome (List Bool)
-seen text = check (pos 0) (bytes text) andThen λ e. answered (isListed e ∷ isClear (shiftBy (pos 0)) e ∷ [])
-
--- the whole line, which is one stretch of four zeros
-abbrev always : String
-always = "<a xsi:type=\"IVL_TS\"><low nullFlavor=\"NINF\"/><high nullFlavor=\"PINF\"/></a>"
-
--- what the words of the promise say of small records: a bound that is missing or null, a null interval or set within a set, another type;
--- a list with room, with its last byte kept, and one without
-pub examples :
-    (seen always ≡ answered (true ∷ true ∷ []))
-    × (seen "<a xsi:type=\"IVL_TS\"><low nullFlavor=\"NINF\"/></a>" ≡ answered (true ∷ false ∷ []))
-    × (seen "<a xsi:type=\"IVL_TS\"><low nullFlavor=\"NINF\"/><high nullFlavor=\"UNK\"/></a>" ≡ answered (true ∷ false ∷ []))
-    × (seen "<a xsi:type=\"QSU_TS\"><term xsi:type=\"IVL_TS\" nullFlavor=\"NI\"/></a>" ≡ answered (true ∷ false ∷ []))
-    × (seen "<a xsi:type=\"QSU_TS\"><term xsi:type=\"QSI_TS\" nullFlavor=\"NI\"/></a>" ≡ answered (true ∷ false ∷ []))
-    × (seen "<a xsi:type=\"TS\" nullFlavor=\"NI\"/>" ≡ answered (false ∷ true ∷ []))
-    × (listAnswer (pos 0) (bytes always) (replicate 33 7) ≡ 1 * 2 ^ 8)
-    × (listAfter (pos 0) (bytes always) (replicate 33 7) ≡ replicate 32 0 ++ 7 ∷ [])
-    × (listAnswer (pos 0) (bytes always) (replicate 31 7) ≡ number NO-ROOM)
-    × (listAfter (pos 0) (bytes always) (replicate 31 7) ≡ replicate 31 7)
-unfolding opened
-examples = (refl, refl, refl, refl, refl, refl, refl, refl, refl, refl)

@@ -17,6 +17,9 @@ impl Tick {
 
     pub const DAY: Tick = Tick(864_000_000);
 
+    // The page's tick 0, 0001-01-01 00:00 at offset zero, as moments and bounds are counted: from fourteen hours before it.
+    pub const ORIGIN: Tick = Tick(504_000_000);
+
     // The ticks from 0001-01-01 up to a date.
     pub fn of_date(year: u64, month: u64, day: u64) -> Tick
         requires { ⌜ InRange year month day ⌝ }

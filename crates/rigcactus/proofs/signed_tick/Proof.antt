@@ -3,19 +3,29 @@ use mathlib.Core.Path.{refl}
 use mir.Syntax.{w64}
 use mir.ValLaws.{toZ-ofZ}
 use lib.IntN.{pos, _-ℤ_}
+use Rattle.rules.specs.Timestamp.{beforeStart}
 use Rattle.rigcactus.proofs.Signed.{small-read, tick-fits}
 use borrow.Author.Needs.{needs}
 use Rattle.rigcactus.proofs.signed_tick.Statement.{statement}
 use Rattle.rigcactus.proofs.signed_tick.Tie as tie
+use Rattle.rigcactus.proofs.signed_tick.Reads as reads
+use Rattle.rigcactus.proofs.signed_tick.Lts as lts
 
+-- src/lib.rt:168:6
 cast-result : tie.Need-cast-result
 cast-result c = search needs
 
-sub-result : tie.Need-sub-result
-sub-result c = rw (small-read (c .args .start) (c .pre)) (tick-fits (c .args .start) (c .pre))
+-- src/lib.rt:168:23
+cast-result-2 : tie.Need-cast-result-2
+cast-result-2 c = search needs
 
+-- src/lib.rt:168:5
+sub-result : tie.Need-sub-result
+sub-result c = rw (small-read (c .before .args .start) (c .before .pre)) (tick-fits (c .before .args .start) (c .before .pre))
+
+-- src/lib.rt:164:1
 returns : tie.Need-returns
-returns c = rw (small-read (c .args .start) (c .pre), toZ-ofZ w64 (pos (c .args .start) -ℤ pos 504_000_000) (tick-fits (c .args .start) (c .pre))) refl
+returns c = rw (small-read (c .before .args .start) (c .before .pre), toZ-ofZ w64 (pos (c .before .args .start) -ℤ pos beforeStart) (tick-fits (c .before .args .start) (c .before .pre))) refl
 
 pub signed-tick-spec : {M : Type 1} → statement M
-signed-tick-spec = tie.close (tie.spec cast-result sub-result returns)
+signed-tick-spec = tie.close (tie.spec cast-result cast-result-2 sub-result returns)
