@@ -1,11 +1,12 @@
 //! Holds README.md and docs/ against the tree: what they name in backquotes or by a link is there, and the lists that they keep of what the
-//! tree has leave nothing out. docs/TESTING.md says what is checked. Run in the top folder of the repository; docs/CHANGES.md, the history,
+//! tree has leave nothing out. The edits, which documents name, are held to the code that they change. docs/TESTING.md says what is checked. Run in the top folder of the repository; docs/CHANGES.md, the history,
 //! is held to its links alone.
 
 use std::collections::{BTreeMap, BTreeSet};
 use std::fs;
 
 mod document;
+mod edits;
 mod tree;
 
 use document::{Document, Named};
@@ -44,6 +45,7 @@ fn main() {
             check_names(&tree, name, document, &mut findings);
         }
     }
+    check_edits_fit(&tree, &mut findings);
     let proved = &documents[PROVED];
     check_statements(&tree, proved, &mut findings);
     check_laws(&tree, proved, &mut findings);
@@ -58,6 +60,20 @@ fn main() {
     }
     println!("{} documents, {} findings", documents.len(), findings.0.len());
     std::process::exit(if findings.0.is_empty() { 0 } else { 1 });
+}
+
+/// Every edit, tried by the gate or not, can be applied, and has a name of its own in its crate.
+fn check_edits_fit(tree: &Tree, findings: &mut Findings) {
+    for path in tree.files.iter().filter(|f| f.ends_with(".edit")) {
+        let parts: Vec<&str> = path.split('/').collect();
+        let (krate, gate) = if parts[0] == "crates" { (parts[1], true) } else { (parts[2], false) };
+        let name = parts[parts.len() - 1].trim_end_matches(".edit");
+        let twice = tree.edits.get(&(krate.to_string(), name.to_string())) != Some(&gate);
+        findings.unless(!twice, path, || "another edit of the crate has this name".to_string());
+        if let Some(fault) = edits::fault(krate, path) {
+            findings.add(path, fault);
+        }
+    }
 }
 
 /// Links to files of the repository lead to some.
