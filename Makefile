@@ -41,7 +41,7 @@ proved = $(shell find crates \( -name '*.rt' -o -name '*.antt' \) -not -path '*/
 # The services that the archive has. Adding one here has tests/services.rs try it.
 services = rigcactus_cut rigcactus_tick rigcactus_check rigcactus_list rigcactus_compare
 c_api = $(patsubst %,target/tests/c_api_%,1 2 3 4 5)
-tests = target/tests/header_c $(c_api) target/tests/services target/tests/stack target/tests/replay target/tests/planted target/tests/seeds \
+tests = target/tests/header_c $(c_api) target/tests/documents target/tests/services target/tests/stack target/tests/replay target/tests/planted target/tests/seeds \
 	target/tests/markup_stack target/tests/markup_reader target/tests/moment target/tests/damage
 places = 0 16 32 48
 cxx = $(shell command -v $(CXX) 2> /dev/null)
@@ -147,6 +147,10 @@ target/tests/c_api_%.c: docs/C-API.md
 
 $(c_api): %: %.c $(header) $(archive)
 	$(CC) $(CFLAGS) -Wpedantic -Iinclude -o $@ $< $(archive)
+
+target/tests/documents: $(wildcard tests/documents/*.rs)
+	@mkdir -p $(@D)
+	$(RUSTC) $(RUSTFLAGS) -o $@ tests/documents/main.rs
 
 target/tests/services: $(wildcard tests/*.rs) $(records) $(archive) Makefile
 	@mkdir -p $(@D)

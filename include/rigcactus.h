@@ -16,9 +16,10 @@
  *
  * What holds of every service:
  *
- * - Lent memory. A pointer comes with its length in bytes and must lead to that many readable bytes, which nobody changes
- *   during the call. They may start at any address and end without a zero byte. A null pointer is allowed with length 0.
- *   The service keeps no pointer.
+ * - Lent memory. A pointer comes with its length in bytes and must lead to that many bytes, which may be read, and written
+ *   if it is not to const. They may start at any address and end without a zero byte. A null pointer is allowed with length
+ *   0. A tick has no length: it is one int64_t, aligned as the type asks, and its pointer is not null. During the call nobody
+ *   else may change lent memory, or read what the service may write. The service keeps no pointer.
  * - Writing. What is lent through a pointer to const is never written. Memory that a service may write is written only where
  *   the input is accepted, and must overlap no other memory that is lent to the same call; const memory may overlap const.
  * - Threads. There is no state, no allocation, no lock and no errno: any number of threads may call at the same time, and
