@@ -10,7 +10,7 @@ high-edge-requires : tie.Need-high-edge-requires
 high-edge-requires c κs = search needs
 
 returns : tie.Need-returns
-returns c = cc (c .before .low-edge .ensures, c .high-edge .ensures)
+returns c = rw (c .before .low-edge .ensures, c .high-edge .ensures)
 
 pub is-within-spec : {M : Type 1} → statement M
 is-within-spec = tie.close (tie.spec low-edge-requires high-edge-requires returns)
