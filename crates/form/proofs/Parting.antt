@@ -6,7 +6,7 @@ use mathlib.Core.List.{List, [], _∷_}
 use native.Mathlib.Omega.{arith}
 use borrow.Author.Tests.{eq-eqb, ne-eqb}
 use lib.ListN.{length, getD, take, drop, drop-of-length-le}
-use Rattle.rules.specs.Basics.{every, split}
+use Rattle.rules.specs.Basics.{exists, every, split}
 use Rattle.rules.proofs.Tests.{every-true}
 use Rattle.text.proofs.Reading.{here}
 use Rattle.form.specs.Parted.{following, PartAt}
@@ -47,6 +47,20 @@ module _ (p : List ℕ → Bool) (b : ℕ) (t : List ℕ) (from e : ℕ) (h : Pa
   pub every-more : p (take (e - from) (drop from t)) ≡ true → e < length t → every p (split b (drop from t)) ≡ every p (split b (drop (e + 1) t))
   unfolding every following
   every-more f l = rw (h .is, f, here t e l)
+
+-- and one of the parts
+module _ (p : List ℕ → Bool) (b : ℕ) (t : List ℕ) (from e : ℕ) (h : PartAt b t from e) where
+  pub exists-here : p (take (e - from) (drop from t)) ≡ true → exists p (split b (drop from t)) ≡ true
+  unfolding exists
+  exists-here f = rw (h .is, f)
+
+  pub exists-last : p (take (e - from) (drop from t)) ≡ false → e ≡ length t → exists p (split b (drop from t)) ≡ false
+  unfolding exists following
+  exists-last f l = rw (h .is, f, drop-of-length-le t {i = e} (omega arith))
+
+  pub exists-more : p (take (e - from) (drop from t)) ≡ false → e < length t → exists p (split b (drop from t)) ≡ exists p (split b (drop (e + 1) t))
+  unfolding exists following
+  exists-more f l = rw (h .is, f, here t e l)
 
 -- the first part and the second
 pub two-parts : (b : ℕ) (t : List ℕ) (i e : ℕ) → PartAt b t 0 i → i < length t → PartAt b t (i + 1) e

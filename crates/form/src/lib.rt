@@ -116,6 +116,7 @@ pub fn fault(s: &[u8], q: usize, e: usize, form: Form, shift: u64) -> Verdict
     requires { ⌜ q < e ⌝ ∗ ⌜ e ≤ length (now s) ⌝ ∗ ⌜ shift ≤ 1680 ⌝ }
     ensures { λ r. ⌜ ((v : List ℕ) → value (drop q (now (s .entry))) ≡ ok v (drop e (now (s .entry))) → faultOf r ≡ firstOf (formFaults shift (formOf form) v)) ⌝ }
 {
+    let raw = inside(s, q, e);
     match form {
         Form::AnyText => Verdict::Accepted,
         Form::NonEmpty => value_unless(!element::value::is_empty(s, q)),
@@ -123,9 +124,9 @@ pub fn fault(s: &[u8], q: usize, e: usize, form: Form, shift: u64) -> Verdict
         Form::Timestamp => timestamp_fault(s, q, e, shift),
         Form::Flag => value_unless(fixed::is_flag(s, q)),
         Form::Amount => value_unless(is_amount(s, q, e)),
-        Form::Currency => value_unless(money::is_currency(inside(s, q, e))),
-        Form::Root => value_unless(oid::is_root(inside(s, q, e))),
+        Form::Currency => value_unless(money::is_currency(raw)),
+        Form::Root => value_unless(oid::is_root(raw)),
         Form::PartType => value_unless(fixed::is_part_type(s, q)),
-        Form::Qualifiers => value_unless(name::is_qualifiers(inside(s, q, e))),
+        Form::Qualifiers => value_unless(name::is_qualifiers(raw)),
     }
 }

@@ -10,6 +10,7 @@ ghost use Rattle.rules.specs.Forms.{isQualifiers};
 ghost use Rattle.form.specs.Words.{alongBy, isQualifier};
 use crate::parts::Part;
 use crate::parts::are_parts;
+use crate::parts::is_word;
 use element::value::next;
 use element::value::start;
 use markup::value::Char;
@@ -56,19 +57,7 @@ pub fn has_word(s: &[u8], q: usize, w: &[u8]) -> bool
 pub fn is_qualifier(w: &[u8]) -> bool
     ensures { λ r. ⌜ r ≡ isQualifier (now (w .entry)) ⌝ }
 {
-    text::is_same(w, b"LS")
-        | text::is_same(w, b"AC")
-        | text::is_same(w, b"NB")
-        | text::is_same(w, b"PR")
-        | text::is_same(w, b"HON")
-        | text::is_same(w, b"BR")
-        | text::is_same(w, b"AD")
-        | text::is_same(w, b"SP")
-        | text::is_same(w, b"MID")
-        | text::is_same(w, b"CL")
-        | text::is_same(w, b"IN")
-        | text::is_same(w, b"PFX")
-        | text::is_same(w, b"SFX")
+    is_word(w, b"LS AC NB PR HON BR AD SP MID CL IN PFX SFX")
 }
 
 // Whether a text is qualifiers, one or more, with single spaces.

@@ -2,7 +2,7 @@
 ghost use mathlib.Core.Path.{_≡_};
 ghost use Prim.Native.Nat.{_≤_};
 ghost use lib.ListN.{length};
-ghost use Rattle.rules.specs.Basics.{every, split};
+ghost use Rattle.rules.specs.Basics.{exists, every, same, split, words};
 ghost use Rattle.form.specs.Parted.{PartAt, isPart};
 use crate::name::is_qualifier;
 use crate::oid::is_number;
@@ -26,6 +26,23 @@ pub fn part_end(t: &[u8], from: usize, b: u8) -> usize
         i += 1;
     }
     i
+}
+
+// Whether a text is one of the words of a list, which single spaces part.
+pub fn is_word(w: &[u8], list: &[u8]) -> bool
+    ensures { λ r. ⌜ r ≡ exists (same (now (w .entry))) (words (now (list .entry))) ⌝ }
+{
+    let mut from = 0;
+    loop {
+        let end = part_end(list, from, b' ');
+        if text::is_same(w, &list[from..end]) {
+            return true;
+        }
+        if end == list.len() {
+            return false;
+        }
+        from = end + 1;
+    }
 }
 
 // Whether a text is what a part is to be.

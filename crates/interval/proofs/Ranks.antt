@@ -173,10 +173,18 @@ odd-mod (suc zero) = refl
 odd-mod (suc (suc n)) = Bool·not-not (odd n) ∙ odd-mod n ∙ sym (mod-two n)
 
 -- a state that changes exactly if the answer says so
-pub flips : (o : Bool) → true ≡ cond (not o) (not o) o
+flips : (o : Bool) → true ≡ cond (not o) (not o) o
 flips true = refl
 flips false = refl
 
-pub stays : (o : Bool) → false ≡ cond o (not o) o
+stays : (o : Bool) → false ≡ cond o (not o) o
 stays true = refl
 stays false = refl
+
+-- by what a, b and o were found to be
+module _ (f : Bool → Bool → Bool) {a b o p q r h : Bool} (ea : p ≡ a) (eb : q ≡ b) (eo : r ≡ o) (eh : h ≡ f p q) where
+  pub found-in : h ≡ true → f a b ≡ cond (not r) (not o) o
+  found-in t = cc (flips o)
+
+  pub found-out : h ≡ false → f a b ≡ cond r (not o) o
+  found-out t = cc (stays o)

@@ -8,7 +8,7 @@ use lib.ListN.{take, drop}
 use Rattle.interval.specs.declared.Bound.{Bound}
 use Rattle.interval.specs.declared.Interval.{Interval}
 use Rattle.interval.specs.declared.Stretches.{Stretches}
-use Rattle.interval.specs.declared.Joint.{Joint}
+use Rattle.interval.specs.declared.join.Joint.{Joint}
 use Rattle.interval.specs.Meaning.{Ticked, used}
 use Rattle.interval.specs.Edges.{lowEdge, highEdge}
 

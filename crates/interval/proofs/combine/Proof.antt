@@ -14,52 +14,43 @@ use Rattle.interval.proofs.combine.Statement.{statement}
 use Rattle.interval.proofs.combine.Tie as tie
 use Rattle.interval.proofs.combine.Reads as reads
 use Rattle.interval.proofs.combine.Lts as lts
-use Rattle.interval.proofs.edge_numbers.Reads as edge-numbers-reads
-use Rattle.interval.proofs.from_edges.Reads as from-edges-reads
-use Rattle.interval.proofs.merge.Reads as merge-reads
-use Rattle.interval.proofs.with_interval.Reads as with-interval-reads
+use Rattle.interval.proofs.edge.edge_numbers.Reads as edge-numbers-reads
+use Rattle.interval.proofs.merge.from_edges.Reads as from-edges-reads
+use Rattle.interval.proofs.merge.merge.Reads as merge-reads
+use Rattle.interval.proofs.join.with_interval.Reads as with-interval-reads
 
--- src/lib.rt:395:12
 enum-told : tie.Need-enum-told
 enum-told c = search needs
 
--- src/lib.rt:396:21
 element-copy-out-v : tie.Need-element-copy-out-v
 element-copy-out-v c = search needs
 
--- src/lib.rt:397:13
 with-interval-requires : tie.Need-with-interval-requires
 with-interval-requires c κs =
     let g : length (c .before .before .before .before .args .t3 .items) ≡ 32 = search length-mapped in
     let t = used-ticked (c .before .before .before .before .args .t3) g (c .before .before .before .before .pre .1 .0 .fits) 0 (omega (arith, c .before .if1 .taken)) (c .before .before .before .before .pre .1 .0 .ticked) in
     (c .before .before .before .before .pre .0, (omega (arith, c .before .before .before .before .pre .1 .1, c .before .if1 .taken), (t .0, t .1)))
 
--- src/lib.rt:397:13
 returns : tie.Need-returns
 returns c =
     let g : length (c .before .before .before .before .before .args .t3 .items) ≡ 32 = search length-mapped in
     subst (λ (o : Op). Holds (applied o (c .before .before .before .before .before .args .a) (c .before .before .before .before .before .args .t3)) (c .before .before .before .before .before .args .a .count + c .before .before .before .before .before .args .t3 .count) (c .with-interval .result)) (sym (c .before .before .before .enum-told .given .1))
     (holds-union (c .before .before .before .before .before .args .a) (c .before .before .before .before .before .args .t3) (c .with-interval .result) g (c .before .before .before .before .before .pre .1 .0) (c .before .before .if1 .taken) (c .with-interval .ensures))
 
--- src/lib.rt:400:13
 edge-numbers-requires : tie.Need-edge-numbers-requires
 edge-numbers-requires c κs = search needs
 
--- src/lib.rt:401:13
 edge-numbers-requires-2 : tie.Need-edge-numbers-requires-2
 edge-numbers-requires-2 c κs = search needs
 
--- src/lib.rt:403:9
 merge-requires : tie.Need-merge-requires
 merge-requires c κs = (rw (c .before .before .before .before .edge-numbers .ensures, c .before .before .before .edge-numbers2 .ensures) (inputs (c .before .before .before .before .before .before .args .a) (c .before .before .before .before .before .before .args .t3) (c .before .before .before .before .before .before .pre .0) (c .before .before .before .before .before .before .pre .1 .0) (c .before .before .before .before .before .before .pre .1 .1)), refl)
 
--- src/lib.rt:404:5
 from-edges-requires : tie.Need-from-edges-requires
 from-edges-requires c κs =
     let m = rw (c .before .before .before .before .before .before .edge-numbers .ensures, c .before .before .before .before .before .edge-numbers2 .ensures) at (c .before .merge .ensures) in
     (c .before .merge .ensures .edged, omega (arith, m .short, inputs (c .before .before .before .before .before .before .before .before .args .a) (c .before .before .before .before .before .before .before .before .args .t3) (c .before .before .before .before .before .before .before .before .pre .0) (c .before .before .before .before .before .before .before .before .pre .1 .0) (c .before .before .before .before .before .before .before .before .pre .1 .1) .few))
 
--- src/lib.rt:390:1
 returns-2 : tie.Need-returns-2
 returns-2 c =
     let m = rw (c .before .before .before .before .before .before .before .edge-numbers .ensures, c .before .before .before .before .before .before .edge-numbers2 .ensures) at (c .before .before .merge .ensures) in
