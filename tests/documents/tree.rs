@@ -12,6 +12,10 @@ pub struct Tree {
     pub functions: BTreeSet<String>,
     pub public: BTreeSet<String>,
     pub exported: BTreeMap<String, String>,
+    /// modules, those that are public, and what a module hands on: the path there, and where it stands
+    modules: BTreeSet<String>,
+    open: BTreeSet<String>,
+    handed_on: Vec<(String, String)>,
     /// modules, types, constants and functions
     items: BTreeSet<String>,
     /// what each file of definitions or laws defines
@@ -41,7 +45,22 @@ impl Tree {
         for file in tree.files.clone() {
             tree.read_file(&file);
         }
+        tree.settle_public();
         tree
+    }
+
+    /// Leaves those functions public that no module hides, and adds those that a module hands on.
+    fn settle_public(&mut self) {
+        let hidden: BTreeSet<String> = self.modules.iter().filter(|m| m.contains("::") && !self.open.contains(*m)).cloned().collect();
+        let hides = |path: &str| hidden.iter().any(|m| path.strip_prefix(m.as_str()).is_some_and(|rest| rest.starts_with("::")));
+        for (path, stands) in std::mem::take(&mut self.handed_on) {
+            if self.public.contains(&stands) && !hides(&path) {
+                self.functions.insert(path.clone());
+                self.items.insert(path.clone());
+                self.public.insert(path);
+            }
+        }
+        self.public.retain(|path| !hides(path));
     }
 
     fn walk(&mut self, folder: &str) {
@@ -90,12 +109,20 @@ impl Tree {
     /// The items of a file of code.
     fn read_code(&mut self, module: &str, library: bool, text: &str) {
         self.items.insert(module.to_string());
+        self.modules.insert(module.to_string());
         let mut within = String::new();
         for line in text.lines() {
             let mut words = line.trim().split(|c: char| !c.is_alphanumeric() && c != '_' && c != '"').filter(|w| !w.is_empty());
             let first = words.next().unwrap_or("");
             let (public, word) = if first == "pub" { (true, words.next().unwrap_or("")) } else { (false, first) };
             match word {
+                "mod" if public => {
+                    self.open.insert(format!("{module}::{}", words.next().unwrap()));
+                }
+                "use" if public => {
+                    let path: Vec<&str> = words.collect();
+                    self.handed_on.push((format!("{module}::{}", path[path.len() - 1]), format!("{module}::{}", path.join("::"))));
+                }
                 "impl" => within = format!("::{}", words.next().unwrap()),
                 "fn" | "extern" => {
                     let exported = word == "extern";

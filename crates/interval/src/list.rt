@@ -10,9 +10,7 @@ ghost use Rattle.interval.specs.Writing.{kindOf, bitsOf, placed, boundBy
 use crate::Bound;
 use crate::Interval;
 use crate::Stretches;
-
-// The tick 0001-01-01 00:00 at offset zero, as it is counted here: 14 hours.
-const START: u64 = 504000000;
+use timestamp::tick::Tick;
 
 // A bound's kind in the lent list.
 fn kind(b: Bound) -> u64
@@ -32,8 +30,8 @@ fn tick_bits(b: Bound) -> u64
 {
     match b {
         Bound::Unbounded => 0,
-        Bound::Open(t) => std::num::wrapping_sub_u64(t, START),
-        Bound::Closed(t) => std::num::wrapping_sub_u64(t, START),
+        Bound::Open(t) => std::num::wrapping_sub_u64(t, Tick::ORIGIN.0),
+        Bound::Closed(t) => std::num::wrapping_sub_u64(t, Tick::ORIGIN.0),
     }
 }
 
