@@ -104,15 +104,16 @@ pub fn names_in(text: &str) -> Vec<String> {
     text.split('`').skip(1).step_by(2).map(str::to_string).collect()
 }
 
-/// The lines, those of blocks of code empty.
+/// The lines, those of blocks of code empty. A block without fences begins after an empty line.
 fn without_code(text: &str) -> Vec<String> {
-    let mut fenced = false;
+    let (mut fenced, mut apart) = (false, true);
     let mut lines = Vec::new();
     for line in text.lines() {
         let fence = line.starts_with("```");
         fenced = fenced != fence;
-        let code = fence || fenced || line.starts_with("    ");
-        lines.push(if code { String::new() } else { line.to_string() });
+        let indented = apart && line.starts_with("    ");
+        apart = indented || line.is_empty();
+        lines.push(if fence || fenced || indented { String::new() } else { line.to_string() });
     }
     lines
 }

@@ -1,6 +1,6 @@
 //! Holds README.md and docs/ against the tree: what they name in backquotes or by a link is there, and the lists that they keep of what the
-//! tree has leave nothing out. The edits, which documents name, are held to the code that they change. docs/TESTING.md says what is checked. Run in the top folder of the repository; docs/CHANGES.md, the history,
-//! is held to its links alone.
+//! tree has leave nothing out. The edits, which documents name, are held to the code that they change. docs/TESTING.md says what is checked.
+//! Run in the top folder of the repository; docs/CHANGES.md, the history, is held to its links alone.
 
 use std::collections::{BTreeMap, BTreeSet};
 use std::fs;
@@ -86,7 +86,9 @@ fn check_links(tree: &Tree, name: &str, document: &Document, findings: &mut Find
             None if folder.is_empty() => target.to_string(),
             None => format!("{folder}/{target}"),
         };
-        findings.unless(target.contains("://") || target.is_empty() || tree.has_path(&path), &format!("{name}:{line}"), || format!("no file {path}"));
+        findings.unless(target.contains("://") || target.is_empty() || tree.has_path(&path), &format!("{name}:{line}"), || {
+            format!("no file {path}")
+        });
     }
 }
 
@@ -204,7 +206,8 @@ fn check_definitions(tree: &Tree, rules: &Document, findings: &mut Findings) {
 /// ARCHITECTURE's table of the rules' files has each of them, and its table of crates every library that is no bench.
 fn check_specs(tree: &Tree, architecture: &Document, findings: &mut Findings) {
     let rows = architecture.rows("File | Heading | Says");
-    let listed: BTreeSet<String> = rows.iter().flat_map(|row| row.cells[0].split(',')).map(|f| format!("crates/rules/specs/{}.antt", f.trim())).collect();
+    let listed: BTreeSet<String> =
+        rows.iter().flat_map(|row| row.cells[0].split(',')).map(|f| format!("crates/rules/specs/{}.antt", f.trim())).collect();
     let held = tree.files.iter().filter(|f| f.starts_with("crates/rules/specs/") && !f.ends_with("/Lib.antt")).cloned().collect();
     for file in listed.symmetric_difference(&held) {
         findings.add(ARCHITECTURE, format!("{file} is in the table of the rules' files or in the tree, and not in both"));

@@ -111,7 +111,7 @@ impl Tree {
         self.items.insert(module.to_string());
         self.modules.insert(module.to_string());
         let mut within = String::new();
-        for line in text.lines() {
+        for line in text.lines().filter(|l| !l.trim().starts_with("//")) {
             let mut words = line.trim().split(|c: char| !c.is_alphanumeric() && c != '_' && c != '"').filter(|w| !w.is_empty());
             let first = words.next().unwrap_or("");
             let (public, word) = if first == "pub" { (true, words.next().unwrap_or("")) } else { (false, first) };
@@ -272,7 +272,8 @@ fn definitions(text: &str) -> Vec<Definition> {
             Some(_) => vec![*first],
             None => words[start..].iter().take_while(|w| **w != ":").copied().collect(),
         };
-        if kind.is_none() && (start + names.len() == words.len() || names.iter().any(|n| n.contains(['(', ')', '{', '}', '=', 'λ', ',']) || *n == "→")) {
+        let named = |n: &&str| !n.contains(['(', ')', '{', '}', '=', 'λ', ',']) && *n != "→";
+        if kind.is_none() && (start + names.len() == words.len() || !names.iter().all(named)) {
             continue;
         }
         let record = inside.as_ref().and_then(|(_, record)| record.clone());
