@@ -1,6 +1,6 @@
 -- The characters of a value, one at a time and up to the quote that ends them.
 use Prim.Native.Nat.{ℕ, zero, suc, _+_, _≤_, _<_}
-use mathlib.Core.Path.{_≡_, refl, subst}
+use mathlib.Core.Path.{_≡_, refl, sym, subst}
 use mathlib.Core.Bool.{Bool, true, false}
 use mathlib.Core.List.{List}
 use native.Mathlib.Omega.{arith}
@@ -44,6 +44,13 @@ module _ (P Q : Parser ℕ) {s : List ℕ} {at : ℕ} where
   pub char-second : {r : Char} → CharBy P s at Nothing → CharBy Q s at r → CharBy (P or Q) s at r
   char-second (no-char b) (char-is c e l h q) = char-is c e l h (rw b q)
   char-second (no-char b) (no-char h) = no-char (rw b h)
+
+  -- by the case of the first answer
+  pub char-here : {r : Char} {c e : ℕ} → r ≡ Is c e → CharBy P s at r → CharBy (P or Q) s at r
+  char-here q h = char-answer (sym q) (char-first (char-answer q h))
+
+  pub char-past : {r x : Char} → r ≡ Nothing → CharBy P s at r → CharBy Q s at x → CharBy (P or Q) s at x
+  char-past q h = char-second (char-answer q h)
 
 -- bytes that stand for one
 module _ (t : List ℕ) (c : ℕ) {k : ℕ} {s : List ℕ} {at : ℕ} where

@@ -22,8 +22,8 @@ fn read_noncharacter(s: &[u8], at: usize) -> Read
     ensures { λ r. ⌜ Reads 3 noncharacter (now (s .entry)) at r ⌝ }
 {
     let first = read_literal(s, at, b"\xEF\xBF\xBE");
-    if let Read::At(e) = first {
-        return Read::At(e);
+    if let Read::At(_) = first {
+        return first;
     }
     read_literal(s, at, b"\xEF\xBF\xBF")
 }
@@ -67,20 +67,20 @@ fn read_reference(s: &[u8], at: usize) -> Char
     ensures { λ r. ⌜ CharBy reference (now (s .entry)) at r ⌝ }
 {
     let amp = read_written(s, at, b"&amp;", b'&');
-    if let Char::Is(c, e) = amp {
-        return Char::Is(c, e);
+    if let Char::Is(_, _) = amp {
+        return amp;
     }
     let lt = read_written(s, at, b"&lt;", b'<');
-    if let Char::Is(c, e) = lt {
-        return Char::Is(c, e);
+    if let Char::Is(_, _) = lt {
+        return lt;
     }
     let gt = read_written(s, at, b"&gt;", b'>');
-    if let Char::Is(c, e) = gt {
-        return Char::Is(c, e);
+    if let Char::Is(_, _) = gt {
+        return gt;
     }
     let quot = read_written(s, at, b"&quot;", b'"');
-    if let Char::Is(c, e) = quot {
-        return Char::Is(c, e);
+    if let Char::Is(_, _) = quot {
+        return quot;
     }
     read_written(s, at, b"&apos;", b'\'')
 }
@@ -95,8 +95,8 @@ pub fn read_char(s: &[u8], at: usize) -> Char
         return Char::Nothing;
     }
     let plain = read_plain(s, at);
-    if let Char::Is(c, e) = plain {
-        return Char::Is(c, e);
+    if let Char::Is(_, _) = plain {
+        return plain;
     }
     read_reference(s, at)
 }

@@ -7,20 +7,13 @@ use Rattle.form.proofs.Quoted.{by-raw}
 use borrow.Author.Needs.{needs}
 use Rattle.form.proofs.amount.Statement.{statement}
 use Rattle.form.proofs.amount.Tie as tie
-use Rattle.form.proofs.amount.Reads as reads
-use Rattle.form.proofs.amount.Lts as lts
-use Rattle.form.proofs.inside.Reads as inside-reads
-use Rattle.form.proofs.money.read.Reads as read-reads
 
--- src/lib.rt:72:9
 inside-requires : tie.Need-inside-requires
 inside-requires c κs = search needs
 
--- src/lib.rt:73:5
 read-requires : tie.Need-read-requires
 read-requires c κs = search needs
 
--- src/lib.rt:67:1
 returns : tie.Need-returns
 returns c = (c .read .ensures .0, λ v h. c .read .ensures .1 ∙ by-raw (whole amountText) no-amount (c .before .before .before .args .s .now) (c .before .before .before .args .q) (c .before .before .before .args .e) (c .before .before .before .pre .1) (c .before .inside .ensures) v h)
 

@@ -3,27 +3,19 @@ use Rattle.form.proofs.Faults.{amount-found, amount-missing}
 use borrow.Author.Needs.{needs}
 use Rattle.form.proofs.is_amount.Statement.{statement}
 use Rattle.form.proofs.is_amount.Tie as tie
-use Rattle.form.proofs.is_amount.Reads as reads
-use Rattle.form.proofs.is_amount.Lts as lts
-use Rattle.form.proofs.amount.Reads as amount-reads
 
--- src/lib.rt:92:9
 amount-requires : tie.Need-amount-requires
 amount-requires c κs = search needs
 
--- src/lib.rt:97:14
 enum-told : tie.Need-enum-told
 enum-told c = search needs
 
--- src/lib.rt:98:24
 enum-told-2 : tie.Need-enum-told-2
 enum-told-2 c = search needs
 
--- src/lib.rt:88:1
 returns : tie.Need-returns
 returns c = λ v h. amount-found _ _ _ (c .enum-told .given .1) (c .before .before .amount .ensures .1 v h)
 
--- src/lib.rt:88:1
 returns-2 : tie.Need-returns-2
 returns-2 c = λ v h. amount-missing _ (c .enum-told2 .given .1) (c .before .before .amount .ensures .1 v h)
 

@@ -6,20 +6,13 @@ use Rattle.form.proofs.Quoted.{by-raw}
 use borrow.Author.Needs.{needs}
 use Rattle.form.proofs.moment.Statement.{statement}
 use Rattle.form.proofs.moment.Tie as tie
-use Rattle.form.proofs.moment.Reads as reads
-use Rattle.form.proofs.moment.Lts as lts
-use Rattle.form.proofs.inside.Reads as inside-reads
-use Rattle.timestamp.proofs.read.Reads as read-reads
 
--- src/lib.rt:47:9
 inside-requires : tie.Need-inside-requires
 inside-requires c κs = search needs
 
--- src/lib.rt:48:5
 read-requires : tie.Need-read-requires
 read-requires c κs = search needs
 
--- src/lib.rt:43:1
 returns : tie.Need-returns
 returns c = λ v h. c .read .ensures ∙ by-raw (readTimestamp (c .before .before .before .args .shift)) (no-timestamp (c .before .before .before .args .shift)) (c .before .before .before .args .s .now) (c .before .before .before .args .q) (c .before .before .before .args .e) (c .before .before .before .pre .1 .0) (c .before .inside .ensures) v h
 

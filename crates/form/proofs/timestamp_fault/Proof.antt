@@ -3,27 +3,19 @@ use Rattle.form.proofs.Faults.{moment-found, moment-refused}
 use borrow.Author.Needs.{needs}
 use Rattle.form.proofs.timestamp_fault.Statement.{statement}
 use Rattle.form.proofs.timestamp_fault.Tie as tie
-use Rattle.form.proofs.timestamp_fault.Reads as reads
-use Rattle.form.proofs.timestamp_fault.Lts as lts
-use Rattle.form.proofs.moment.Reads as moment-reads
 
--- src/lib.rt:107:9
 moment-requires : tie.Need-moment-requires
 moment-requires c κs = search needs
 
--- src/lib.rt:108:28
 enum-known-answer : tie.Need-enum-known-answer
 enum-known-answer c = search needs
 
--- src/lib.rt:109:9
 enum-told : tie.Need-enum-told
 enum-told c = search needs
 
--- src/lib.rt:109:9
 returns : tie.Need-returns
 returns c = λ v h. moment-found _ _ (c .enum-told .given .1) (c .before .before .moment .ensures v h)
 
--- src/lib.rt:103:1
 returns-2 : tie.Need-returns-2
 returns-2 c = λ v h. moment-refused _ _ (c .before .answer .given .1) (c .before .before .before .moment .ensures v h)
 

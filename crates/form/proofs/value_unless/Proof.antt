@@ -2,14 +2,10 @@
 use Rattle.form.proofs.Faults.{unless-good, unless-bad}
 use Rattle.form.proofs.value_unless.Statement.{statement}
 use Rattle.form.proofs.value_unless.Tie as tie
-use Rattle.form.proofs.value_unless.Reads as reads
-use Rattle.form.proofs.value_unless.Lts as lts
 
--- src/lib.rt:77:1
 returns : tie.Need-returns
 returns c = unless-good (c .before .args .good) (c .if1 .taken)
 
--- src/lib.rt:77:1
 returns-2 : tie.Need-returns-2
 returns-2 c = unless-bad (c .before .args .good) (c .if1 .left)
 

@@ -12,12 +12,6 @@ use Rattle.interval.proofs.Joining.{holds-union}
 use borrow.Author.Needs.{needs}
 use Rattle.interval.proofs.combine.Statement.{statement}
 use Rattle.interval.proofs.combine.Tie as tie
-use Rattle.interval.proofs.combine.Reads as reads
-use Rattle.interval.proofs.combine.Lts as lts
-use Rattle.interval.proofs.edge.edge_numbers.Reads as edge-numbers-reads
-use Rattle.interval.proofs.merge.from_edges.Reads as from-edges-reads
-use Rattle.interval.proofs.merge.merge.Reads as merge-reads
-use Rattle.interval.proofs.join.with_interval.Reads as with-interval-reads
 
 enum-told : tie.Need-enum-told
 enum-told c = search needs

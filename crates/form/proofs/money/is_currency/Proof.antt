@@ -3,39 +3,28 @@ use Rattle.form.proofs.Amounting.{currency-other, currency-three}
 use borrow.Author.Needs.{needs}
 use Rattle.form.proofs.money.is_currency.Statement.{statement}
 use Rattle.form.proofs.money.is_currency.Tie as tie
-use Rattle.form.proofs.money.is_currency.Reads as reads
-use Rattle.form.proofs.money.is_currency.Lts as lts
-use Rattle.form.proofs.money.is_capital.Reads as is-capital-reads
 
--- src/money.rt:58:9
 returns : tie.Need-returns
 returns c = currency-other (c .before .before .args .t .now) (c .if1 .taken)
 
--- src/money.rt:60:16
 shared-slice-read-is-capital : tie.Need-shared-slice-read-is-capital
 shared-slice-read-is-capital c = search needs
 
--- src/money.rt:60:5
 is-capital-requires : tie.Need-is-capital-requires
 is-capital-requires c κs = search needs
 
--- src/money.rt:60:35
 shared-slice-read-is-capital-2 : tie.Need-shared-slice-read-is-capital-2
 shared-slice-read-is-capital-2 c = search needs
 
--- src/money.rt:60:24
 is-capital-requires-2 : tie.Need-is-capital-requires-2
 is-capital-requires-2 c κs = search needs
 
--- src/money.rt:60:54
 shared-slice-read-is-capital-3 : tie.Need-shared-slice-read-is-capital-3
 shared-slice-read-is-capital-3 c = search needs
 
--- src/money.rt:60:43
 is-capital-requires-3 : tie.Need-is-capital-requires-3
 is-capital-requires-3 c κs = search needs
 
--- src/money.rt:54:1
 returns-2 : tie.Need-returns-2
 returns-2 c = rw (c .before .before .before .before .is-capital .ensures, c .before .before .is-capital2 .ensures, c .is-capital3 .ensures) (currency-three (c .before .before .before .before .before .before .before .before .args .t .now) (c .before .before .before .before .before .before .if1 .left))
 

@@ -4,50 +4,34 @@ use Rattle.form.proofs.Amounting.{amount-none, amount-longer, amount-is
 use borrow.Author.Needs.{needs}
 use Rattle.form.proofs.money.read.Statement.{statement}
 use Rattle.form.proofs.money.read.Tie as tie
-use Rattle.form.proofs.money.read.Reads as reads
-use Rattle.form.proofs.money.read.Lts as lts
-use Rattle.form.proofs.money.sign_end.Reads as sign-end-reads
-use Rattle.text.proofs.digits.count.Reads as count-reads
-use Rattle.text.proofs.digits.read_fraction.Reads as read-fraction-reads
-use Rattle.text.proofs.digits.value.Reads as value-reads
 
--- src/money.rt:30:9
 sign-end-requires : tie.Need-sign-end-requires
 sign-end-requires c κs = search needs
 
--- src/money.rt:31:9
 count-requires : tie.Need-count-requires
 count-requires c κs = search needs
 
--- src/money.rt:33:9
 returns : tie.Need-returns
 returns c = (tt, amount-none (c .before .before .before .before .args .t .now) _ (c .before .before .sign-end .ensures) _ (c .before .count .ensures) (c .if1 .taken))
 
--- src/money.rt:35:9
 value-requires : tie.Need-value-requires
 value-requires c κs = search needs
 
--- src/money.rt:36:45
 add-read-fraction : tie.Need-add-read-fraction
 add-read-fraction c = search needs
 
--- src/money.rt:36:9
 read-fraction-requires : tie.Need-read-fraction-requires
 read-fraction-requires c κs = search needs
 
--- src/money.rt:38:9
 returns-2 : tie.Need-returns-2
 returns-2 c = (tt, amount-longer (c .before .before .before .before .before .before .before .before .args .t .now) _ (c .before .before .before .before .before .before .sign-end .ensures) _ (c .before .before .before .before .before .count .ensures) (c .before .before .before .before .if1 .left) _ (c .before .before .read-fraction .ensures) (c .if2 .taken))
 
--- src/money.rt:42:16
 mul-t8 : tie.Need-mul-t8
 mul-t8 c = omega (arith, units-small (c .before .before .before .before .before .before .before .before .args .t .now) _ (c .before .before .before .before .before .before .sign-end .ensures) _ (c .before .before .before .before .before .count .ensures) _ (c .before .before .before .value .ensures))
 
--- src/money.rt:42:16
 add-t9 : tie.Need-add-t9
 add-t9 c = omega (arith, units-small (c .before .before .before .before .before .before .before .before .before .args .t .now) _ (c .before .before .before .before .before .before .before .sign-end .ensures) _ (c .before .before .before .before .before .before .count .ensures) _ (c .before .before .before .before .value .ensures), c .before .before .before .read-fraction .ensures .small)
 
--- src/money.rt:26:1
 returns-3 : tie.Need-returns-3
 returns-3 c = (omega (arith, units-small (c .before .before .before .before .before .before .before .before .before .args .t .now) _ (c .before .before .before .before .before .before .before .sign-end .ensures) _ (c .before .before .before .before .before .before .count .ensures) _ (c .before .before .before .before .value .ensures), c .before .before .before .read-fraction .ensures .small), amount-is (c .before .before .before .before .before .before .before .before .before .args .t .now) _ (c .before .before .before .before .before .before .before .sign-end .ensures) _ (c .before .before .before .before .before .before .count .ensures) (c .before .before .before .before .before .if1 .left) _ (c .before .before .before .read-fraction .ensures) _ (c .before .before .before .before .value .ensures) (c .before .if2 .left))
 

@@ -3,22 +3,16 @@ use Rattle.form.proofs.Amounting.{sign-end, sign-minus, sign-other}
 use borrow.Author.Needs.{needs}
 use Rattle.form.proofs.money.sign_end.Statement.{statement}
 use Rattle.form.proofs.money.sign_end.Tie as tie
-use Rattle.form.proofs.money.sign_end.Reads as reads
-use Rattle.form.proofs.money.sign_end.Lts as lts
 
--- src/money.rt:20:9
 returns : tie.Need-returns
 returns c = sign-end (c .before .args .t .now) (c .if1 .taken)
 
--- src/money.rt:22:8
 shared-slice-read-if2 : tie.Need-shared-slice-read-if2
 shared-slice-read-if2 c = search needs
 
--- src/money.rt:16:1
 returns-2 : tie.Need-returns-2
 returns-2 c = sign-minus (c .before .before .before .args .t .now) (c .before .before .if1 .left) (c .if2 .taken)
 
--- src/money.rt:16:1
 returns-3 : tie.Need-returns-3
 returns-3 c = sign-other (c .before .before .before .args .t .now) (c .before .before .if1 .left) (c .if2 .left)
 

@@ -3,19 +3,13 @@ use native.Mathlib.Omega.{arith}
 use Rattle.form.proofs.Oids.{at-most-long, take-digits, at-most-is}
 use Rattle.form.proofs.oid.is_at_most.Statement.{statement}
 use Rattle.form.proofs.oid.is_at_most.Tie as tie
-use Rattle.form.proofs.oid.is_at_most.Reads as reads
-use Rattle.form.proofs.oid.is_at_most.Lts as lts
-use Rattle.text.proofs.digits.value.Reads as value-reads
 
--- src/oid.rt:36:9
 returns : tie.Need-returns
 returns c = at-most-long (c .before .before .args .n .now) (c .before .before .args .most) (c .before .before .pre .0) (c .before .before .pre .1) (c .if1 .taken)
 
--- src/oid.rt:38:5
 value-requires : tie.Need-value-requires
 value-requires c κs = (omega (arith, c .if1 .left), (omega arith, take-digits (c .before .before .args .n .now) (c .before .before .pre .0)))
 
--- src/oid.rt:31:1
 returns-2 : tie.Need-returns-2
 returns-2 c = at-most-is (c .before .before .before .args .n .now) (c .before .before .before .args .most) _ (c .value .ensures)
 

@@ -3,31 +3,22 @@ use Rattle.form.proofs.Oids.{number-none, number-other, number-one, num
 use borrow.Author.Needs.{needs}
 use Rattle.form.proofs.oid.is_number.Statement.{statement}
 use Rattle.form.proofs.oid.is_number.Tie as tie
-use Rattle.form.proofs.oid.is_number.Reads as reads
-use Rattle.form.proofs.oid.is_number.Lts as lts
-use Rattle.text.proofs.digits.count.Reads as count-reads
 
--- src/oid.rt:19:9
 returns : tie.Need-returns
 returns c = number-none (c .before .before .args .n .now) (c .if1 .taken)
 
--- src/oid.rt:21:8
 count-requires : tie.Need-count-requires
 count-requires c κs = search needs
 
--- src/oid.rt:22:9
 returns-2 : tie.Need-returns-2
 returns-2 c = number-other (c .before .before .before .before .args .n .now) _ (c .before .count .ensures) (c .if2 .taken)
 
--- src/oid.rt:25:9
 returns-3 : tie.Need-returns-3
 returns-3 c = number-one (c .before .before .before .before .before .args .n .now) _ (c .before .before .count .ensures) (c .before .if2 .left) (c .if3 .taken)
 
--- src/oid.rt:27:5
 shared-slice-read-result : tie.Need-shared-slice-read-result
 shared-slice-read-result c = search needs
 
--- src/oid.rt:15:1
 returns-4 : tie.Need-returns-4
 returns-4 c = number-more (c .before .before .before .before .before .before .args .n .now) _ (c .before .before .before .count .ensures) (c .before .before .if2 .left) (c .before .before .before .before .if1 .left) (c .before .if3 .left)
 

@@ -6,69 +6,49 @@ use Rattle.form.proofs.Oids.{root-long, root-other, root-one, root-two,
 use borrow.Author.Needs.{needs}
 use Rattle.form.proofs.oid.is_root.Statement.{statement}
 use Rattle.form.proofs.oid.is_root.Tie as tie
-use Rattle.form.proofs.oid.is_root.Reads as reads
-use Rattle.form.proofs.oid.is_root.Lts as lts
-use Rattle.form.proofs.parts.are_parts.Reads as are-parts-reads
-use Rattle.form.proofs.oid.may_lead.Reads as may-lead-reads
-use Rattle.form.proofs.parts.part_end.Reads as part-end-reads
 
--- src/oid.rt:77:9
 returns : tie.Need-returns
 returns c = root-long (c .before .before .args .t .now) (c .if1 .taken)
 
--- src/oid.rt:79:9
 are-parts-requires : tie.Need-are-parts-requires
 are-parts-requires c κs = search needs
 
--- src/oid.rt:80:9
 returns-2 : tie.Need-returns-2
 returns-2 c = root-other (c .before .before .before .before .args .t .now) (sym (c .before .are-parts .ensures) ∙ not-true _ (c .if2 .taken))
 
--- src/oid.rt:82:9
 part-end-requires : tie.Need-part-end-requires
 part-end-requires c κs = search needs
 
--- src/oid.rt:84:9
 returns-3 : tie.Need-returns-3
 returns-3 c = root-one (c .before .before .before .before .before .before .args .t .now) _ (c .before .part-end .ensures) (c .if3 .taken)
 
--- src/oid.rt:86:16
 add-from : tie.Need-add-from
 add-from c = search needs
 
--- src/oid.rt:87:9
 part-end-requires-2 : tie.Need-part-end-requires-2
 part-end-requires-2 c κs = search needs
 
--- src/oid.rt:88:14
 sub-may-lead : tie.Need-sub-may-lead
 sub-may-lead c = search needs
 
--- src/oid.rt:88:14
 part-may-lead-start : tie.Need-part-may-lead-start
 part-may-lead-start c = search needs
 
--- src/oid.rt:88:14
 part-may-lead-end : tie.Need-part-may-lead-end
 part-may-lead-end c = search needs
 
--- src/oid.rt:88:28
 sub-may-lead-2 : tie.Need-sub-may-lead-2
 sub-may-lead-2 c = search needs
 
--- src/oid.rt:88:28
 part-may-lead-start-2 : tie.Need-part-may-lead-start-2
 part-may-lead-start-2 c = search needs
 
--- src/oid.rt:88:28
 part-may-lead-end-2 : tie.Need-part-may-lead-end-2
 part-may-lead-end-2 c = search needs
 
--- src/oid.rt:88:5
 may-lead-requires : tie.Need-may-lead-requires
 may-lead-requires c κs = root-numbers (c .before .before .before .before .before .before .before .before .before .args .t .now) _ _ (sym (c .before .before .before .before .before .before .are-parts .ensures) ∙ not-false _ (c .before .before .before .before .before .if2 .left)) (c .before .before .before .before .part-end .ensures) (omega (arith, c .before .before .before .before .part-end .ensures .high, c .before .before .before .if3 .left)) (c .before .before .part-end2 .ensures)
 
--- src/oid.rt:73:1
 returns-4 : tie.Need-returns-4
 returns-4 c = c .may-lead .ensures ∙ root-two (c .before .before .before .before .before .before .before .before .before .before .args .t .now) _ _ (sym (c .before .before .before .before .before .before .before .are-parts .ensures) ∙ not-false _ (c .before .before .before .before .before .before .if2 .left)) (c .before .before .before .before .before .part-end .ensures) (omega (arith, c .before .before .before .before .before .part-end .ensures .high, c .before .before .before .before .if3 .left)) (c .before .before .before .part-end2 .ensures) (c .before .before .before .before .before .before .before .before .if1 .left)
 

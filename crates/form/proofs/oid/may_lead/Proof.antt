@@ -6,31 +6,22 @@ use Rattle.form.proofs.Oids.{lead-over, lead-under, lead-two}
 use borrow.Author.Needs.{needs}
 use Rattle.form.proofs.oid.may_lead.Statement.{statement}
 use Rattle.form.proofs.oid.may_lead.Tie as tie
-use Rattle.form.proofs.oid.may_lead.Reads as reads
-use Rattle.form.proofs.oid.may_lead.Lts as lts
-use Rattle.form.proofs.oid.is_at_most.Reads as is-at-most-reads
 
--- src/oid.rt:46:9
 is-at-most-requires : tie.Need-is-at-most-requires
 is-at-most-requires c κs = search needs
 
--- src/oid.rt:47:9
 returns : tie.Need-returns
 returns c = lead-over (decimal (c .before .before .before .before .args .a .now)) (decimal (c .before .before .before .before .args .b .now)) (sym (c .before .is-at-most .ensures) ∙ not-true _ (c .if1 .taken))
 
--- src/oid.rt:49:8
 is-at-most-requires-2 : tie.Need-is-at-most-requires-2
 is-at-most-requires-2 c κs = search needs
 
--- src/oid.rt:50:9
 is-at-most-requires-3 : tie.Need-is-at-most-requires-3
 is-at-most-requires-3 c κs = search needs
 
--- src/oid.rt:50:9
 returns-2 : tie.Need-returns-2
 returns-2 c = c .is-at-most3 .ensures ∙ lead-under (decimal (c .before .before .before .before .before .before .before .args .a .now)) (decimal (c .before .before .before .before .before .before .before .args .b .now)) (sym (c .before .before .is-at-most2 .ensures) ∙ c .before .if2 .taken)
 
--- src/oid.rt:42:1
 returns-3 : tie.Need-returns-3
 returns-3 c = lead-two (decimal (c .before .before .before .before .before .before .args .a .now)) (decimal (c .before .before .before .before .before .before .args .b .now)) (sym (c .before .before .before .is-at-most .ensures) ∙ not-false _ (c .before .before .if1 .left)) (sym (c .before .is-at-most2 .ensures) ∙ c .if2 .left)
 

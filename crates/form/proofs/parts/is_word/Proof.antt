@@ -3,7 +3,6 @@ use Prim.Native.Nat.{_-_, _≤_}
 use mathlib.Core.Path.{_≡_, refl, sym, _∙_}
 use native.Mathlib.Omega.{arith}
 use lib.ListN.{length, drop}
-use borrow.Author.Needs.{needs}
 use Rattle.rules.specs.Basics.{exists, same, words}
 use Rattle.form.proofs.Parting.{exists-here, exists-last, exists-more}
 use Rattle.form.proofs.parts.is_word.Statement.{statement}

@@ -7,8 +7,6 @@ use Rattle.form.specs.Parted.{PartAt}
 use Rattle.form.proofs.Parting.{part-here, part-stop, part-more}
 use Rattle.form.proofs.parts.part_end.Statement.{statement}
 use Rattle.form.proofs.parts.part_end.Tie as tie
-use Rattle.form.proofs.parts.part_end.Reads as reads
-use Rattle.form.proofs.parts.part_end.Lts as lts
 
 abbrev Inv-loop : tie.InvT-loop
 Inv-loop t from b i₀ i = (i ≤ length t) × ((e : ℕ) → PartAt b t i e → PartAt b t from e)
@@ -16,31 +14,24 @@ Inv-loop t from b i₀ i = (i ≤ length t) × ((e : ℕ) → PartAt b t i e →
 abbrev μ-loop : tie.MeasureT-loop
 μ-loop t from b i₀ i = length t - i
 
--- src/parts.rt:12:5
 loop-holds : tie.Need-loop-holds Inv-loop μ-loop
 loop-holds c = (c .pre, λ e p. p)
 
--- src/parts.rt:13:12
 shared-slice-read-if1 : tie.Need-shared-slice-read-if1 Inv-loop μ-loop
 shared-slice-read-if1 c = search needs
 
--- src/parts.rt:14:13
 returns : tie.Need-returns Inv-loop μ-loop
 returns c = c .before .before .before .loop .inv .1 _ (part-here (c .before .before .before .before .args .b) (c .before .before .before .before .args .t .now) (c .before .before .before .loop .i) (c .before .before .loop-test .taken) (c .if1 .taken))
 
--- src/parts.rt:16:9
 add-i : tie.Need-add-i Inv-loop μ-loop
 add-i c = search needs
 
--- src/parts.rt:12:5
 loop-less : tie.Need-loop-less Inv-loop μ-loop
 loop-less c = search needs
 
--- src/parts.rt:12:5
 loop-again : tie.Need-loop-again Inv-loop μ-loop
 loop-again c = (omega arith, λ e p. c .before .before .before .loop .inv .1 e (part-more (c .before .before .before .before .args .b) (c .before .before .before .before .args .t .now) (c .before .before .before .loop .i) e (c .before .before .loop-test .taken) (c .if1 .left) p))
 
--- src/parts.rt:7:1
 returns-2 : tie.Need-returns-2 Inv-loop μ-loop
 returns-2 c = c .before .loop .inv .1 _ (part-stop (c .before .before .args .b) (c .before .before .args .t .now) (c .before .loop .i) (c .before .loop .inv .0) (c .loop-test .left))
 

@@ -12,10 +12,6 @@ use Rattle.interval.proofs.Items.{length-mapped, used-ticked}
 use Rattle.interval.proofs.Joining.{passed-end, passed-more, passed-here}
 use Rattle.interval.proofs.join.count_before.Statement.{statement}
 use Rattle.interval.proofs.join.count_before.Tie as tie
-use Rattle.interval.proofs.join.count_before.Reads as reads
-use Rattle.interval.proofs.join.count_before.Lts as lts
-use Rattle.interval.proofs.edge.high_edge.Reads as high-edge-reads
-use Rattle.interval.proofs.edge.low_edge.Reads as low-edge-reads
 
 abbrev Inv-loop : tie.InvT-loop
 Inv-loop s from k₀ k = (k ≤ s .count) × ((v : Interval) → lowEdge (v .low) ≡ from → insert v (used s) ≡ take k (used s) ++ insert v (drop k (used s)))

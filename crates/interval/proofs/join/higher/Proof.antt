@@ -6,9 +6,6 @@ use Rattle.interval.specs.Edges.{highEdge}
 use borrow.Author.Needs.{needs}
 use Rattle.interval.proofs.join.higher.Statement.{statement}
 use Rattle.interval.proofs.join.higher.Tie as tie
-use Rattle.interval.proofs.join.higher.Reads as reads
-use Rattle.interval.proofs.join.higher.Lts as lts
-use Rattle.interval.proofs.edge.high_edge.Reads as high-edge-reads
 
 high-edge-requires : tie.Need-high-edge-requires
 high-edge-requires c κs = search needs

@@ -10,12 +10,6 @@ use Rattle.interval.proofs.Items.{nowhere, length-mapped, used-ticked}
 use Rattle.interval.proofs.Joining.{hull-low, hull-high, join-end, join-past, join-here}
 use Rattle.interval.proofs.join.join_from.Statement.{statement}
 use Rattle.interval.proofs.join.join_from.Tie as tie
-use Rattle.interval.proofs.join.join_from.Reads as reads
-use Rattle.interval.proofs.join.join_from.Lts as lts
-use Rattle.interval.proofs.edge.high_edge.Reads as high-edge-reads
-use Rattle.interval.proofs.join.higher.Reads as higher-reads
-use Rattle.interval.proofs.edge.low_edge.Reads as low-edge-reads
-use Rattle.interval.proofs.join.lower.Reads as lower-reads
 
 abbrev Inv-loop : tie.InvT-loop
 Inv-loop p s low₀ high₀ k₀ low high k = (p ≤ k) × (k ≤ s .count) × Ticked low × Ticked high × (absorb (record { low = low₀; high = high₀ }) (drop p (used s)) ≡ absorb (record { low = low; high = high }) (drop k (used s)))

@@ -6,9 +6,6 @@ use Rattle.interval.specs.Edges.{lowEdge}
 use borrow.Author.Needs.{needs}
 use Rattle.interval.proofs.join.lower.Statement.{statement}
 use Rattle.interval.proofs.join.lower.Tie as tie
-use Rattle.interval.proofs.join.lower.Reads as reads
-use Rattle.interval.proofs.join.lower.Lts as lts
-use Rattle.interval.proofs.edge.low_edge.Reads as low-edge-reads
 
 low-edge-requires : tie.Need-low-edge-requires
 low-edge-requires c κs = search needs

@@ -9,8 +9,6 @@ use Rattle.interval.proofs.Items.{length-mapped}
 use Rattle.interval.proofs.Joining.{replace-start, replace-more, replace-end}
 use Rattle.interval.proofs.join.replace.Statement.{statement}
 use Rattle.interval.proofs.join.replace.Tie as tie
-use Rattle.interval.proofs.join.replace.Reads as reads
-use Rattle.interval.proofs.join.replace.Lts as lts
 
 abbrev Inv-loop : tie.InvT-loop
 Inv-loop p q s r₀ n₀ k₀ r n k = (q ≤ k) × (k ≤ s .count) × (n + q ≡ p + 1 + k) × (length (r .items) ≡ 32) × (take n (r .items) ++ drop k (used s) ≡ take (p + 1) (r₀ .items) ++ drop q (used s))

@@ -13,13 +13,6 @@ use Rattle.interval.proofs.Joining.{holds-empty, holds-joined}
 use borrow.Author.Needs.{needs}
 use Rattle.interval.proofs.join.with_interval.Statement.{statement}
 use Rattle.interval.proofs.join.with_interval.Tie as tie
-use Rattle.interval.proofs.join.with_interval.Reads as reads
-use Rattle.interval.proofs.join.with_interval.Lts as lts
-use Rattle.interval.proofs.join.count_before.Reads as count-before-reads
-use Rattle.interval.proofs.edge.high_edge.Reads as high-edge-reads
-use Rattle.interval.proofs.join.join_from.Reads as join-from-reads
-use Rattle.interval.proofs.edge.low_edge.Reads as low-edge-reads
-use Rattle.interval.proofs.join.replace.Reads as replace-reads
 
 high-edge-requires : tie.Need-high-edge-requires
 high-edge-requires c κs = search needs
