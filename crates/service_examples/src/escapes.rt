@@ -6,12 +6,6 @@ ghost use Rattle.io.specs.Counts.{Counts};
 use crate::lines;
 use crate::numbers;
 
-// A byte that is written, and where what comes after it starts.
-struct Written {
-    byte: u8,
-    end: usize,
-}
-
 // The byte that a letter after a backslash stands for.
 fn control(letter: u8) -> u8 {
     match letter {
@@ -33,31 +27,28 @@ fn hex(digit: u8) -> u8
     }
 }
 
-// The byte that is written at a position.
-fn byte_at(s: &[u8], at: usize) -> Written
-    requires { ⌜ at < length (now s) ⌝ }
-    ensures { λ r. ⌜ (at < r .end) × (r .end ≤ length (now (s .entry))) ⌝ }
-{
-    let first = s[at];
-    let after = at + 1;
-    if first != b'\\' {
-        return Written {
-            byte: first,
-            end: after,
-        };
+// The byte that a text begins with.
+fn first(text: &[u8]) -> u8 {
+    let byte = lines::byte(text, 0);
+    if byte != b'\\' {
+        return byte;
     }
-    let rest = &s[after..];
-    let letter = lines::byte(rest, 0);
+    let letter = lines::byte(text, 1);
     if letter != b'x' {
-        return Written {
-            byte: control(letter),
-            end: lines::behind(s, after, 1),
-        };
+        return control(letter);
     }
-    Written {
-        byte: hex(lines::byte(rest, 1)) * 16 + hex(lines::byte(rest, 2)),
-        end: lines::behind(s, after, 3),
+    hex(lines::byte(text, 2)) * 16 + hex(lines::byte(text, 3))
+}
+
+// How many characters more than one write the byte that a text begins with.
+fn more(text: &[u8]) -> usize {
+    if lines::byte(text, 0) != b'\\' {
+        return 0;
     }
+    if lines::byte(text, 1) != b'x' {
+        return 1;
+    }
+    3
 }
 
 // Puts a byte at a position, if there is room, and answers the next position.
@@ -80,9 +71,9 @@ fn put(text: &[u8], out: &mut [u8], at: usize) -> usize
     let mut n = at;
     let mut i = 0;
     while i < text.len() {
-        let b = byte_at(text, i);
-        n = put_byte(out, n, b.byte);
-        i = b.end;
+        let rest = &text[i..];
+        n = put_byte(out, n, first(rest));
+        i = lines::behind(text, i + 1, more(rest));
     }
     n
 }
@@ -105,31 +96,16 @@ fn put_group(group: &[u8], out: &mut [u8], at: usize) -> usize
     n
 }
 
-// Whether a text that is repeated starts at a position.
-fn is_group(s: &[u8], at: usize) -> bool
-    requires { ⌜ at < length (now s) ⌝ }
+// Puts a text with one that is repeated at its end, without its closing brace, or without such a one.
+fn put_part(part: &[u8], out: &mut [u8], at: usize) -> usize
+    requires { ⌜ at ≤ length (now out) ⌝ }
+    ensures { λ r. ⌜ (r ≤ length (now (out .entry))) × (length (now (out .exit)) ≡ length (now (out .entry))) ⌝ }
 {
-    if s[at] != b'\\' {
-        return false;
-    }
-    let after = &s[at + 1..];
-    lines::byte(after, 0) == b'{'
-}
-
-// Where the first text that is repeated starts from a position on, or where the text ends.
-fn group_start(s: &[u8], from: usize) -> usize
-    requires { ⌜ from ≤ length (now s) ⌝ }
-    ensures { λ r. ⌜ (from ≤ r) × (r ≤ length (now (s .entry))) ⌝ }
-{
-    let mut i = from;
-    while i < s.len() {
-        if is_group(s, i) {
-            return i;
-        }
-        let b = byte_at(s, i);
-        i = b.end;
-    }
-    i
+    let brace = lines::position(part, 0, b'{');
+    let end = lines::ahead(part, brace);
+    let start = lines::behind(part, brace, 1);
+    let n = put(lines::between(part, 0, end), out, at);
+    put_group(&part[start..], out, n)
 }
 
 // Puts the bytes that a text writes at the start of `out`, and answers how many.
@@ -139,11 +115,8 @@ pub fn decode(text: &[u8], out: &mut [u8]) -> usize
     let mut n = 0;
     let mut i = 0;
     while i < text.len() {
-        let e = group_start(text, i);
-        n = put(&text[i..e], out, n);
-        let close = lines::position(text, e, b'}');
-        let start = lines::behind(text, e, 2);
-        n = put_group(lines::between(text, start, close), out, n);
+        let close = lines::position(text, i, b'}');
+        n = put_part(&text[i..close], out, n);
         i = close + 1;
     }
     n

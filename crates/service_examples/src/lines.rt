@@ -22,6 +22,19 @@ pub fn byte(s: &[u8], at: usize) -> u8 {
     if at < s.len() { s[at] } else { 0 }
 }
 
+// The position before that of a byte; the end, if it is no byte's.
+pub fn ahead(s: &[u8], at: usize) -> usize
+    ensures { λ r. ⌜ r ≤ length (now (s .entry)) ⌝ }
+{
+    if s.len() <= at {
+        return s.len();
+    }
+    if at == 0 {
+        return 0;
+    }
+    at - 1
+}
+
 // The position so far behind another, or the last one, if that comes first.
 pub fn behind(s: &[u8], at: usize, count: usize) -> usize
     requires { ⌜ at ≤ length (now s) ⌝ }
@@ -55,25 +68,11 @@ pub fn next_line(s: &[u8], at: usize) -> usize
     s.len()
 }
 
-// The line at a position, without its line feed.
-pub fn line(s: &[u8], at: usize) -> &[u8]
-    requires { ⌜ at ≤ length (now s) ⌝ }
-{
+// The line at a position, without its line feed; nothing behind the end.
+pub fn line(s: &[u8], at: usize) -> &[u8] {
+    if s.len() < at {
+        return &s[..0];
+    }
     let e = position(s, at, b'\n');
     &s[at..e]
-}
-
-// Whether two texts are the same.
-pub fn is_same(a: &[u8], b: &[u8]) -> bool {
-    if a.len() != b.len() {
-        return false;
-    }
-    let mut i = 0;
-    while i < a.len() {
-        if a[i] != b[i] {
-            return false;
-        }
-        i += 1;
-    }
-    true
 }

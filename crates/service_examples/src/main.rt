@@ -9,66 +9,45 @@ mod lines;
 mod numbers;
 mod services;
 
-// Where the first text of a row ends and the second starts, with ` ~ ` between.
-struct Texts {
-    end: usize,
-    start: usize,
-}
-
-// The position before another.
-fn before(at: usize) -> usize
-    ensures { λ r. ⌜ r ≤ at ⌝ }
-{
-    if 0 < at { at - 1 } else { 0 }
-}
-
-// A row of one text has an empty second one.
-fn parted(s: &[u8]) -> Texts
-    ensures { λ r. ⌜ (r .end ≤ length (now (s .entry))) × (r .start ≤ length (now (s .entry))) ⌝ }
-{
-    let tilde = lines::position(s, 0, b'~');
-    let start = lines::behind(s, tilde, 2);
-    if tilde < s.len() {
-        return Texts {
-            end: before(tilde),
-            start,
-        };
-    }
-    Texts { end: tilde, start }
-}
-
-// What the service of a name gives for numbers and texts.
+// What the service of a name gives for numbers and one text, or two with ` ~ ` between.
 fn given(name: &[u8], words: &[u8], text: &[u8]) -> [u64; 136] {
-    let t = parted(text);
+    let tilde = lines::position(text, 0, b'~');
+    let end = lines::ahead(text, tilde);
+    let start = lines::behind(text, tilde, 2);
     let mut first = io::large_buffer();
-    let n = escapes::decode(lines::between(text, 0, t.end), &mut first);
+    let n = escapes::decode(lines::between(text, 0, end), &mut first);
     let mut second = io::large_buffer();
-    let m = escapes::decode(lines::between(text, t.start, text.len()), &mut second);
-    services::call(name, numbers::read(words), &first[..n], &second[..m])
+    let m = escapes::decode(&text[start..], &mut second);
+    services::call(
+        numbers::letters(name),
+        numbers::read(words),
+        &first[..n],
+        &second[..m],
+    )
 }
 
-// A line for a row that did not give what is due.
-fn show_difference(row: &[u8], given: [u64; 136]) {
-    io::write_all(1, b"not as due: ");
+// Lines for a row that did not give what is due, with a number that it gave and where this stands.
+fn show_difference(row: &[u8], place: u64, n: u64) {
     io::write_all(1, row);
-    io::write_all(1, b"\n  given:");
-    numbers::put_all(given);
+    io::write_all(1, b"\n  not as due: number");
+    numbers::put(place);
+    io::write_all(1, b" is");
+    numbers::put(n);
     io::write_all(1, b"\n");
 }
 
-// Where the text of a row starts, behind ` : `, or where the row ends.
-fn text_start(row: &[u8]) -> usize
-    ensures { λ r. ⌜ r ≤ length (now (row .entry)) ⌝ }
-{
-    let equals = lines::position(row, 0, b'=');
-    let colon = lines::position(row, equals, b':');
-    lines::behind(row, colon, 2)
+// 1 if what a row gave is what is due, else 0, after lines for it.
+fn compared(row: &[u8], given: [u64; 136], due: [u64; 136]) -> u64 {
+    let place = numbers::difference(given, due);
+    if place < 136 {
+        show_difference(row, (place as u64) + 1, given[place]);
+        return 0;
+    }
+    1
 }
 
-// 1 if a row gives what is due for a text, else 0, after a line.
-fn due(row: &[u8], text: &[u8]) -> usize
-    ensures { λ r. ⌜ r ≤ 1 ⌝ }
-{
+// The same of a row and its text.
+fn tried(row: &[u8], text: &[u8]) -> u64 {
     let space = lines::position(row, 0, b' ');
     let equals = lines::position(row, space, b'=');
     let colon = lines::position(row, equals, b':');
@@ -79,19 +58,28 @@ fn due(row: &[u8], text: &[u8]) -> usize
         text,
     );
     let numbers = lines::behind(row, equals, 2);
-    if numbers::is_same(result, numbers::read(lines::between(row, numbers, colon))) {
-        return 1;
-    }
-    show_difference(row, result);
-    0
+    compared(
+        row,
+        result,
+        numbers::read(lines::between(row, numbers, colon)),
+    )
 }
 
-// Whether a line is a row: it is not empty and no heading or comment.
-fn is_row(line: &[u8]) -> bool {
-    if line.len() == 0 {
-        return false;
+// Where the text of the row at a position starts: behind its ` : `, or where that of the row before does.
+fn text_start(row: &[u8], at: usize, before: usize) -> usize {
+    let colon = lines::position(row, 0, b':');
+    if colon < row.len() {
+        return std::num::wrapping_add_usize(at, lines::behind(row, colon, 2));
     }
-    line[0] != b'#'
+    before
+}
+
+// Where the last heading stands and the last text; how many rows there were since that heading, and how many gave what is due.
+struct Tally {
+    heading: usize,
+    text: usize,
+    rows: u64,
+    due: u64,
 }
 
 // Whether a line is a heading.
@@ -99,94 +87,66 @@ fn is_heading(line: &[u8]) -> bool {
     lines::byte(line, 0) == b'#' && lines::byte(line, 1) == b' '
 }
 
-// How many rows a section has, and how many of them gave what is due.
-struct Tally {
-    rows: usize,
-    due: usize,
+// Whether a line is a row: it is not empty and no heading or comment.
+fn is_row(line: &[u8]) -> bool {
+    line.len() > 0 && lines::byte(line, 0) != b'#'
 }
 
-// 1 for a row, else 0.
-fn count(line: &[u8]) -> usize
-    ensures { λ r. ⌜ r ≤ 1 ⌝ }
-{
-    if is_row(line) { 1 } else { 0 }
-}
-
-// 1 for a row that gives what is due for the text of a line, else 0.
-fn count_due(line: &[u8], written: &[u8]) -> usize
-    ensures { λ r. ⌜ r ≤ 1 ⌝ }
-{
-    if !is_row(line) {
-        return 0;
-    }
-    let start = text_start(written);
-    due(line, &written[start..])
-}
-
-// The line that has the text of a row: its own, or that of the row before.
-fn text_line(line: &[u8], at: usize, before: usize) -> usize
-    requires { ⌜ before ≤ at ⌝ }
-    ensures { λ r. ⌜ r ≤ at ⌝ }
-{
-    if lines::position(line, 0, b':') < line.len() {
-        return at;
-    }
-    before
-}
-
-// Tries the rows of a section.
-fn tried(s: &[u8]) -> Tally {
-    let mut rows = 0;
-    let mut due = 0;
-    let mut text = 0;
-    let mut i = 0;
-    while i < s.len() {
-        let line = lines::line(s, i);
-        text = text_line(line, i, text);
-        rows += count(line);
-        due += count_due(line, lines::line(s, text));
-        i = lines::next_line(s, i);
-    }
-    Tally { rows, due }
-}
-
-// Tries a section, which starts with its heading, and prints a line for it.
-fn show_section(s: &[u8]) {
-    let heading = lines::line(s, 0);
+// Prints a line for a heading.
+fn show_heading(heading: &[u8], t: Tally) {
     if is_heading(heading) {
-        let t = tried(s);
-        io::print_decimal(1, t.due as u64);
+        io::print_decimal(1, t.due);
         io::write_all(1, b" of ");
-        io::print_decimal(1, t.rows as u64);
+        io::print_decimal(1, t.rows);
         io::write_all(1, b" ");
         io::write_all(1, lines::between(heading, 1, heading.len()));
         io::write_all(1, b"\n");
     }
 }
 
-// Where the section ends that a position is in: at the next heading.
-fn section_end(s: &[u8], at: usize) -> usize
-    requires { ⌜ at < length (now s) ⌝ }
-    ensures { λ r. ⌜ (at < r) × (r ≤ length (now (s .entry))) ⌝ }
-{
-    let mut i = lines::next_line(s, at);
-    while i < s.len() {
-        if is_heading(lines::line(s, i)) {
-            return i;
-        }
-        i = lines::next_line(s, i);
+// Tries a row, whose text starts at a position.
+fn with_row(s: &[u8], row: &[u8], text: usize, t: Tally) -> Tally {
+    let more = tried(row, lines::line(s, text));
+    Tally {
+        heading: t.heading,
+        text,
+        rows: std::num::wrapping_add_u64(t.rows, 1),
+        due: std::num::wrapping_add_u64(t.due, more),
     }
-    i
 }
 
-// A line for each section of a table.
+// Goes over a line of a table.
+fn with_line(s: &[u8], at: usize, t: Tally) -> Tally {
+    let line = lines::line(s, at);
+    if is_heading(line) {
+        show_heading(lines::line(s, t.heading), t);
+        return Tally {
+            heading: at,
+            text: at,
+            rows: 0,
+            due: 0,
+        };
+    }
+    if is_row(line) {
+        return with_row(s, line, text_start(line, at, t.text), t);
+    }
+    t
+}
+
+// Goes over a table, and prints a line for each heading.
 fn show_table(s: &[u8]) {
+    let mut t = Tally {
+        heading: 0,
+        text: 0,
+        rows: 0,
+        due: 0,
+    };
     let mut i = 0;
     while i < s.len() {
-        let e = section_end(s, i);
-        show_section(&s[i..e]);
-        i = e;
+        t = with_line(s, i, t);
+        i = lines::next_line(s, i);
     }
+    show_heading(lines::line(s, t.heading), t);
 }
 
 // 131,072 zeros, for a table.

@@ -49,16 +49,18 @@ pub fn read(words: &[u8]) -> [u64; 136] {
     list
 }
 
-// Whether two lists are the same.
-pub fn is_same(a: [u64; 136], b: [u64; 136]) -> bool {
+// The place of the first number in which two lists differ, 136 if they are the same.
+pub fn difference(a: [u64; 136], b: [u64; 136]) -> usize
+    ensures { λ r. ⌜ r ≤ 136 ⌝ }
+{
     let mut k = 0;
     while k < 136 {
         if a[k] != b[k] {
-            return false;
+            return k;
         }
         k += 1;
     }
-    true
+    k
 }
 
 // A number as a signed one.
@@ -68,6 +70,17 @@ pub fn signed(n: u64) -> i64 {
     } else {
         -1 - ((18_446_744_073_709_551_615 - n) as i64)
     }
+}
+
+// The number that the last eight letters of a word are, a byte each.
+pub fn letters(word: &[u8]) -> u64 {
+    let mut n: u64 = 0;
+    let mut i = 0;
+    while i < word.len() {
+        n = (n << 8) | wide(word[i]);
+        i += 1;
+    }
+    n
 }
 
 // A signed number in two's complement.
@@ -93,7 +106,7 @@ pub fn number_at(list: &[u8], at: usize) -> u64
 }
 
 // Prints a number after a space.
-fn put(n: u64) {
+pub fn put(n: u64) {
     if n < 9_223_372_036_854_775_808 {
         io::write_all(1, b" ");
         io::print_decimal(1, n);
@@ -101,34 +114,4 @@ fn put(n: u64) {
         io::write_all(1, b" -");
         io::print_decimal(1, std::num::wrapping_sub_u64(0, n));
     }
-}
-
-// How many numbers a list has, up to the last that is not 0, and one at least.
-fn count(list: [u64; 136]) -> usize
-    ensures { λ r. ⌜ r ≤ 136 ⌝ }
-{
-    let mut k = 136;
-    while 1 < k {
-        if list[k - 1] != 0 {
-            return k;
-        }
-        k -= 1;
-    }
-    k
-}
-
-// Prints the first numbers of a list.
-fn put_first(list: [u64; 136], count: usize)
-    requires { ⌜ count ≤ 136 ⌝ }
-{
-    let mut k = 0;
-    while k < count {
-        put(list[k]);
-        k += 1;
-    }
-}
-
-// Prints a list.
-pub fn put_all(list: [u64; 136]) {
-    put_first(list, count(list));
 }

@@ -1,30 +1,31 @@
-// What each service gives, as a list of numbers: the refusal's number, the results, what it wrote to lent memory, and last how many lent
-// bytes changed that should not.
+// What each service gives, as a list of numbers: the refusal's number, the results, and what it wrote to lent memory. Lent memory that is as it
+// was counts as 0, so that a change of it shows.
 ghost use mathlib.Core.Path.{_≡_};
-ghost use Prim.Native.Nat.{_*_, _≤_};
+ghost use Prim.Native.Nat.{_≤_};
 ghost use lib.ListN.{length};
-use crate::lines;
 use crate::numbers;
 
-// The place of the last number.
-const CHANGED: usize = 135;
+// What lent memory holds before: a byte, eight of them as a number, and these as a signed one.
+const BYTE: u8 = 0xAA;
 
-// What a lent list and a lent tick hold before.
-const PATTERN: u8 = 170;
+const NUMBER: u64 = 0xAAAA_AAAA_AAAA_AAAA;
 
-const TICK: i64 = -77;
-
-// Two numbers alone.
-fn two(first: u64, second: u64) -> [u64; 136] {
-    let mut given = [0u64; 136];
-    given[0] = first;
-    given[1] = second;
-    given
-}
+const BEFORE: i64 = -6_148_914_691_236_517_206;
 
 // The number of a refusal, and the other bits of an answer.
 fn answered(answer: u64) -> [u64; 136] {
-    two(answer % 256, answer / 256)
+    let mut given = [0u64; 136];
+    given[0] = answer % 256;
+    given[1] = answer / 256;
+    given
+}
+
+// A number of lent memory: itself if it was written, else what it is more than before.
+fn lent(n: u64, is_written: bool) -> u64 {
+    if is_written {
+        return n;
+    }
+    std::num::wrapping_sub_u64(n, NUMBER)
 }
 
 // The length of a text that was cut.
@@ -47,33 +48,14 @@ fn compare(first: &[u8], second: &[u8], offset: i64) -> [u64; 136] {
 
 // The precision, and the tick.
 fn tick(text: &[u8], offset: i64) -> [u64; 136] {
-    let mut tick = TICK;
+    let mut tick = BEFORE;
     let mut given = answered(rigcactus::rigcactus_tick(text, offset, &mut tick));
-    if given[0] == 0 {
-        given[2] = numbers::complement(tick);
-    } else if tick != TICK {
-        given[CHANGED] = 8;
-    }
+    given[2] = lent(numbers::complement(tick), given[0] == 0);
     given
 }
 
-// How many bytes of a list differ from the pattern, from a position on.
-fn changed(list: &[u8], from: usize) -> u64 {
-    let mut n: u64 = 0;
-    let mut i = from;
-    while i < list.len() {
-        if list[i] != PATTERN {
-            n = std::num::wrapping_add_u64(n, 1);
-        }
-        i += 1;
-    }
-    n
-}
-
-// How many numbers a list holds, if its stretches were counted so.
-fn written(number: u64, count: u64) -> usize
-    ensures { λ r. ⌜ r ≤ 132 ⌝ }
-{
+// How many numbers of a list are written, if its stretches were counted so.
+fn written(number: u64, count: u64) -> usize {
     if number != 0 {
         return 0;
     }
@@ -83,39 +65,30 @@ fn written(number: u64, count: u64) -> usize
     4 * (count as usize)
 }
 
-// An answer with the first numbers of a list.
-fn with_numbers(answer: [u64; 136], list: &[u8], count: usize) -> [u64; 136]
-    requires { ⌜ (count ≤ 132) × (8 * count ≤ length (now list)) ⌝ }
-{
+// An answer with the numbers of a list.
+fn with_list(answer: [u64; 136], list: &[u8; 1056]) -> [u64; 136] {
     let mut given = answer;
+    let count = written(given[0], given[1]);
     let mut k = 0;
-    while k < count {
-        given[k + 2] = numbers::number_at(list, 8 * k);
+    while k < 132 {
+        given[k + 2] = lent(numbers::number_at(list, 8 * k), k < count);
         k += 1;
     }
     given
 }
 
-// An answer with what a list has now.
-fn with_list(answer: [u64; 136], list: &[u8; 1056]) -> [u64; 136] {
-    let count = written(answer[0], answer[1]);
-    let mut given = with_numbers(answer, list, count);
-    given[CHANGED] = changed(list, 8 * count);
-    given
-}
-
-// A list that holds the pattern alone.
-fn lent() -> [u8; 1056]
+// A list as it is before.
+fn list_before() -> [u8; 1056]
     ensures { λ r. ⌜ 1056 ≡ length r ⌝ }
 {
-    [PATTERN; 1056]
+    [BYTE; 1056]
 }
 
 // The count of stretches, and the list's numbers.
 fn list(record: &[u8], offset: i64, length: usize) -> [u64; 136]
     requires { ⌜ length ≤ 1056 ⌝ }
 {
-    let mut list = lent();
+    let mut list = list_before();
     let answer = rigcactus::rigcactus_list(record, offset, &mut list[..length]);
     with_list(answered(answer), &list)
 }
@@ -127,23 +100,34 @@ fn room(length: u64) -> usize
     if 1056 < length { 1056 } else { length as usize }
 }
 
-// What the service of a name gives for numbers and texts; 256, which is no refusal's number, for a name that no service has.
-pub fn call(name: &[u8], given: [u64; 136], first: &[u8], second: &[u8]) -> [u64; 136] {
+// Names of services as numbers, a byte for each letter: cut, tick, check, list, compare.
+const CUT: u64 = 0x63_75_74;
+
+const TICK: u64 = 0x74_69_63_6B;
+
+const CHECK: u64 = 0x63_68_65_63_6B;
+
+const LIST: u64 = 0x6C_69_73_74;
+
+const COMPARE: u64 = 0x63_6F_6D_70_61_72_65;
+
+// What the service of a name gives for numbers and texts; 255, which is no refusal's number, for a name that no service has.
+pub fn call(name: u64, given: [u64; 136], first: &[u8], second: &[u8]) -> [u64; 136] {
     let offset = numbers::signed(given[0]);
-    if lines::is_same(name, b"cut") {
+    if name == CUT {
         return cut(first, given[0]);
     }
-    if lines::is_same(name, b"tick") {
+    if name == TICK {
         return tick(first, offset);
     }
-    if lines::is_same(name, b"check") {
+    if name == CHECK {
         return check(first, offset);
     }
-    if lines::is_same(name, b"list") {
+    if name == LIST {
         return list(first, offset, room(given[1]));
     }
-    if lines::is_same(name, b"compare") {
+    if name == COMPARE {
         return compare(first, second, offset);
     }
-    two(256, 0)
+    answered(255)
 }

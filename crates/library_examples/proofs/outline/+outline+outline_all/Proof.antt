@@ -1,4 +1,4 @@
--- `library_examples::outline::outline` and `outline_examples::outline_all` are safe and end: the levels that may still be open fall.
+-- `library_examples::outline::outline` and `outline_all` are safe and end: the levels that may still be open fall.
 use native.Mathlib.Omega.{arith}
 use lib.ListN.{length}
 use Rattle.element.proofs.Within.{child-bounds}
@@ -48,60 +48,46 @@ outline-claims t = (write-indent-reads.Asked, write-indent-reads.Learnt, write-n
 abbrev outline-all-claims : ℕ → outline-all-lts.Claims
 outline-all-claims t = (next-element-reads.Asked, next-element-reads.Learnt, outline-below t, outline.Post)
 
--- src/main.rt:75:18
 outline-sub-write-indent : (t : ℕ) → outline-lts.Need-sub-write-indent (outline-claims t) (outline-at t) outline.Post
 outline-sub-write-indent t c = omega (arith, c .before .pre .1 .1)
 
--- src/main.rt:75:5
 outline-write-indent-requires : (t : ℕ) → outline-lts.Need-write-indent-requires (outline-claims t) (outline-at t) outline.Post
 outline-write-indent-requires t c κs = search needs
 
--- src/main.rt:76:5
 outline-write-name-requires : (t : ℕ) → outline-lts.Need-write-name-requires (outline-claims t) (outline-at t) outline.Post
 outline-write-name-requires t c κs = c .before .before .pre .1 .0
 
--- src/main.rt:77:5
 outline-write-attributes-requires : (t : ℕ) → outline-lts.Need-write-attributes-requires (outline-claims t) (outline-at t) outline.Post
 outline-write-attributes-requires t c κs = c .before .before .before .pre .1 .0
 
--- src/main.rt:78:22
 outline-slice-aggregate-put : (t : ℕ) → outline-lts.Need-slice-aggregate-put (outline-claims t) (outline-at t) outline.Post
 outline-slice-aggregate-put t c = search needs
 
--- src/main.rt:78:5
 outline-put-requires : (t : ℕ) → outline-lts.Need-put-requires (outline-claims t) (outline-at t) outline.Post
 outline-put-requires t c κs = search needs
 
--- src/main.rt:79:9
 outline-children-requires : (t : ℕ) → outline-lts.Need-children-requires (outline-claims t) (outline-at t) outline.Post
 outline-children-requires t c κs = c .before .before .before .before .before .before .pre .1 .0
 
--- src/main.rt:80:18
 outline-enum-known-inside : (t : ℕ) → outline-lts.Need-enum-known-inside (outline-claims t) (outline-at t) outline.Post
 outline-enum-known-inside t c = search needs
 
--- src/main.rt:81:9
 outline-enum-told : (t : ℕ) → outline-lts.Need-enum-told (outline-claims t) (outline-at t) outline.Post
 outline-enum-told t c = search needs
 
--- src/main.rt:81:9
 outline-returns : (t : ℕ) → outline-lts.Need-returns (outline-claims t) (outline-at t) outline.Post
 outline-returns t c = tt
 
--- src/main.rt:84:27
 outline-sub-outline-all : (t : ℕ) → outline-lts.Need-sub-outline-all (outline-claims t) (outline-at t) outline.Post
 outline-sub-outline-all t c = omega (arith, c .if1 .taken)
 
--- src/main.rt:84:9
 outline-outline-all-requires : (t : ℕ) → outline-lts.Need-outline-all-requires (outline-claims t) (outline-at t) outline.Post
 outline-outline-all-requires t c κs =
     (omega (arith, c .before .before .before .before .before .before .before .before .before .before .before .pre .0, c .if1 .taken), ((child-bounds (c .before .before .inside .given .1) (c .before .before .before .before .children .ensures .0)) .1, omega (arith, c .before .before .before .before .before .before .before .before .before .before .before .pre .1 .1)))
 
--- src/main.rt:72:1
 outline-returns-2 : (t : ℕ) → outline-lts.Need-returns-2 (outline-claims t) (outline-at t) outline.Post
 outline-returns-2 t c = tt
 
--- src/main.rt:72:1
 outline-returns-3 : (t : ℕ) → outline-lts.Need-returns-3 (outline-claims t) (outline-at t) outline.Post
 outline-returns-3 t c = tt
 
@@ -111,37 +97,29 @@ outline-all-Inv-loop s at depth i₀ i = i ≤ length s
 abbrev outline-all-μ-loop : outline-all-lts.MeasureT-loop
 outline-all-μ-loop s at depth i₀ i = length s - i
 
--- src/main.rt:93:5
 outline-all-loop-holds : (t : ℕ) → outline-all-lts.Need-loop-holds (outline-all-claims t) (outline-all-at t) outline-all.Post outline-all-Inv-loop outline-all-μ-loop
 outline-all-loop-holds t c = c .before .pre .1 .0
 
--- src/main.rt:94:13
 outline-all-next-element-requires : (t : ℕ) → outline-all-lts.Need-next-element-requires (outline-all-claims t) (outline-all-at t) outline-all.Post outline-all-Inv-loop outline-all-μ-loop
 outline-all-next-element-requires t c κs = c .loop .inv
 
--- src/main.rt:95:23
 outline-all-enum-known-first : (t : ℕ) → outline-all-lts.Need-enum-known-first (outline-all-claims t) (outline-all-at t) outline-all.Post outline-all-Inv-loop outline-all-μ-loop
 outline-all-enum-known-first t c = search needs
 
--- src/main.rt:96:13
 outline-all-enum-told : (t : ℕ) → outline-all-lts.Need-enum-told (outline-all-claims t) (outline-all-at t) outline-all.Post outline-all-Inv-loop outline-all-μ-loop
 outline-all-enum-told t c = search needs
 
--- src/main.rt:96:13
 outline-all-returns : (t : ℕ) → outline-all-lts.Need-returns (outline-all-claims t) (outline-all-at t) outline-all.Post outline-all-Inv-loop outline-all-μ-loop
 outline-all-returns t c = tt
 
--- src/main.rt:98:9
 outline-all-outline-requires : (t : ℕ) → outline-all-lts.Need-outline-requires (outline-all-claims t) (outline-all-at t) outline-all.Post outline-all-Inv-loop outline-all-μ-loop
 outline-all-outline-requires t c κs =
     (omega (arith, c .before .before .before .before .before .before .pre .0), (omega (arith, (step-bounds (c .before .first .given .1) (c .before .before .before .next-element .ensures .0)) .1, (step-bounds (c .before .first .given .1) (c .before .before .before .next-element .ensures .0)) .2), c .before .before .before .before .before .before .pre .1 .1))
 
--- src/main.rt:93:5
 outline-all-loop-less : (t : ℕ) → outline-all-lts.Need-loop-less (outline-all-claims t) (outline-all-at t) outline-all.Post outline-all-Inv-loop outline-all-μ-loop
 outline-all-loop-less t c =
     omega (arith, (step-bounds (c .before .before .first .given .1) (c .before .before .before .before .next-element .ensures .0)) .0, (step-bounds (c .before .before .first .given .1) (c .before .before .before .before .next-element .ensures .0)) .1, (step-bounds (c .before .before .first .given .1) (c .before .before .before .before .next-element .ensures .0)) .2)
 
--- src/main.rt:93:5
 outline-all-loop-again : (t : ℕ) → outline-all-lts.Need-loop-again (outline-all-claims t) (outline-all-at t) outline-all.Post outline-all-Inv-loop outline-all-μ-loop
 outline-all-loop-again t c = (step-bounds (c .before .before .first .given .1) (c .before .before .before .before .next-element .ensures .0)) .2
 

@@ -6,12 +6,6 @@ use Rattle.element.proofs.Turns.{turn-bounds}
 use borrow.Author.Needs.{needs}
 use Rattle.library_examples.proofs.outline.write_attributes.Statement.{statement}
 use Rattle.library_examples.proofs.outline.write_attributes.Tie as tie
-use Rattle.library_examples.proofs.outline.write_attributes.Reads as reads
-use Rattle.library_examples.proofs.outline.write_attributes.Lts as lts
-use Rattle.element.proofs.attribute.next.Reads as next-reads
-use Rattle.element.proofs.attributes.Reads as attributes-reads
-use Rattle.library_examples.proofs.put.Reads as put-reads
-use Rattle.library_examples.proofs.outline.write_value.Reads as write-value-reads
 
 abbrev Inv-loop : tie.InvT-loop
 Inv-loop s at start i₀ t10 t11 i = i ≤ length s
@@ -19,74 +13,57 @@ Inv-loop s at start i₀ t10 t11 i = i ≤ length s
 abbrev μ-loop : tie.MeasureT-loop
 μ-loop s at start i₀ t10 t11 i = length s - i
 
--- src/main.rt:41:9
 attributes-requires : tie.Need-attributes-requires Inv-loop μ-loop
 attributes-requires c κs = search needs
 
--- src/main.rt:43:5
 loop-holds : tie.Need-loop-holds Inv-loop μ-loop
 loop-holds c = c .attributes .ensures .0
 
--- src/main.rt:44:13
 next-requires : tie.Need-next-requires Inv-loop μ-loop
 next-requires c κs = c .loop .inv
 
--- src/main.rt:46:13
 enum-known-first : tie.Need-enum-known-first Inv-loop μ-loop
 enum-known-first c = search needs
 
--- src/main.rt:51:13
 enum-told : tie.Need-enum-told Inv-loop μ-loop
 enum-told c = search needs
 
--- src/main.rt:51:13
 returns : tie.Need-returns Inv-loop μ-loop
 returns c = tt
 
--- src/main.rt:53:26
 slice-aggregate-put : tie.Need-slice-aggregate-put Inv-loop μ-loop
 slice-aggregate-put c = search needs
 
--- src/main.rt:53:9
 put-requires : tie.Need-put-requires Inv-loop μ-loop
 put-requires c κs = search needs
 
--- src/main.rt:54:26
 sub-put : tie.Need-sub-put Inv-loop μ-loop
 sub-put c = omega (arith, (turn-bounds (c .before .before .before .first .given .1) (c .before .before .before .before .before .next .ensures .0)) .1)
 
--- src/main.rt:54:26
 part-put-start : tie.Need-part-put-start Inv-loop μ-loop
 part-put-start c = omega (arith, (turn-bounds (c .before .before .before .first .given .1) (c .before .before .before .before .before .next .ensures .0)) .1)
 
--- src/main.rt:54:26
 part-put-end : tie.Need-part-put-end Inv-loop μ-loop
 part-put-end c =
     omega (arith, (turn-bounds (c .before .before .before .first .given .1) (c .before .before .before .before .before .next .ensures .0)) .2, (turn-bounds (c .before .before .before .first .given .1) (c .before .before .before .before .before .next .ensures .0)) .3, (turn-bounds (c .before .before .before .first .given .1) (c .before .before .before .before .before .next .ensures .0)) .4)
 
--- src/main.rt:54:9
 put-requires-2 : tie.Need-put-requires-2 Inv-loop μ-loop
 put-requires-2 c κs = search needs
 
--- src/main.rt:55:26
 slice-aggregate-put-2 : tie.Need-slice-aggregate-put-2 Inv-loop μ-loop
 slice-aggregate-put-2 c = search needs
 
--- src/main.rt:55:9
 put-requires-3 : tie.Need-put-requires-3 Inv-loop μ-loop
 put-requires-3 c κs = search needs
 
--- src/main.rt:56:9
 write-value-requires : tie.Need-write-value-requires Inv-loop μ-loop
 write-value-requires c κs =
     omega (arith, (turn-bounds (c .before .before .before .before .before .before .before .first .given .1) (c .before .before .before .before .before .before .before .before .before .next .ensures .0)) .3, (turn-bounds (c .before .before .before .before .before .before .before .first .given .1) (c .before .before .before .before .before .before .before .before .before .next .ensures .0)) .4)
 
--- src/main.rt:43:5
 loop-less : tie.Need-loop-less Inv-loop μ-loop
 loop-less c =
     omega (arith, (turn-bounds (c .before .before .before .before .before .before .before .before .first .given .1) (c .before .before .before .before .before .before .before .before .before .before .next .ensures .0)) .0, (turn-bounds (c .before .before .before .before .before .before .before .before .first .given .1) (c .before .before .before .before .before .before .before .before .before .before .next .ensures .0)) .1, (turn-bounds (c .before .before .before .before .before .before .before .before .first .given .1) (c .before .before .before .before .before .before .before .before .before .before .next .ensures .0)) .2, (turn-bounds (c .before .before .before .before .before .before .before .before .first .given .1) (c .before .before .before .before .before .before .before .before .before .before .next .ensures .0)) .3, (turn-bounds (c .before .before .before .before .before .before .before .before .first .given .1) (c .before .before .before .before .before .before .before .before .before .before .next .ensures .0)) .4)
 
--- src/main.rt:43:5
 loop-again : tie.Need-loop-again Inv-loop μ-loop
 loop-again c =
     (turn-bounds (c .before .before .before .before .before .before .before .before .first .given .1) (c .before .before .before .before .before .before .before .before .before .before .next .ensures .0)) .4

@@ -4,9 +4,6 @@ use native.Mathlib.Omega.{arith}
 use borrow.Author.Needs.{needs}
 use Rattle.library_examples.proofs.outline.write_indent.Statement.{statement}
 use Rattle.library_examples.proofs.outline.write_indent.Tie as tie
-use Rattle.library_examples.proofs.outline.write_indent.Reads as reads
-use Rattle.library_examples.proofs.outline.write_indent.Lts as lts
-use Rattle.library_examples.proofs.put.Reads as put-reads
 
 abbrev Inv-loop : tie.InvT-loop
 Inv-loop levels k₀ t3 k = Unit
@@ -14,31 +11,24 @@ Inv-loop levels k₀ t3 k = Unit
 abbrev μ-loop : tie.MeasureT-loop
 μ-loop levels k₀ t3 k = levels - k
 
--- src/main.rt:14:5
 loop-holds : tie.Need-loop-holds Inv-loop μ-loop
 loop-holds c = tt
 
--- src/main.rt:15:26
 slice-aggregate-put : tie.Need-slice-aggregate-put Inv-loop μ-loop
 slice-aggregate-put c = search needs
 
--- src/main.rt:15:9
 put-requires : tie.Need-put-requires Inv-loop μ-loop
 put-requires c κs = search needs
 
--- src/main.rt:16:9
 add-k : tie.Need-add-k Inv-loop μ-loop
 add-k c = search needs
 
--- src/main.rt:14:5
 loop-less : tie.Need-loop-less Inv-loop μ-loop
 loop-less c = omega arith
 
--- src/main.rt:14:5
 loop-again : tie.Need-loop-again Inv-loop μ-loop
 loop-again c = tt
 
--- src/main.rt:12:1
 returns : tie.Need-returns Inv-loop μ-loop
 returns c = tt
 

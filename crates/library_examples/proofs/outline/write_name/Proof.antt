@@ -4,43 +4,31 @@ use Rattle.markup.proofs.Tags.{head-found}
 use borrow.Author.Needs.{needs}
 use Rattle.library_examples.proofs.outline.write_name.Statement.{statement}
 use Rattle.library_examples.proofs.outline.write_name.Tie as tie
-use Rattle.library_examples.proofs.outline.write_name.Reads as reads
-use Rattle.library_examples.proofs.outline.write_name.Lts as lts
-use Rattle.library_examples.proofs.put.Reads as put-reads
-use Rattle.markup.proofs.tag.read_head.Reads as read-head-reads
 
--- src/main.rt:65:9
 read-head-requires : tie.Need-read-head-requires
 read-head-requires c κs = search needs
 
--- src/main.rt:66:26
 enum-known-head : tie.Need-enum-known-head
 enum-known-head c = search needs
 
--- src/main.rt:67:26
 sub-put : tie.Need-sub-put
 sub-put c = omega (arith, (head-found (c .before .head .given .1) (c .before .before .before .read-head .ensures)) .named .low)
 
--- src/main.rt:67:26
 part-put-start : tie.Need-part-put-start
 part-put-start c = omega (arith, (head-found (c .before .head .given .1) (c .before .before .before .read-head .ensures)) .named .low)
 
--- src/main.rt:67:26
 part-put-end : tie.Need-part-put-end
 part-put-end c = (head-found (c .before .head .given .1) (c .before .before .before .read-head .ensures)) .named .high
 
--- src/main.rt:67:9
 put-requires : tie.Need-put-requires
 put-requires c κs = search needs
 
 enum-told : tie.Need-enum-told
 enum-told c = search needs
 
--- src/main.rt:62:1
 returns : tie.Need-returns
 returns c = search needs
 
--- src/main.rt:62:1
 returns-2 : tie.Need-returns-2
 returns-2 c = search needs
 

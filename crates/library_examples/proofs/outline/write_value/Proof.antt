@@ -6,11 +6,6 @@ use Rattle.element.proofs.Decoded.{on-bounds}
 use borrow.Author.Needs.{needs}
 use Rattle.library_examples.proofs.outline.write_value.Statement.{statement}
 use Rattle.library_examples.proofs.outline.write_value.Tie as tie
-use Rattle.library_examples.proofs.outline.write_value.Reads as reads
-use Rattle.library_examples.proofs.outline.write_value.Lts as lts
-use Rattle.element.proofs.value.next.Reads as next-reads
-use Rattle.element.proofs.value.start.Reads as start-reads
-use Rattle.library_examples.proofs.put.Reads as put-reads
 
 abbrev Inv-loop : tie.InvT-loop
 Inv-loop s at start i₀ i = i ≤ length s
@@ -18,44 +13,34 @@ Inv-loop s at start i₀ i = i ≤ length s
 abbrev μ-loop : tie.MeasureT-loop
 μ-loop s at start i₀ i = length s - i
 
--- src/main.rt:24:9
 start-requires : tie.Need-start-requires Inv-loop μ-loop
 start-requires c κs = search needs
 
--- src/main.rt:26:5
 loop-holds : tie.Need-loop-holds Inv-loop μ-loop
 loop-holds c = c .start .ensures .0
 
--- src/main.rt:27:13
 next-requires : tie.Need-next-requires Inv-loop μ-loop
 next-requires c κs = c .loop .inv
 
--- src/main.rt:28:22
 enum-known-first : tie.Need-enum-known-first Inv-loop μ-loop
 enum-known-first c = search needs
 
--- src/main.rt:29:13
 enum-told : tie.Need-enum-told Inv-loop μ-loop
 enum-told c = search needs
 
--- src/main.rt:29:13
 returns : tie.Need-returns Inv-loop μ-loop
 returns c = tt
 
--- src/main.rt:32:26
 slice-aggregate-put : tie.Need-slice-aggregate-put Inv-loop μ-loop
 slice-aggregate-put c = search needs
 
--- src/main.rt:32:9
 put-requires : tie.Need-put-requires Inv-loop μ-loop
 put-requires c κs = search needs
 
--- src/main.rt:26:5
 loop-less : tie.Need-loop-less Inv-loop μ-loop
 loop-less c =
     omega (arith, (on-bounds (c .before .before .before .first .given .1) (c .before .before .before .before .before .next .ensures .0)) .0, (on-bounds (c .before .before .before .first .given .1) (c .before .before .before .before .before .next .ensures .0)) .1)
 
--- src/main.rt:26:5
 loop-again : tie.Need-loop-again Inv-loop μ-loop
 loop-again c = (on-bounds (c .before .before .before .first .given .1) (c .before .before .before .before .before .next .ensures .0)) .1
 

@@ -1,15 +1,9 @@
+-- `service_examples::numbers::read` is safe and ends. There are no more numbers than bytes that were passed.
 use borrow.Author.Needs.{needs}
 use Prim.Native.Nat.{_-_, _≤_}
-use mathlib.Core.Path.{_≡_}
 use lib.ListN.{length}
-use native.Mathlib.Omega.{arith}
 use Rattle.service_examples.proofs.numbers.read.Statement.{statement}
 use Rattle.service_examples.proofs.numbers.read.Tie as tie
-use Rattle.service_examples.proofs.numbers.read.Reads as reads
-use Rattle.service_examples.proofs.numbers.read.Lts as lts
-use Rattle.service_examples.proofs.lines.position.Reads as position-reads
-use Rattle.service_examples.proofs.numbers.number.Reads as number-reads
-use Rattle.service_examples.proofs.numbers.place.Reads as place-reads
 
 abbrev Inv-loop : tie.InvT-loop
 Inv-loop words list₀ k₀ i₀ list k i = k ≤ i
@@ -17,59 +11,45 @@ Inv-loop words list₀ k₀ i₀ list k i = k ≤ i
 abbrev μ-loop : tie.MeasureT-loop
 μ-loop words list₀ k₀ i₀ list k i = length words - i
 
--- src/numbers.rt:43:5
 loop-holds : tie.Need-loop-holds Inv-loop μ-loop
 loop-holds c = search needs
 
--- src/numbers.rt:44:13
 position-requires : tie.Need-position-requires Inv-loop μ-loop
 position-requires c κs = search needs
 
--- src/numbers.rt:45:33
 sub-number : tie.Need-sub-number Inv-loop μ-loop
 sub-number c = search needs
 
--- src/numbers.rt:45:33
 part-number-start : tie.Need-part-number-start Inv-loop μ-loop
 part-number-start c = search needs
 
--- src/numbers.rt:45:33
 part-number-end : tie.Need-part-number-end Inv-loop μ-loop
 part-number-end c = search needs
 
--- src/numbers.rt:45:26
 number-requires : tie.Need-number-requires Inv-loop μ-loop
 number-requires c κs = search needs
 
--- src/numbers.rt:45:14
 place-requires : tie.Need-place-requires Inv-loop μ-loop
 place-requires c κs = search needs
 
--- src/numbers.rt:45:9
 mul-list : tie.Need-mul-list Inv-loop μ-loop
 mul-list c = search needs
 
--- src/numbers.rt:45:9
 array-write-list : tie.Need-array-write-list Inv-loop μ-loop
 array-write-list c = search needs
 
--- src/numbers.rt:46:9
 add-k : tie.Need-add-k Inv-loop μ-loop
 add-k c = search needs
 
--- src/numbers.rt:47:13
 add-i : tie.Need-add-i Inv-loop μ-loop
 add-i c = search needs
 
--- src/numbers.rt:43:5
 loop-less : tie.Need-loop-less Inv-loop μ-loop
 loop-less c = search needs
 
--- src/numbers.rt:43:5
 loop-again : tie.Need-loop-again Inv-loop μ-loop
 loop-again c = search needs
 
--- src/numbers.rt:39:1
 returns : tie.Need-returns Inv-loop μ-loop
 returns c = search needs
 

@@ -1,69 +1,70 @@
+-- `service_examples::services::with_list` is safe and ends.
 use borrow.Author.Needs.{needs}
 use Prim.Native.Nat.{_-_, _≤_}
-use mathlib.Core.Path.{_≡_}
-use lib.ListN.{length}
-use native.Mathlib.Omega.{arith}
-use Rattle.service_examples.proofs.services.with_numbers.Statement.{statement}
-use Rattle.service_examples.proofs.services.with_numbers.Tie as tie
-use Rattle.service_examples.proofs.services.with_numbers.Reads as reads
-use Rattle.service_examples.proofs.services.with_numbers.Lts as lts
-use Rattle.service_examples.proofs.numbers.number_at.Reads as number-at-reads
+use Rattle.service_examples.proofs.services.with_list.Statement.{statement}
+use Rattle.service_examples.proofs.services.with_list.Tie as tie
 
 abbrev Inv-loop : tie.InvT-loop
-Inv-loop list count given₀ k₀ given k = k ≤ count
+Inv-loop list given₀ count k₀ given k = k ≤ 132
 
 abbrev μ-loop : tie.MeasureT-loop
-μ-loop list count given₀ k₀ given k = count - k
+μ-loop list given₀ count k₀ given k = 132 - k
 
--- src/services.rt:86:5
+array-read-written : tie.Need-array-read-written Inv-loop μ-loop
+array-read-written c = search needs
+
+array-read-written-2 : tie.Need-array-read-written-2 Inv-loop μ-loop
+array-read-written-2 c = search needs
+
+written-requires : tie.Need-written-requires Inv-loop μ-loop
+written-requires c κs = search needs
+
 loop-holds : tie.Need-loop-holds Inv-loop μ-loop
 loop-holds c = search needs
 
--- src/services.rt:87:49
 mul-number-at : tie.Need-mul-number-at Inv-loop μ-loop
 mul-number-at c = search needs
 
--- src/services.rt:87:24
 number-at-requires : tie.Need-number-at-requires Inv-loop μ-loop
 number-at-requires c κs = search needs
 
--- src/services.rt:87:15
+lent-requires : tie.Need-lent-requires Inv-loop μ-loop
+lent-requires c κs = search needs
+
 add-given : tie.Need-add-given Inv-loop μ-loop
 add-given c = search needs
 
--- src/services.rt:87:9
 mul-given : tie.Need-mul-given Inv-loop μ-loop
 mul-given c = search needs
 
--- src/services.rt:87:9
 array-write-given : tie.Need-array-write-given Inv-loop μ-loop
 array-write-given c = search needs
 
--- src/services.rt:88:9
 add-k : tie.Need-add-k Inv-loop μ-loop
 add-k c = search needs
 
--- src/services.rt:86:5
 loop-less : tie.Need-loop-less Inv-loop μ-loop
 loop-less c = search needs
 
--- src/services.rt:86:5
 loop-again : tie.Need-loop-again Inv-loop μ-loop
 loop-again c = search needs
 
--- src/services.rt:81:1
 returns : tie.Need-returns Inv-loop μ-loop
 returns c = search needs
 
-pub with-numbers-spec : {M : Type 1} → statement M
-with-numbers-spec =
+pub with-list-spec : {M : Type 1} → statement M
+with-list-spec =
     tie.close
     (tie.spec
     Inv-loop
     μ-loop
+    array-read-written
+    array-read-written-2
+    written-requires
     loop-holds
     mul-number-at
     number-at-requires
+    lent-requires
     add-given
     mul-given
     array-write-given
