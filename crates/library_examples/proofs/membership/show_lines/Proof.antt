@@ -1,0 +1,60 @@
+-- `library_examples::membership::show_lines` meets what it calls.
+use native.Mathlib.Omega.{arith}
+use Prim.Native.Nat.{_-_}
+use lib.ListN.{length}
+use borrow.Author.Needs.{needs}
+use Rattle.library_examples.proofs.membership.show_lines.Statement.{statement}
+use Rattle.library_examples.proofs.membership.show_lines.Tie as tie
+
+abbrev Inv-loop : tie.InvT-loop
+Inv-loop s i₀ i = Unit {0}
+
+abbrev μ-loop : tie.MeasureT-loop
+μ-loop s i₀ i = length s - i
+
+loop-holds : tie.Need-loop-holds Inv-loop μ-loop
+loop-holds c = tt
+
+line-end-requires : tie.Need-line-end-requires Inv-loop μ-loop
+line-end-requires c κs = omega (arith, c .loop-test .taken)
+
+sub-show-line : tie.Need-sub-show-line Inv-loop μ-loop
+sub-show-line c = search needs
+
+part-show-line-start : tie.Need-part-show-line-start Inv-loop μ-loop
+part-show-line-start c = search needs
+
+part-show-line-end : tie.Need-part-show-line-end Inv-loop μ-loop
+part-show-line-end c = search needs
+
+show-line-requires : tie.Need-show-line-requires Inv-loop μ-loop
+show-line-requires c κs = search needs
+
+add-i : tie.Need-add-i Inv-loop μ-loop
+add-i c = omega (arith, c .before .before .line-end .ensures .1, c .before .before .before .before .before .before .good .0 .0)
+
+loop-less : tie.Need-loop-less Inv-loop μ-loop
+loop-less c = omega (arith, c .before .before .line-end .ensures .0, c .before .before .before .loop-test .taken)
+
+loop-again : tie.Need-loop-again Inv-loop μ-loop
+loop-again c = tt
+
+returns : tie.Need-returns Inv-loop μ-loop
+returns c = search needs
+
+pub show-lines-spec : {M : Type 1} → statement M
+show-lines-spec =
+    tie.close
+    (tie.spec
+    Inv-loop
+    μ-loop
+    loop-holds
+    line-end-requires
+    sub-show-line
+    part-show-line-start
+    part-show-line-end
+    show-line-requires
+    add-i
+    loop-less
+    loop-again
+    returns)

@@ -1,0 +1,133 @@
+// What each service gives, as a list of numbers: the refusal's number, the results, and what it wrote to lent memory. Lent memory that is as it
+// was counts as 0, so that a change of it shows.
+ghost use mathlib.Core.Path.{_≡_};
+ghost use Prim.Native.Nat.{_≤_};
+ghost use lib.ListN.{length};
+use crate::numbers;
+
+// What lent memory holds before: a byte, eight of them as a number, and these as a signed one.
+const BYTE: u8 = 0xAA;
+
+const NUMBER: u64 = 0xAAAA_AAAA_AAAA_AAAA;
+
+const BEFORE: i64 = -6_148_914_691_236_517_206;
+
+// The number of a refusal, and the other bits of an answer.
+fn answered(answer: u64) -> [u64; 136] {
+    let mut given = [0u64; 136];
+    given[0] = answer % 256;
+    given[1] = answer / 256;
+    given
+}
+
+// A number of lent memory: itself if it was written, else what it is more than before.
+fn lent(n: u64, is_written: bool) -> u64 {
+    if is_written {
+        return n;
+    }
+    std::num::wrapping_sub_u64(n, NUMBER)
+}
+
+// The length of a text that was cut.
+fn cut(text: &[u8], room: u64) -> [u64; 136] {
+    answered(rigcactus::rigcactus_cut(text, room))
+}
+
+// No result.
+fn check(record: &[u8], offset: i64) -> [u64; 136] {
+    answered(rigcactus::rigcactus_check(record, offset))
+}
+
+// The record that is refused, and yes, no or unknown.
+fn compare(first: &[u8], second: &[u8], offset: i64) -> [u64; 136] {
+    let mut given = answered(rigcactus::rigcactus_compare(first, second, offset));
+    given[2] = given[1] / 256;
+    given[1] = given[1] % 256;
+    given
+}
+
+// The precision, and the tick.
+fn tick(text: &[u8], offset: i64) -> [u64; 136] {
+    let mut tick = BEFORE;
+    let mut given = answered(rigcactus::rigcactus_tick(text, offset, &mut tick));
+    given[2] = lent(numbers::complement(tick), given[0] == 0);
+    given
+}
+
+// How many numbers of a list are written, if its stretches were counted so.
+fn written(number: u64, count: u64) -> usize {
+    if number != 0 {
+        return 0;
+    }
+    if 33 < count {
+        return 0;
+    }
+    4 * (count as usize)
+}
+
+// An answer with the numbers of a list.
+fn with_list(answer: [u64; 136], list: &[u8; 1056]) -> [u64; 136] {
+    let mut given = answer;
+    let count = written(given[0], given[1]);
+    let mut k = 0;
+    while k < 132 {
+        given[k + 2] = lent(numbers::number_at(list, 8 * k), k < count);
+        k += 1;
+    }
+    given
+}
+
+// A list as it is before.
+fn list_before() -> [u8; 1056]
+    ensures { λ r. ⌜ 1056 ≡ length r ⌝ }
+{
+    [BYTE; 1056]
+}
+
+// The count of stretches, and the list's numbers.
+fn list(record: &[u8], offset: i64, length: usize) -> [u64; 136]
+    requires { ⌜ length ≤ 1056 ⌝ }
+{
+    let mut list = list_before();
+    let answer = rigcactus::rigcactus_list(record, offset, &mut list[..length]);
+    with_list(answered(answer), &list)
+}
+
+// The length of a lent list, which is 1,056 bytes at most.
+fn room(length: u64) -> usize
+    ensures { λ r. ⌜ r ≤ 1056 ⌝ }
+{
+    if 1056 < length { 1056 } else { length as usize }
+}
+
+// Names of services as numbers, a byte for each letter: cut, tick, check, list, compare.
+const CUT: u64 = 0x63_75_74;
+
+const TICK: u64 = 0x74_69_63_6B;
+
+const CHECK: u64 = 0x63_68_65_63_6B;
+
+const LIST: u64 = 0x6C_69_73_74;
+
+const COMPARE: u64 = 0x63_6F_6D_70_61_72_65;
+
+// What the service of a name gives for numbers and texts; 255, which is no refusal's number, for a name that no service has.
+pub fn call(name: u64, given: [u64; 136], first: &[u8], second: &[u8]) -> [u64; 136] {
+    let offset = numbers::signed(given[0]);
+    if name == CUT {
+        return cut(first, given[0]);
+    }
+    if name == TICK {
+        return tick(first, offset);
+    }
+    if name == CHECK {
+        return check(first, offset);
+    }
+    if name == LIST {
+        return list(first, offset, room(given[1]));
+    }
+    if name == COMPARE {
+        return compare(first, second, offset);
+    }
+    answered(255)
+}
