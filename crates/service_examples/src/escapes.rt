@@ -84,9 +84,8 @@ fn put_group(group: &[u8], out: &mut [u8], at: usize) -> usize
     ensures { λ r. ⌜ (r ≤ length (now (out .entry))) × (length (now (out .exit)) ≡ length (now (out .entry))) ⌝ }
 {
     let space = lines::position(group, 0, b' ');
-    let start = lines::behind(group, space, 1);
     let count = numbers::number(lines::between(group, 0, space));
-    let text = &group[start..];
+    let text = lines::after(group, space, 1);
     let mut n = at;
     let mut k = 0;
     while k < count {
@@ -102,10 +101,8 @@ fn put_part(part: &[u8], out: &mut [u8], at: usize) -> usize
     ensures { λ r. ⌜ (r ≤ length (now (out .entry))) × (length (now (out .exit)) ≡ length (now (out .entry))) ⌝ }
 {
     let brace = lines::position(part, 0, b'{');
-    let end = lines::ahead(part, brace);
-    let start = lines::behind(part, brace, 1);
-    let n = put(lines::between(part, 0, end), out, at);
-    put_group(&part[start..], out, n)
+    let n = put(lines::before(part, brace), out, at);
+    put_group(lines::after(part, brace, 1), out, n)
 }
 
 // Puts the bytes that a text writes at the start of `out`, and answers how many.

@@ -22,17 +22,23 @@ pub fn byte(s: &[u8], at: usize) -> u8 {
     if at < s.len() { s[at] } else { 0 }
 }
 
-// The position before that of a byte; the end, if it is no byte's.
-pub fn ahead(s: &[u8], at: usize) -> usize
-    ensures { λ r. ⌜ r ≤ length (now (s .entry)) ⌝ }
-{
+// What stands before a position and the byte before that; all, if the text ends there.
+pub fn before(s: &[u8], at: usize) -> &[u8] {
     if s.len() <= at {
-        return s.len();
+        return s;
     }
     if at == 0 {
-        return 0;
+        return &s[..0];
     }
-    at - 1
+    between(s, 0, at - 1)
+}
+
+// What stands so far behind a position.
+pub fn after(s: &[u8], at: usize, count: usize) -> &[u8]
+    requires { ⌜ at ≤ length (now s) ⌝ }
+{
+    let start = behind(s, at, count);
+    &s[start..]
 }
 
 // The position so far behind another, or the last one, if that comes first.

@@ -22,8 +22,7 @@ fn digits(word: &[u8]) -> u64 {
 // The number that a word writes.
 pub fn number(word: &[u8]) -> u64 {
     if lines::byte(word, 0) == b'-' {
-        let start = lines::behind(word, 0, 1);
-        return std::num::wrapping_sub_u64(0, digits(&word[start..]));
+        return std::num::wrapping_sub_u64(0, digits(lines::after(word, 0, 1)));
     }
     digits(word)
 }
@@ -35,16 +34,16 @@ fn place(k: usize) -> usize
     if k < 136 { k } else { 135 }
 }
 
-// The numbers that words write, one space apart; those that are missing are 0.
+// The numbers that words write, after what stands before the first space; those that are missing are 0.
 pub fn read(words: &[u8]) -> [u64; 136] {
     let mut list = [0u64; 136];
     let mut k = 0;
-    let mut i = 0;
+    let mut i = lines::position(words, 0, b' ');
     while i < words.len() {
-        let e = lines::position(words, i, b' ');
-        list[place(k)] = number(&words[i..e]);
+        let e = lines::position(words, i + 1, b' ');
+        list[place(k)] = number(&words[i + 1..e]);
         k += 1;
-        i = e + 1;
+        i = e;
     }
     list
 }
@@ -105,13 +104,13 @@ pub fn number_at(list: &[u8], at: usize) -> u64
     n
 }
 
-// Prints a number after a space.
-pub fn put(n: u64) {
+// Prints a number after a text.
+pub fn put(text: &[u8], n: u64) {
+    io::write_all(1, text);
     if n < 9_223_372_036_854_775_808 {
-        io::write_all(1, b" ");
         io::print_decimal(1, n);
     } else {
-        io::write_all(1, b" -");
+        io::write_all(1, b"-");
         io::print_decimal(1, std::num::wrapping_sub_u64(0, n));
     }
 }

@@ -7,16 +7,13 @@ use Rattle.service_examples.proofs.escapes.put_group.Statement.{stateme
 use Rattle.service_examples.proofs.escapes.put_group.Tie as tie
 
 abbrev Inv-loop : tie.InvT-loop
-Inv-loop group out₀ at space start count text n₀ k₀ out n k = (n ≤ length out) × (length out ≡ length out₀)
+Inv-loop group out₀ at space count text n₀ k₀ out n k = (n ≤ length out) × (length out ≡ length out₀)
 
 abbrev μ-loop : tie.MeasureT-loop
-μ-loop group out₀ at space start count text n₀ k₀ out n k = count - k
+μ-loop group out₀ at space count text n₀ k₀ out n k = count - k
 
 position-requires : tie.Need-position-requires Inv-loop μ-loop
 position-requires c κs = search needs
-
-behind-requires : tie.Need-behind-requires Inv-loop μ-loop
-behind-requires c κs = search needs
 
 between-requires : tie.Need-between-requires Inv-loop μ-loop
 between-requires c κs = search needs
@@ -24,14 +21,8 @@ between-requires c κs = search needs
 number-requires : tie.Need-number-requires Inv-loop μ-loop
 number-requires c κs = search needs
 
-sub-text : tie.Need-sub-text Inv-loop μ-loop
-sub-text c = search needs
-
-part-text-start : tie.Need-part-text-start Inv-loop μ-loop
-part-text-start c = search needs
-
-part-text-end : tie.Need-part-text-end Inv-loop μ-loop
-part-text-end c = search needs
+after-requires : tie.Need-after-requires Inv-loop μ-loop
+after-requires c κs = search needs
 
 loop-holds : tie.Need-loop-holds Inv-loop μ-loop
 loop-holds c = search needs
@@ -61,12 +52,9 @@ put-group-spec =
     Inv-loop
     μ-loop
     position-requires
-    behind-requires
     between-requires
     number-requires
-    sub-text
-    part-text-start
-    part-text-end
+    after-requires
     loop-holds
     put-requires
     add-k

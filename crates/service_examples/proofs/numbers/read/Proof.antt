@@ -11,11 +11,20 @@ Inv-loop words list₀ k₀ i₀ list k i = k ≤ i
 abbrev μ-loop : tie.MeasureT-loop
 μ-loop words list₀ k₀ i₀ list k i = length words - i
 
+position-requires : tie.Need-position-requires Inv-loop μ-loop
+position-requires c κs = search needs
+
 loop-holds : tie.Need-loop-holds Inv-loop μ-loop
 loop-holds c = search needs
 
-position-requires : tie.Need-position-requires Inv-loop μ-loop
-position-requires c κs = search needs
+add-position : tie.Need-add-position Inv-loop μ-loop
+add-position c = search needs
+
+position-requires-2 : tie.Need-position-requires-2 Inv-loop μ-loop
+position-requires-2 c κs = search needs
+
+add-number : tie.Need-add-number Inv-loop μ-loop
+add-number c = search needs
 
 sub-number : tie.Need-sub-number Inv-loop μ-loop
 sub-number c = search needs
@@ -41,9 +50,6 @@ array-write-list c = search needs
 add-k : tie.Need-add-k Inv-loop μ-loop
 add-k c = search needs
 
-add-i : tie.Need-add-i Inv-loop μ-loop
-add-i c = search needs
-
 loop-less : tie.Need-loop-less Inv-loop μ-loop
 loop-less c = search needs
 
@@ -59,8 +65,11 @@ read-spec =
     (tie.spec
     Inv-loop
     μ-loop
-    loop-holds
     position-requires
+    loop-holds
+    add-position
+    position-requires-2
+    add-number
     sub-number
     part-number-start
     part-number-end
@@ -69,7 +78,6 @@ read-spec =
     mul-list
     array-write-list
     add-k
-    add-i
     loop-less
     loop-again
     returns)
