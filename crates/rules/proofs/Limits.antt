@@ -50,8 +50,8 @@ module _ (r : Refusal) (b : Bool) (others : List Refusal) (after : Pass (stands-
   second-when p true h = (λ e. absurd (omega (arith, h, first-is (p ∷ (r when b ++ others)) r .0 e .1 p (List·Memᴰ·head refl))), λ (e, f). clash (cc))
   second-when p false h = (λ e. (refl, first-when .0 e), λ (e, f). first-when .1 f)
 
--- what stands third or later stands after the first two
-later : (r q : Refusal) → rank r ≤ 1 → 1 < rank q → stands-after r q ≡ true
+-- what stands after TOO LONG stands after what does not
+later : (r q : Refusal) → rank r ≤ rank TOO-LONG → rank TOO-LONG < rank q → stands-after r q ≡ true
 later r q h k = lt-ltb (rank r) (rank q) (omega (arith, h, k))
 
 -- over 16,384 bytes
@@ -64,7 +64,7 @@ not-limit false = ((λ e. refl, λ e. refl), (λ e. clash (cc), λ e. clash (cc)
 
 -- a service that has these two faults and others that stand after them: OFFSET is given exactly if the agreed offset is out of range, and
 -- TOO LONG exactly if it is not and the input has over 16,384 bytes
-module _ (offset : ℤ) (input : List ℕ) (others : List Refusal) (all-later : (r : Refusal) → rank r ≤ 1 → Pass (stands-after r) others) where
+module _ (offset : ℤ) (input : List ℕ) (others : List Refusal) (all-later : (r : Refusal) → rank r ≤ rank TOO-LONG → Pass (stands-after r) others) where
   abbrev faults : List Refusal
   faults = OFFSET when not (isOffset offset) ++ (TOO-LONG when isTooLong input ++ others)
 
@@ -94,7 +94,7 @@ module _ (offset : ℤ) (input : List ℕ) where
       append-assoc (OFFSET when not (isOffset offset) ++ TOO-LONG when isTooLong input) (NOT-UTF-8 when not (isUtf8 input)) (faultsIn (topFaults (shiftBy offset)) (elementOf input))
       ∙ append-assoc (OFFSET when not (isOffset offset)) (TOO-LONG when isTooLong input) inner
 
-  inner-later : (r : Refusal) → rank r ≤ 1 → Pass (stands-after r) inner
+  inner-later : (r : Refusal) → rank r ≤ rank TOO-LONG → Pass (stands-after r) inner
   unfolding rankIn inner
   inner-later r h =
       pass-append (stands-after r) (pass-when (stands-after r) NOT-UTF-8 (not (isUtf8 input)) (later r NOT-UTF-8 h (omega arith)))
@@ -112,7 +112,7 @@ module _ (offset : ℤ) (text : List ℕ) where
   abbrev unread : List Refusal
   unread = faultsOf (readTimestamp (shiftBy offset) text)
 
-  unread-later : (r : Refusal) → rank r ≤ 1 → Pass (stands-after r) unread
+  unread-later : (r : Refusal) → rank r ≤ rank TOO-LONG → Pass (stands-after r) unread
   unfolding rankIn
   unread-later r h =
       read-passes (stands-after r) (later r TYPE h (omega arith)) (later r SHAPE h (omega arith)) (later r VALUE h (omega arith)) (later r RULE h (omega arith)) (shiftBy offset) text
