@@ -1,14 +1,14 @@
 -- The ways through the comparison service.
-use Prim.Native.Nat.{ℕ, _+_}
+use Prim.Native.Nat.{ℕ}
 use mathlib.Core.Path.{_≡_, refl, sym, _∙_, ap}
 use mathlib.Core.Bool.{true, false}
 use mathlib.Core.List.{List}
 use mathlib.Core.Option.{Option, none, some}
 use lib.IntN.{ℤ}
-use Rattle.rules.specs.Refusal.{Refusal, OFFSET, number, firstOf, Outcome, answered, refused}
+use Rattle.rules.specs.Refusal.{Refusal, OFFSET, firstOf, Outcome, answered, refused}
 use Rattle.rules.specs.Markup.{Element, document}
 use Rattle.rules.specs.Check.{isOffset, shiftBy, recordFaults, check}
-use Rattle.rules.specs.Services.{Compared, compareChecked, comparison, comparedNumber, compareAnswer}
+use Rattle.rules.specs.Services.{Compared, refusedFirst, refusedSecond, compareChecked, comparison, comparedNumber, compareAnswer}
 use Rattle.rules.proofs.Tests.{clash}
 use Rattle.rules.proofs.Precedence.{check-refused, check-answered}
 use Rattle.judge.specs.Faults.{inputFaults}
@@ -30,16 +30,16 @@ module _ (offset : ℤ) (input : List ℕ) {shift : ℕ} (fine : isOffset offset
       go (refused r) f = let z : _≡_ {A = Option Refusal} none (some r) = sym (first-fault h) ∙ check-refused offset input r .0 f in clash (cc)
 
 module _ (offset : ℤ) (first second : List ℕ) where
-  pub compare-offset : isOffset offset ≡ false → number OFFSET + 256 ≡ compareAnswer offset first second
+  pub compare-offset : isOffset offset ≡ false → comparedNumber (refusedFirst OFFSET) ≡ compareAnswer offset first second
   unfolding comparison
   compare-offset e = rw (check-refused offset first OFFSET .1 (record-offset offset first e))
 
-  pub compare-first : (r : Refusal) → check offset first ≡ refused r → number r + 256 ≡ compareAnswer offset first second
+  pub compare-first : (r : Refusal) → check offset first ≡ refused r → comparedNumber (refusedFirst r) ≡ compareAnswer offset first second
   unfolding comparison
   compare-first r f = rw f
 
   module _ (a : Element) (accepted : check offset first ≡ answered a) where
-    pub compare-second : (r : Refusal) → check offset second ≡ refused r → number r + 512 ≡ compareAnswer offset first second
+    pub compare-second : (r : Refusal) → check offset second ≡ refused r → comparedNumber (refusedSecond r) ≡ compareAnswer offset first second
     unfolding comparison
     compare-second r f = rw (accepted, f)
 

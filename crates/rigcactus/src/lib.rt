@@ -7,8 +7,8 @@ ghost use Rattle.rules.specs.Basics.{ifSome};
 ghost use Rattle.rules.specs.Refusal.{number as pageNumber, firstOf};
 ghost use Rattle.rules.specs.Timestamp.{beforeStart};
 ghost use Rattle.rules.specs.Check.{isOffset, shiftBy};
-ghost use Rattle.rules.specs.Services.{packed, answerNumber, comparedNumber};
-ghost use Rattle.refusal.specs.Meaning.{faultOf};
+ghost use Rattle.rules.specs.Services.{packed, refusedFirst, refusedSecond, answerNumber, comparedNumber};
+ghost use Rattle.refusal.specs.Meaning.{refusalOf, faultOf};
 ghost use Rattle.timestamp.specs.Moments.{outcomeOf};
 ghost use Rattle.comparison.specs.Meaning.{answerMeant, comparedMeant};
 ghost use Rattle.listing.specs.Answers.{Few, listedMeant};
@@ -129,13 +129,27 @@ fn answer_number(answer: Answer) -> u64
     }
 }
 
+// The packed answer that refuses the first of two records.
+fn first_refused(r: Refusal) -> u64
+    ensures { λ n. ⌜ n ≡ comparedNumber (refusedFirst (refusalOf r)) ⌝ }
+{
+    refusal::number(r) + 256
+}
+
+// The packed answer that refuses the second.
+fn second_refused(r: Refusal) -> u64
+    ensures { λ n. ⌜ n ≡ comparedNumber (refusedSecond (refusalOf r)) ⌝ }
+{
+    refusal::number(r) + 512
+}
+
 // The packed answer on two records that were accepted.
 fn compared_number(compared: Compared) -> u64
     ensures { λ r. ⌜ r ≡ comparedNumber (comparedMeant compared) ⌝ }
 {
     match compared {
         Compared::Is(answer) => answer_number(answer) * 65_536,
-        Compared::Other => refusal::number(Refusal::Type) + 512,
+        Compared::Other => second_refused(Refusal::Type),
     }
 }
 
@@ -146,16 +160,16 @@ pub extern "C" fn rigcactus_compare(first: &[u8], second: &[u8], offset: i64) ->
     ensures { λ r. ⌜ r ≡ services .compare-says offset (now (first .entry)) (now (second .entry)) ⌝ }
 {
     if !is_offset(offset) {
-        return refusal::number(Refusal::Offset) + 256;
+        return first_refused(Refusal::Offset);
     }
     let shift = shift_of(offset);
     let one = judge::fault(first, shift);
     if let Verdict::Refused(r) = one {
-        return refusal::number(r) + 256;
+        return first_refused(r);
     }
     let other = judge::fault(second, shift);
     if let Verdict::Refused(r) = other {
-        return refusal::number(r) + 512;
+        return second_refused(r);
     }
     compared_number(comparison::compare(first, second, shift))
 }

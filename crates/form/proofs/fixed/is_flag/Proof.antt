@@ -1,19 +1,34 @@
 -- `form::fixed::is_flag` meets its contract.
-use mathlib.Core.Path.{refl}
+use Rattle.rules.specs.Basics.{split}
+use Rattle.form.proofs.Choices.{one-by-one}
 use borrow.Author.Needs.{needs}
-use Rattle.rules.specs.Basics.{oneOf}
 use Rattle.form.proofs.fixed.is_flag.Statement.{statement}
 use Rattle.form.proofs.fixed.is_flag.Tie as tie
+use Rattle.form.proofs.fixed.is_flag.Reads as reads
+use Rattle.form.proofs.fixed.is_flag.Lts as lts
+use Rattle.element.proofs.value.is.Reads as is-reads
 
-slice-aggregate-is-one-of : tie.Need-slice-aggregate-is-one-of
-slice-aggregate-is-one-of c = refl
+-- src/fixed.rt:38:14
+slice-aggregate-is : tie.Need-slice-aggregate-is
+slice-aggregate-is c = search needs
 
-is-one-of-requires : tie.Need-is-one-of-requires
-is-one-of-requires c κs = search needs
+-- src/fixed.rt:38:5
+is-requires : tie.Need-is-requires
+is-requires c κs = search needs
 
+-- src/fixed.rt:38:34
+slice-aggregate-is-2 : tie.Need-slice-aggregate-is-2
+slice-aggregate-is-2 c = search needs
+
+-- src/fixed.rt:38:25
+is-requires-2 : tie.Need-is-requires-2
+is-requires-2 c κs = search needs
+
+-- src/fixed.rt:34:1
 returns : tie.Need-returns
-unfolding oneOf
-returns c = λ v a h. c .is-one-of .ensures v a h
+unfolding split
+returns c = λ v a h. rw (c .before .before .is .ensures v a h, c .is2 .ensures v a h) (one-by-one "true false" v)
 
 pub is-flag-spec : {M : Type 1} → statement M
-is-flag-spec = tie.close (tie.spec slice-aggregate-is-one-of is-one-of-requires returns)
+is-flag-spec =
+    tie.close (tie.spec slice-aggregate-is is-requires slice-aggregate-is-2 is-requires-2 returns)
