@@ -6,10 +6,9 @@ use crate::put;
 use crate::put_answer;
 use listing::Listed;
 use text::digits::Number;
+use timestamp::tick::Tick;
 
-// The tick 0001-01-01 00:00, as the code counts it, and what every tick is below.
-const START: u64 = 504000000;
-
+// What every tick is below.
 const MOST: u64 = 1152921504606846976;
 
 fn wide(byte: u8) -> u64 {
@@ -48,7 +47,11 @@ fn put_places(record: &[u8], shift: u64, list: &[u8], bounds: usize)
     while k < bounds {
         if number_at(list, 16 * k) != 0 {
             let tick = number_at(list, 16 * k + 8);
-            put_place(record, shift, std::num::wrapping_add_u64(tick, START));
+            put_place(
+                record,
+                shift,
+                std::num::wrapping_add_u64(tick, Tick::ORIGIN.0),
+            );
         }
         k += 1;
     }

@@ -7,9 +7,7 @@ use interval::Bound;
 use interval::Interval;
 use interval::Op;
 use interval::Stretches;
-
-// The tick 0001-01-01 00:00, as the code counts it.
-const START: u64 = 504000000;
+use timestamp::tick::Tick;
 
 // [low, high]
 fn closed(low: u64, high: u64) -> Interval
@@ -17,8 +15,8 @@ fn closed(low: u64, high: u64) -> Interval
     ensures { λ r. ⌜ Ticked (r .low) × Ticked (r .high) ⌝ }
 {
     Interval {
-        low: Bound::Closed(START + low),
-        high: Bound::Closed(START + high),
+        low: Bound::Closed(Tick::ORIGIN.0 + low),
+        high: Bound::Closed(Tick::ORIGIN.0 + high),
     }
 }
 
@@ -27,8 +25,8 @@ fn before_three() -> Interval
     ensures { λ r. ⌜ Ticked (r .low) × Ticked (r .high) ⌝ }
 {
     Interval {
-        low: Bound::Closed(START + 1),
-        high: Bound::Open(START + 3),
+        low: Bound::Closed(Tick::ORIGIN.0 + 1),
+        high: Bound::Open(Tick::ORIGIN.0 + 3),
     }
 }
 
@@ -37,8 +35,8 @@ fn after_three() -> Interval
     ensures { λ r. ⌜ Ticked (r .low) × Ticked (r .high) ⌝ }
 {
     Interval {
-        low: Bound::Open(START + 3),
-        high: Bound::Closed(START + 5),
+        low: Bound::Open(Tick::ORIGIN.0 + 3),
+        high: Bound::Closed(Tick::ORIGIN.0 + 5),
     }
 }
 
@@ -61,7 +59,7 @@ fn around_three() -> Stretches
 fn ask(tick: u64, gap: bool)
     requires { ⌜ tick < 1000 ⌝ }
 {
-    put_answer(interval::contains(around_three(), START + tick, gap));
+    put_answer(interval::contains(around_three(), Tick::ORIGIN.0 + tick, gap));
 }
 
 // Whether 1, the gap after 2, 3, the gap after 3 and the gap after 5 are in [1, 3) and (3, 5].

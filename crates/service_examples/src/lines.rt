@@ -22,7 +22,7 @@ pub fn byte(s: &[u8], at: usize) -> u8 {
     if at < s.len() { s[at] } else { 0 }
 }
 
-// What stands before a position and the byte before that; all, if the text ends there.
+// What stands before the byte that precedes a position (a space, a backslash); the whole text if the position is its end.
 pub fn before(s: &[u8], at: usize) -> &[u8] {
     if s.len() <= at {
         return s;

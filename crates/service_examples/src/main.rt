@@ -14,12 +14,7 @@ fn answer(name: &[u8], words: &[u8], one: &[u8], other: &[u8]) -> [u64; 136] {
     let n = escapes::decode(one, &mut first);
     let mut second = io::large_buffer();
     let m = escapes::decode(other, &mut second);
-    services::call(
-        numbers::letters(name),
-        numbers::read(words),
-        &first[..n],
-        &second[..m],
-    )
+    services::call(name, numbers::read(words), &first[..n], &second[..m])
 }
 
 // The same for one text, or two with ` ~ ` between.
@@ -150,11 +145,11 @@ fn show_table(s: &[u8]) {
     show_heading(lines::line(s, t.heading), t);
 }
 
-// 131,072 zeros, for a table. Of a longer one the last headings are not tried, and missed in what is printed.
-fn buffer() -> [u8; 131072]
-    ensures { λ r. ⌜ 131072 ≡ length r ⌝ }
+// 262,144 zeros, for a table. Of a longer one the last headings are not tried, and missed in what is printed.
+fn buffer() -> [u8; 262144]
+    ensures { λ r. ⌜ 262144 ≡ length r ⌝ }
 {
-    [0; 131072]
+    [0; 262144]
 }
 
 fn main() {

@@ -71,17 +71,6 @@ pub fn signed(n: u64) -> i64 {
     }
 }
 
-// The number that the last eight letters of a word are, a byte each.
-pub fn letters(word: &[u8]) -> u64 {
-    let mut n: u64 = 0;
-    let mut i = 0;
-    while i < word.len() {
-        n = (n << 8) | wide(word[i]);
-        i += 1;
-    }
-    n
-}
-
 // A signed number in two's complement.
 pub fn complement(n: i64) -> u64 {
     if n < 0 {

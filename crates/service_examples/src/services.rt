@@ -33,7 +33,7 @@ fn cut(text: &[u8], room: u64) -> [u64; 136] {
     answered(rigcactus::rigcactus_cut(text, room))
 }
 
-// No result.
+// The number alone: checking has no result.
 fn check(record: &[u8], offset: i64) -> [u64; 136] {
     answered(rigcactus::rigcactus_check(record, offset))
 }
@@ -100,33 +100,22 @@ fn room(length: u64) -> usize
     if 1056 < length { 1056 } else { length as usize }
 }
 
-// Names of services as numbers, a byte for each letter: cut, tick, check, list, compare.
-const CUT: u64 = 0x63_75_74;
-
-const TICK: u64 = 0x74_69_63_6B;
-
-const CHECK: u64 = 0x63_68_65_63_6B;
-
-const LIST: u64 = 0x6C_69_73_74;
-
-const COMPARE: u64 = 0x63_6F_6D_70_61_72_65;
-
 // What the service of a name gives for numbers and texts; 255, which is no refusal's number, for a name that no service has.
-pub fn call(name: u64, given: [u64; 136], first: &[u8], second: &[u8]) -> [u64; 136] {
+pub fn call(name: &[u8], given: [u64; 136], first: &[u8], second: &[u8]) -> [u64; 136] {
     let offset = numbers::signed(given[0]);
-    if name == CUT {
+    if text::is_same(name, b"cut") {
         return cut(first, given[0]);
     }
-    if name == TICK {
+    if text::is_same(name, b"tick") {
         return tick(first, offset);
     }
-    if name == CHECK {
+    if text::is_same(name, b"check") {
         return check(first, offset);
     }
-    if name == LIST {
+    if text::is_same(name, b"list") {
         return list(first, offset, room(given[1]));
     }
-    if name == COMPARE {
+    if text::is_same(name, b"compare") {
         return compare(first, second, offset);
     }
     answered(255)
