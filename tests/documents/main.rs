@@ -55,6 +55,7 @@ fn main() {
     check_definitions(&tree, &documents[RULES], &mut findings);
     check_specs(&tree, &documents[ARCHITECTURE], &mut findings);
     check_counts(&tree, &documents, &mut findings);
+    check_asks_nothing(&tree, &mut findings);
     for finding in &findings.0 {
         println!("{finding}");
     }
@@ -231,6 +232,13 @@ fn check_counts(tree: &Tree, documents: &BTreeMap<&str, Document>, findings: &mu
         }
     }
     findings.unless(found > 0, "docs", || "no document says how many edits the gate tries".to_string());
+}
+
+/// No exported function of a library asks anything of its caller.
+fn check_asks_nothing(tree: &Tree, findings: &mut Findings) {
+    for name in tree.exported.keys().filter(|name| tree.asking.contains(*name)) {
+        findings.add(PROVED, format!("the exported function `{name}` has a `requires`"));
+    }
 }
 
 /// A file of the repository as text.

@@ -12,6 +12,8 @@ pub struct Tree {
     pub functions: BTreeSet<String>,
     pub public: BTreeSet<String>,
     pub exported: BTreeMap<String, String>,
+    /// the functions that C can call and that have a `requires`
+    pub asking: BTreeSet<String>,
     /// modules, those that are public, and what a module hands on: the path there, and where it stands
     modules: BTreeSet<String>,
     open: BTreeSet<String>,
@@ -131,6 +133,10 @@ impl Tree {
                     self.items.insert(path.clone());
                     self.functions.insert(path.clone());
                     if exported {
+                        let head = text.split(&format!("fn {name}(")).nth(1).unwrap_or("").split("\n{").next().unwrap_or("");
+                        if head.contains("requires") {
+                            self.asking.insert(name.to_string());
+                        }
                         self.exported.insert(name.to_string(), path.clone());
                     }
                     if public && library {

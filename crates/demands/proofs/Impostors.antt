@@ -2,7 +2,7 @@
 use Prim.Native.Nat.{ℕ, _≤_}
 use Prim.Native.String.{String}
 use mathlib.Core.Path.{_≡_, sym, _∙_, ap}
-use mathlib.Core.List.{List}
+use mathlib.Core.List.{List, _++_}
 use native.Mathlib.Omega.{arith}
 use lib.ListN.{length, replicate}
 use lib.IntN.{ℤ, pos}
@@ -19,15 +19,18 @@ use Rattle.rules.proofs.ListingPromise.{small}
 use Rattle.demands.specs.Demands.{Services, resultIn, Demands}
 use Rattle.demands.proofs.Determined.{demands-determine}
 
--- an identifier; a stay that ends before 2024, and with a term more, from 2025 on
 abbrev identifier : String
 identifier = "<a xsi:type=\"II\" root=\"1.2\"/>"
 
-abbrev one-stay : String
-one-stay = "<a xsi:type=\"QSU_TS\"><term xsi:type=\"IVL_TS\" highClosed=\"false\"><low nullFlavor=\"NINF\"/><high value=\"2024\"/></term></a>"
+-- the union of the terms that a text writes; a term that ends before 2024, and one from 2025 on
+abbrev unionOf : List ℕ → List ℕ
+unionOf terms = bytes "<a xsi:type=\"QSU_TS\">" ++ terms ++ bytes "</a>"
 
-abbrev two-stays : String
-two-stays = "<a xsi:type=\"QSU_TS\"><term xsi:type=\"IVL_TS\" highClosed=\"false\"><low nullFlavor=\"NINF\"/><high value=\"2024\"/></term><term xsi:type=\"IVL_TS\" lowClosed=\"true\"><low value=\"2025\"/><high nullFlavor=\"PINF\"/></term></a>"
+abbrev before-2024 : List ℕ
+before-2024 = bytes "<term xsi:type=\"IVL_TS\" highClosed=\"false\"><low nullFlavor=\"NINF\"/><high value=\"2024\"/></term>"
+
+abbrev from-2025 : List ℕ
+from-2025 = bytes "<term xsi:type=\"IVL_TS\" lowClosed=\"true\"><low value=\"2025\"/><high nullFlavor=\"PINF\"/></term>"
 
 module _ (s : Services) (p : Demands s) where
   -- what such services say of them
@@ -43,13 +46,21 @@ module _ (s : Services) (p : Demands s) where
   unfolding opened
   cuts-letter = ap resultIn (demands-determine s p .same-cut (bytes "a") 1)
 
-  lists-one : resultIn (s .list-says (pos 0) (bytes one-stay) (replicate 64 7)) ≡ 1
+  accepts-one : s .check-says (pos 0) (unionOf before-2024) ≡ 0
   unfolding opened
-  lists-one = ap resultIn (demands-determine s p .same-list (pos 0) (bytes one-stay) (replicate 64 7))
+  accepts-one = demands-determine s p .same-check (pos 0) (unionOf before-2024)
 
-  lists-two : resultIn (s .list-says (pos 0) (bytes two-stays) (replicate 64 7)) ≡ 2
+  accepts-two : s .check-says (pos 0) (unionOf (before-2024 ++ from-2025)) ≡ 0
   unfolding opened
-  lists-two = ap resultIn (demands-determine s p .same-list (pos 0) (bytes two-stays) (replicate 64 7))
+  accepts-two = demands-determine s p .same-check (pos 0) (unionOf (before-2024 ++ from-2025))
+
+  lists-one : resultIn (s .list-says (pos 0) (unionOf before-2024) (replicate 64 7)) ≡ 1
+  unfolding opened
+  lists-one = ap resultIn (demands-determine s p .same-list (pos 0) (unionOf before-2024) (replicate 64 7))
+
+  lists-two : resultIn (s .list-says (pos 0) (unionOf (before-2024 ++ from-2025)) (replicate 64 7)) ≡ 2
+  unfolding opened
+  lists-two = ap resultIn (demands-determine s p .same-list (pos 0) (unionOf (before-2024 ++ from-2025)) (replicate 64 7))
 
   -- one that refuses all
   pub refuses-all : ((offset : ℤ) (record′ : List ℕ) → (r : Refusal) × (numberIn (s .check-says offset record′) ≡ number r)) → ⊥
@@ -57,7 +68,7 @@ module _ (s : Services) (p : Demands s) where
 
   -- one that always lists nothing
   pub lists-nothing : ((offset : ℤ) (record′ list : List ℕ) → resultIn (s .list-says offset record′ list) ≡ 0) → ⊥
-  lists-nothing h = omega (arith, lists-one, h (pos 0) (bytes one-stay) (replicate 64 7))
+  lists-nothing h = omega (arith, lists-one, h (pos 0) (unionOf before-2024) (replicate 64 7))
 
   -- one that always says unknown
   pub says-unknown : ((offset : ℤ) (first second : List ℕ) → answerIn (s .compare-says offset first second) ≡ answerNumber Unknown) → ⊥
@@ -72,12 +83,13 @@ module _ (s : Services) (p : Demands s) where
   unfolding opened
   writes-nothing h =
       let list : List ℕ = replicate 64 7 in
-      let z = sym (h (pos 0) (bytes one-stay) list) ∙ demands-determine s p .same-list-left (pos 0) (bytes one-stay) list in
+      let z = sym (h (pos 0) (unionOf before-2024) list) ∙ demands-determine s p .same-list-left (pos 0) (unionOf before-2024) list in
       clash (cc)
 
-  -- one that reads the first term and skips the rest, and so says of both stays what it says of the first
-  pub skips-terms : ((offset : ℤ) (list : List ℕ) → s .list-says offset (bytes two-stays) list ≡ s .list-says offset (bytes one-stay) list) → ⊥
-  skips-terms h = let e = h (pos 0) (replicate 64 7) in omega (arith, lists-one, lists-two)
+  -- one that reads the first term and skips the rest: of a union with further terms it says what it says of the union without them
+  pub skips-terms : ((offset : ℤ) (first rest list : List ℕ) → s .check-says offset (unionOf first) ≡ 0 → s .check-says offset (unionOf (first ++ rest)) ≡ 0
+      → s .list-says offset (unionOf (first ++ rest)) list ≡ s .list-says offset (unionOf first) list) → ⊥
+  skips-terms h = let e = h (pos 0) before-2024 from-2025 (replicate 64 7) accepts-one accepts-two in omega (arith, lists-one, lists-two, ap resultIn e)
 
   -- one with an invented stretch count
   pub invents-count : (offset : ℤ) (record′ list : List ℕ) (e : Element) (h : IsSetOfTimes offset record′ e)

@@ -9,12 +9,15 @@ use native.Mathlib.Omega.{arith}
 use borrow.Author.Tests.{leb-true, le-leb, lt-leb}
 use lib.Dec.{leb}
 use lib.ListN.{length}
+use lib.IntN.{ℤ}
 use Rattle.rules.specs.Basics.{bytes}
-use Rattle.rules.specs.Refusal.{MARKUP, refused}
+use Rattle.rules.specs.Refusal.{MARKUP, firstOf, answered, refused}
 use Rattle.rules.specs.Parsers.{Parsed, bad, ok, Parser, next, else, pure, _>>=_, _>>_, _or_, one, byte, literal, finish, sized, whole}
 use Rattle.rules.specs.Markup.{space, name, tagAttributes, Nodes, end, node, Element, endTag, body, element, content, document}
-use Rattle.rules.specs.Check.{elementOf}
+use Rattle.rules.specs.Utf8.{isUtf8}
+use Rattle.rules.specs.Check.{isOffset, isTooLong, recordFaults, check}
 use Rattle.rules.proofs.Tests.{clash}
+use Rattle.rules.proofs.Precedence.{check-refused, check-answered}
 use Rattle.rules.proofs.Parsers.{next-ok, map-ok, byte-ok, whole-ok}
 
 -- how many of these elements, and of those inside them, are open at once
@@ -170,7 +173,6 @@ depth-limit depth s e h =
       | no k ↦ rw (lt-leb (depthOf e) 8 (omega (arith, k)), h1, too-deep (length t) depth 8 t h2 (rw z (omega (arith, k))))
     ]
 
--- an accepted document is at most 8 deep
 pub document-depth : (s : List ℕ) (e : Element) → document s ≡ some e → depthOf e ≤ 8
 unfolding document
 document-depth s e h = leb-true (depthOf e) 8 (go (leb (depthOf e) 8) (sym h ∙ depth-limit 8 s e h))
@@ -179,6 +181,14 @@ document-depth s e h = leb-true (depthOf e) 8 (go (leb (depthOf e) 8) (sym h ∙
     go true z = refl
     go false z = clash (cc)
 
--- and one that is deeper is MARKUP
-pub deeper-markup : (depth : ℕ) (s : List ℕ) (e : Element) → whole (treeWithin depth) s ≡ some e → 8 < depthOf e → elementOf s ≡ refused MARKUP
-deeper-markup depth s e h k = rw (depth-limit depth s e h, lt-leb (depthOf e) 8 k)
+-- an accepted record is at most 8 deep
+pub accepted-depth : (offset : ℤ) (s : List ℕ) (e : Element) → check offset s ≡ answered e → depthOf e ≤ 8
+accepted-depth offset s e h = document-depth s e (check-answered offset s e .0 h .0)
+
+-- and one that is deeper is MARKUP, where nothing that stands before that on the ladder applies
+pub deeper-markup : (depth : ℕ) (offset : ℤ) (s : List ℕ) (e : Element) → whole (treeWithin depth) s ≡ some e → 8 < depthOf e
+    → isOffset offset ≡ true → isTooLong s ≡ false → isUtf8 s ≡ true → check offset s ≡ refused MARKUP
+unfolding recordFaults firstOf
+deeper-markup depth offset s e h k f g u =
+    let none-read : document s ≡ none = rw (depth-limit depth s e h, lt-leb (depthOf e) 8 k) in
+    check-refused offset s MARKUP .1 (rw (f, g, u, none-read))

@@ -55,7 +55,7 @@ later : (r q : Refusal) → rank r ≤ rank TOO-LONG → rank TOO-LONG < rank q 
 later r q h k = lt-ltb (rank r) (rank q) (omega (arith, h, k))
 
 -- over 16,384 bytes
-too-long-limit : (input : List ℕ) → isTooLong input ≡ true ↔ 16_384 < length input
+pub too-long-limit : (input : List ℕ) → isTooLong input ≡ true ↔ 16_384 < length input
 too-long-limit input = (ltb-true 16_384 (length input), lt-ltb 16_384 (length input))
 
 not-limit : (b : Bool) → (not b ≡ true ↔ b ≡ false) × (not b ≡ false ↔ b ≡ true)
