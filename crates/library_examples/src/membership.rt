@@ -116,7 +116,7 @@ fn show_lines(s: &[u8]) {
     }
 }
 
-pub fn show() {
+pub(crate) fn show() {
     let mut input = io::large_buffer();
     let n = io::read_full(0, &mut input);
     show_lines(&input[..n]);

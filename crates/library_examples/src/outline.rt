@@ -112,7 +112,7 @@ fn show(s: &[u8]) {
 }
 
 // A document of a set of times, one of references, and documents of 8 levels and of 9.
-pub fn show_all() {
+pub(crate) fn show_all() {
     show(
         b" <stay xsi:type=\"QSD_TS\"><minuend xsi:type=\"IVL_TS\" lowClosed=\"true\" highClosed=\"false\"><low value=\"20240501\"/><high value=\"20240504\"/></minuend>\n<subtrahend\txsi:type = \"IVL_TS\"></subtrahend ></stay> ",
     );

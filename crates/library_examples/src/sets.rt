@@ -85,7 +85,7 @@ fn crossed() {
 }
 
 // Prints a line for each question.
-pub fn show() {
+pub(crate) fn show() {
     put(b"places ");
     places();
     put(b"\nsame ");

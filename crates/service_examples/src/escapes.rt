@@ -106,7 +106,7 @@ fn put_part(part: &[u8], out: &mut [u8], at: usize) -> usize
 }
 
 // Puts the bytes that a text writes at the start of `out`, and answers how many.
-pub fn decode(text: &[u8], out: &mut [u8]) -> usize
+pub(crate) fn decode(text: &[u8], out: &mut [u8]) -> usize
     ensures { λ r. ⌜ Counts r (now (out .exit)) ⌝ }
 {
     let mut n = 0;

@@ -3,7 +3,7 @@ ghost use Prim.Native.Nat.{_<_, _≤_};
 ghost use lib.ListN.{length};
 
 // Where a byte stands first from a position on, or where the text ends.
-pub fn position(s: &[u8], from: usize, byte: u8) -> usize
+pub(crate) fn position(s: &[u8], from: usize, byte: u8) -> usize
     requires { ⌜ from ≤ length (now s) ⌝ }
     ensures { λ r. ⌜ (from ≤ r) × (r ≤ length (now (s .entry))) ⌝ }
 {
@@ -18,12 +18,12 @@ pub fn position(s: &[u8], from: usize, byte: u8) -> usize
 }
 
 // The byte at a position, or 0 where the text has none.
-pub fn byte(s: &[u8], at: usize) -> u8 {
+pub(crate) fn byte(s: &[u8], at: usize) -> u8 {
     if at < s.len() { s[at] } else { 0 }
 }
 
 // What stands before the byte that precedes a position (a space, a backslash); the whole text if the position is its end.
-pub fn before(s: &[u8], at: usize) -> &[u8] {
+pub(crate) fn before(s: &[u8], at: usize) -> &[u8] {
     if s.len() <= at {
         return s;
     }
@@ -34,7 +34,7 @@ pub fn before(s: &[u8], at: usize) -> &[u8] {
 }
 
 // What stands so far behind a position.
-pub fn after(s: &[u8], at: usize, count: usize) -> &[u8]
+pub(crate) fn after(s: &[u8], at: usize, count: usize) -> &[u8]
     requires { ⌜ at ≤ length (now s) ⌝ }
 {
     let start = behind(s, at, count);
@@ -42,7 +42,7 @@ pub fn after(s: &[u8], at: usize, count: usize) -> &[u8]
 }
 
 // The position so far behind another, or the last one, if that comes first.
-pub fn behind(s: &[u8], at: usize, count: usize) -> usize
+pub(crate) fn behind(s: &[u8], at: usize, count: usize) -> usize
     requires { ⌜ at ≤ length (now s) ⌝ }
     ensures { λ r. ⌜ (at ≤ r) × (r ≤ length (now (s .entry))) ⌝ }
 {
@@ -53,7 +53,7 @@ pub fn behind(s: &[u8], at: usize, count: usize) -> usize
 }
 
 // The text from a position up to another, nothing if they are out of order.
-pub fn between(s: &[u8], from: usize, to: usize) -> &[u8]
+pub(crate) fn between(s: &[u8], from: usize, to: usize) -> &[u8]
     requires { ⌜ to ≤ length (now s) ⌝ }
 {
     if to < from {
@@ -63,7 +63,7 @@ pub fn between(s: &[u8], from: usize, to: usize) -> &[u8]
 }
 
 // Where the line after the one at a position starts.
-pub fn next_line(s: &[u8], at: usize) -> usize
+pub(crate) fn next_line(s: &[u8], at: usize) -> usize
     requires { ⌜ at < length (now s) ⌝ }
     ensures { λ r. ⌜ (at < r) × (r ≤ length (now (s .entry))) ⌝ }
 {
@@ -75,7 +75,7 @@ pub fn next_line(s: &[u8], at: usize) -> usize
 }
 
 // The line at a position, without its line feed; nothing behind the end.
-pub fn line(s: &[u8], at: usize) -> &[u8] {
+pub(crate) fn line(s: &[u8], at: usize) -> &[u8] {
     if s.len() < at {
         return &s[..0];
     }

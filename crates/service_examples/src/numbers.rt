@@ -20,7 +20,7 @@ fn digits(word: &[u8]) -> u64 {
 }
 
 // The number that a word writes.
-pub fn number(word: &[u8]) -> u64 {
+pub(crate) fn number(word: &[u8]) -> u64 {
     if lines::byte(word, 0) == b'-' {
         return std::num::wrapping_sub_u64(0, digits(lines::after(word, 0, 1)));
     }
@@ -35,7 +35,7 @@ fn place(k: usize) -> usize
 }
 
 // The numbers that words write, after what stands before the first space; those that are missing are 0.
-pub fn read(words: &[u8]) -> [u64; 136] {
+pub(crate) fn read(words: &[u8]) -> [u64; 136] {
     let mut list = [0u64; 136];
     let mut k = 0;
     let mut i = lines::position(words, 0, b' ');
@@ -49,7 +49,7 @@ pub fn read(words: &[u8]) -> [u64; 136] {
 }
 
 // The place of the first number in which two lists differ, 136 if they are the same.
-pub fn difference(a: [u64; 136], b: [u64; 136]) -> usize
+pub(crate) fn difference(a: [u64; 136], b: [u64; 136]) -> usize
     ensures { λ r. ⌜ r ≤ 136 ⌝ }
 {
     let mut k = 0;
@@ -63,7 +63,7 @@ pub fn difference(a: [u64; 136], b: [u64; 136]) -> usize
 }
 
 // A number as a signed one.
-pub fn signed(n: u64) -> i64 {
+pub(crate) fn signed(n: u64) -> i64 {
     if n < 9_223_372_036_854_775_808 {
         n as i64
     } else {
@@ -72,7 +72,7 @@ pub fn signed(n: u64) -> i64 {
 }
 
 // A signed number in two's complement.
-pub fn complement(n: i64) -> u64 {
+pub(crate) fn complement(n: i64) -> u64 {
     if n < 0 {
         18_446_744_073_709_551_615 - ((-1 - n) as u64)
     } else {
@@ -81,7 +81,7 @@ pub fn complement(n: i64) -> u64 {
 }
 
 // The number in eight bytes at a position, lowest first.
-pub fn number_at(list: &[u8], at: usize) -> u64
+pub(crate) fn number_at(list: &[u8], at: usize) -> u64
     requires { ⌜ at + 8 ≤ length (now list) ⌝ }
 {
     let mut n: u64 = 0;
@@ -94,7 +94,7 @@ pub fn number_at(list: &[u8], at: usize) -> u64
 }
 
 // Prints a number after a text.
-pub fn put(text: &[u8], n: u64) {
+pub(crate) fn put(text: &[u8], n: u64) {
     io::write_all(1, text);
     if n < 9_223_372_036_854_775_808 {
         io::print_decimal(1, n);

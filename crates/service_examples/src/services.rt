@@ -101,7 +101,7 @@ fn room(length: u64) -> usize
 }
 
 // What the service of a name gives for numbers and texts; 255, which is no refusal's number, for a name that no service has.
-pub fn call(name: &[u8], given: [u64; 136], first: &[u8], second: &[u8]) -> [u64; 136] {
+pub(crate) fn call(name: &[u8], given: [u64; 136], first: &[u8], second: &[u8]) -> [u64; 136] {
     let offset = numbers::signed(given[0]);
     if text::is_same(name, b"cut") {
         return cut(first, given[0]);
