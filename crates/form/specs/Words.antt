@@ -12,3 +12,10 @@ alongBy w k c = cond (eqb c 32) 0 (cond (ltb k (length w) && eqb (getD w k 0) c)
 
 abbrev pub isQualifier : List ℕ → Bool
 isQualifier = oneOf "LS AC NB PR HON BR AD SP MID CL IN PFX SFX"
+
+-- the null flavors of an invalid value, and of an unknown one
+abbrev pub isInvalidFlavor : List ℕ → Bool
+isInvalidFlavor = oneOf "INV DER OTH NINF PINF UNC"
+
+abbrev pub isUnknownFlavor : List ℕ → Bool
+isUnknownFlavor = oneOf "UNK ASKU NAV NASK QS TRC"
