@@ -13,7 +13,7 @@ alongBy w k c = cond (eqb c 32) 0 (cond (ltb k (length w) && eqb (getD w k 0) c)
 abbrev pub isQualifier : List ℕ → Bool
 isQualifier = oneOf "LS AC NB PR HON BR AD SP MID CL IN PFX SFX"
 
--- the null flavors of an invalid value, and of an unknown one
+-- the page's null flavors ("Types") in two groups, as 000 has them (7.1.4): those of an invalid value, and of an unknown one
 abbrev pub isInvalidFlavor : List ℕ → Bool
 isInvalidFlavor = oneOf "INV DER OTH NINF PINF UNC"
 
