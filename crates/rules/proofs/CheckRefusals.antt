@@ -9,7 +9,7 @@ use borrow.Author.Tests.{leb-true}
 use lib.Dec.{leb, ltb}
 use lib.IntN.{ℤ}
 use Rattle.rules.specs.Basics.{isSome, ifSome, find, exists, bytes, isEmpty, same, begins}
-use Rattle.rules.specs.Refusal.{Refusal, OFFSET, TOO-LONG, NOT-UTF-8, MARKUP, TYPE, SHAPE, VALUE, RULE, number, firstOf, Outcome, answered, refused, faultsIn, faultsOf, _unless_, _when_}
+use Rattle.rules.specs.Refusal.{Refusal, OFFSET, TOO-LONG, NOT-UTF-8, MARKUP, TYPE, SHAPE, VALUE, RULE, number, rankIn, rank, firstOf, Outcome, answered, refused, faultsIn, faultsOf, _unless_, _when_}
 use Rattle.rules.specs.Markup.{Attribute, Nodes, end, node, Element, document}
 use Rattle.rules.specs.Timestamp.{Written, timestamp, isDate, isClock, isZone, writtenFaults, momentOf, readTimestamp}
 use Rattle.rules.specs.Parsers.{whole}
@@ -19,6 +19,7 @@ use Rattle.rules.specs.Types.{Kind, allTypes, typeAmong, Column, Child, 
 use Rattle.rules.specs.Judge.{Standing, top, isTop, typeColumns, nullColumns, attributeFaults, lacks, breaksNull, elementFaults, kindOf, standingOf, nextChild, childFaults, topFaults}
 use Rattle.rules.specs.Check.{isOffset, shiftBy, isTooLong, elementOf, recordFaults, check}
 use Rattle.rules.specs.Utf8.{isUtf8}
+use Rattle.rules.proofs.Tests.{both-true}
 use Rattle.rules.proofs.Children.{faultsAs}
 use Rattle.rules.proofs.Precedence.{first-is, unless-refused, check-refused}
 
@@ -133,18 +134,21 @@ module _ (test : Refusal → Bool) (type : test TYPE ≡ true) (shape : test SHA
       go (some e) = top-passes shift e
 
 module _ (offset : ℤ) (input : List ℕ) where
-  eight : Refusal → Bool
-  eight r = leb (number r) 8
+  -- not after RULE on the ladder, and of number 8 at most
+  own : Refusal → Bool
+  own r = leb (rank r) (rank RULE) && leb (number r) 8
 
-  record-passes : Pass eight (recordFaults offset input)
-  unfolding recordFaults eight
+  record-passes : Pass own (recordFaults offset input)
+  unfolding recordFaults own rankIn
   record-passes =
-      pass-append eight
-      (pass-append eight
-      (pass-append eight (pass-when eight OFFSET (not (isOffset offset)) refl) (pass-when eight TOO-LONG (isTooLong input) refl))
-      (pass-when eight NOT-UTF-8 (not (isUtf8 input)) refl))
-      (element-or-markup eight refl refl refl refl (shiftBy offset) input refl)
+      pass-append own
+      (pass-append own
+      (pass-append own (pass-when own OFFSET (not (isOffset offset)) refl) (pass-when own TOO-LONG (isTooLong input) refl))
+      (pass-when own NOT-UTF-8 (not (isUtf8 input)) refl))
+      (element-or-markup own refl refl refl refl (shiftBy offset) input refl)
 
-  pub check-refusals : {r : Refusal} → check offset input ≡ refused r → number r ≤ 8
-  unfolding eight
-  check-refusals {r} e = leb-true (number r) 8 (first-passes eight record-passes (check-refused offset input r .0 e))
+  pub check-refusals : {r : Refusal} → check offset input ≡ refused r → (rank r ≤ rank RULE) × (number r ≤ 8)
+  unfolding own
+  check-refusals {r} e =
+      let (f, g) = both-true (leb (rank r) (rank RULE)) (leb (number r) 8) (first-passes own record-passes (check-refused offset input r .0 e)) in
+      (leb-true (rank r) (rank RULE) f, leb-true (number r) 8 g)

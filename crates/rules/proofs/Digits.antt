@@ -1,5 +1,5 @@
 -- From digits to the number that they write, for any count of digits.
-use Prim.Native.Nat.{ℕ, suc, _+_, _-_, _*_, _^_, _≤_, _<_}
+use Prim.Native.Nat.{ℕ, zero, suc, _+_, _-_, _*_, _/_, _%_, _^_, _≤_, _<_}
 use mathlib.Core.Path.{_≡_, refl, sym, _∙_, ap, ap₂}
 use mathlib.Core.Bool.{true}
 use mathlib.Core.List.{List, [], _∷_, _++_}
@@ -7,9 +7,10 @@ use native.Mathlib.Nat.{add-mul, mul-assoc, mul-left-comm, mul-le-mul-right, pow
 use native.Mathlib.Omega.{arith}
 use native.Mathlib.Numerals.{add-one}
 use native.Mathlib.Decide.{decLe}
-use lib.ListN.{length}
-use Rattle.rules.specs.Basics.{every, isDigit, decimalFrom, decimal}
-use Rattle.rules.proofs.Tests.{isFrom-true, every-true}
+use borrow.Author.Tests.{le-leb}
+use lib.ListN.{length, length-append}
+use Rattle.rules.specs.Basics.{every, isDigit, decimalFrom, decimal, digitsOf}
+use Rattle.rules.proofs.Tests.{isFrom-true, every-true, every-append}
 
 pub decimalFrom-append : (n : ℕ) (a b : List ℕ) → decimalFrom n (a ++ b) ≡ decimalFrom (decimalFrom n a) b
 unfolding decimalFrom
@@ -73,3 +74,23 @@ decimal-injective (c ∷ a) (d ∷ b) l f g e =
     let s : c ≡ d = omega (arith, isFrom-true 48 57 c f₀, isFrom-true 48 57 d g₀) in
     let t : decimal a ≡ decimal b = omega (arith, rw r at q) in
     ap₂ _∷_ s (decimal-injective a b k f₁ g₁ t)
+
+-- the digits of a number: how many, that they are digits, and that they write it
+pub digitsOf-length : (n k : ℕ) → length (digitsOf n k) ≡ n
+unfolding digitsOf
+digitsOf-length zero k = refl
+digitsOf-length (suc n) k = omega (arith, length-append (digitsOf n (k / 10)) ((48 + k % 10) ∷ []), digitsOf-length n (k / 10))
+
+pub is-digit : (k : ℕ) → isDigit (48 + k % 10) ≡ true
+is-digit k = rw (le-leb 48 (48 + k % 10) (omega arith), le-leb (48 + k % 10) 57 (omega arith))
+
+pub digitsOf-digits : (n k : ℕ) → every isDigit (digitsOf n k) ≡ true
+unfolding digitsOf every
+digitsOf-digits zero k = refl
+digitsOf-digits (suc n) k = every-append isDigit (digitsOf n (k / 10)) ((48 + k % 10) ∷ []) (digitsOf-digits n (k / 10)) (rw (is-digit k))
+
+pub digitsOf-decimal : (n k : ℕ) → k < 10 ^ n → decimal (digitsOf n k) ≡ k
+unfolding digitsOf decimalFrom
+digitsOf-decimal zero k h = omega (arith, pow-zero 10)
+digitsOf-decimal (suc n) k h =
+    omega (arith, decimal-append (digitsOf n (k / 10)) ((48 + k % 10) ∷ []), digitsOf-decimal n (k / 10) (omega (arith, pow-succ' 10 n)))

@@ -132,6 +132,14 @@ module _ (p : Place → Bool) where
       go true e k = h c (before-irreflexive c) (r .0 ∙ sym e, sides-before c y x xs (r .0) e (r .1))
       go false e k = k e
 
+-- from low to high, with places between
+pub stretches-canonical : (e : Expression) → Canonical (stretches e)
+unfolding stretches
+stretches-canonical e =
+    let p = meant e in
+    let c = placeBefore (changes e) in
+    drawn-canonical p c (cond (p c) (some unbounded) none) (changes e) (begun-at unbounded c (p c) refl) (changes-rise e)
+
 pub stretches-are : (e : Expression) → AreStretches (meant e) (stretches e)
 unfolding stretches
 stretches-are e =
@@ -141,7 +149,7 @@ stretches-are e =
     let begun = cond (p c) (some unbounded) none in
     let begins = begun-at unbounded c (p c) refl in
     let rise = changes-rise e in
-    canonical-stretches (drawn-canonical p c begun xs begins rise)
+    canonical-stretches (stretches-canonical e)
     (λ y. drawn-said p c begun xs begins rise y
     ∙ ap (λ b. said p b y xs) (begun-reaches unbounded y (p c) ∙ and-true (p c))
     ∙ steady-said p c xs rise y (λ z k. meant-steady e z y))

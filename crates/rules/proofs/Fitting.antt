@@ -18,7 +18,7 @@ use Rattle.rules.specs.Sets.{Place, at, gapAfter, nextPlace, previousPla
 use Rattle.rules.specs.Stretches.{lowAt, highAt, changesOf, insert, sorted, changes, drawn, placeBefore, stretches}
 use Rattle.rules.specs.Listing.{boundRead, intervalOf, operationOf, setFrom, membersOf, joined, setOf, boundNumbers, listNumbers}
 use Rattle.rules.specs.ListingPromise.{fits}
-use Rattle.rules.proofs.Tests.{every-true}
+use Rattle.rules.proofs.Tests.{every-append}
 use Rattle.rules.proofs.Ticks.{ticks-in-60-bits}
 
 abbrev Fits : ℤ → Type 0
@@ -37,11 +37,6 @@ fit-append : (ss rs : List Interval) → AllFit ss → AllFit rs → AllFit (ss 
 fit-append [] rs h k = k
 fit-append (s ∷ ss) rs h k = (h .0, h .1, fit-append ss rs (h .2) k)
 
-every-append : (a b : List ℤ) → every fits a ≡ true → every fits b ≡ true → every fits (a ++ b) ≡ true
-unfolding every
-every-append [] b h k = k
-every-append (z ∷ a) b h k = let (f, g) = every-true fits z a h in rw (f, every-append a b g k)
-
 bound-fits : (b : Bound) → BoundFits b → every fits (boundNumbers b) ≡ true
 unfolding every
 bound-fits unbounded h = refl
@@ -52,8 +47,8 @@ numbers-fit : (ss : List Interval) → AllFit ss → every fits (listNumbers ss)
 unfolding every flatMap
 numbers-fit [] h = refl
 numbers-fit (s ∷ ss) h =
-    every-append (boundNumbers (s .low) ++ boundNumbers (s .high)) (listNumbers ss)
-    (every-append (boundNumbers (s .low)) (boundNumbers (s .high)) (bound-fits (s .low) (h .0)) (bound-fits (s .high) (h .1))) (numbers-fit ss (h .2))
+    every-append fits (boundNumbers (s .low) ++ boundNumbers (s .high)) (listNumbers ss)
+    (every-append fits (boundNumbers (s .low)) (boundNumbers (s .high)) (bound-fits (s .low) (h .0)) (bound-fits (s .high) (h .1))) (numbers-fit ss (h .2))
 
 -- places at or after such ticks
 abbrev PlaceFits : Place → Type 0

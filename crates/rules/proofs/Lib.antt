@@ -5,12 +5,15 @@ pub mod Depth
 pub mod Tests
 pub mod Precedence
 pub mod Parsers
+pub mod Beginnings
+pub mod Writing
 pub mod References
 pub mod Unreferenced
 pub mod Digits
 pub mod Calendar
 pub mod Ticks
 pub mod Rising
+pub mod Dates
 pub mod Utf8
 pub mod Order
 pub mod Edges
@@ -26,6 +29,10 @@ pub mod ListingCases
 pub mod Fitting
 pub mod Meaning
 pub mod ListingPromise
+pub mod Printing
+pub mod LentLists
+pub mod ProperLists
+pub mod PrintingCases
 pub mod ComparedRecords
 pub mod Comparing
 pub mod ComparisonPromise

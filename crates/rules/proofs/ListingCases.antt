@@ -11,7 +11,7 @@ use lib.Dec.{ltb}
 use lib.ListN.{length}
 use lib.IntN.{ℤ}
 use Rattle.rules.specs.Basics.{isSome, find}
-use Rattle.rules.specs.Refusal.{Refusal, OFFSET, TOO-LONG, NOT-UTF-8, MARKUP, TYPE, UNKNOWN-BOUND, TOO-MANY, NO-ROOM, number, rankIn, rank, earlier, firstOf, Outcome, answered, refused, faultsIn, _unless_, _when_, _andThen_}
+use Rattle.rules.specs.Refusal.{Refusal, OFFSET, TOO-LONG, NOT-UTF-8, MARKUP, TYPE, RULE, UNKNOWN-BOUND, TOO-MANY, NO-ROOM, rankIn, rank, earlier, firstOf, Outcome, answered, refused, faultsIn, _unless_, _when_, _andThen_}
 use Rattle.rules.specs.Markup.{Attribute, Element, document}
 use Rattle.rules.specs.Types.{IVL-TS, QSU-TS, QSI-TS, QSD-TS, memberTypes, hasType, typeAmong}
 use Rattle.rules.specs.Utf8.{isUtf8}
@@ -24,7 +24,7 @@ use Rattle.rules.specs.Listing.{operationOf, setFrom, setOf, intervalsWr
 use Rattle.rules.specs.Services.{listing}
 use Rattle.rules.specs.ListingPromise.{isClear, isListed, IsSetOfTimes}
 use Rattle.rules.proofs.Tests.{clash}
-use Rattle.rules.proofs.Precedence.{number-is, earlier-comm, first-is, when-none, check-answered, check-refused}
+use Rattle.rules.proofs.Precedence.{earlier-comm, first-is, when-none, check-answered, check-refused}
 use Rattle.rules.proofs.CheckRefusals.{check-refusals}
 use Rattle.rules.proofs.Members.{set-refused, unclear-set}
 
@@ -149,10 +149,10 @@ module _ (offset : ℤ) (room : ℕ) (input : List ℕ) where
     unfolding listing
     listing-faulty h = rw (faulty, h)
 
-    -- and by none of 9 to 11
-    pub faulty-early : {q : Refusal} → firstOf (r ∷ faultsIn unlisted (elementOf input)) ≡ some q → number q ≤ 8
+    -- and by none that stands after RULE
+    pub faulty-early : {q : Refusal} → firstOf (r ∷ faultsIn unlisted (elementOf input)) ≡ some q → rank q ≤ rank RULE
     faulty-early {q} h =
-        omega (arith, check-refusals offset input faulty, number-is q, number-is r, first-is (r ∷ faultsIn unlisted (elementOf input)) q .0 h .1 r (List·Memᴰ·head refl))
+        omega (arith, check-refusals offset input faulty, first-is (r ∷ faultsIn unlisted (elementOf input)) q .0 h .1 r (List·Memᴰ·head refl))
 
     -- by its own fault where there is no element, where the element has one of the types, or where the fault stands before TYPE
     pub listing-faulty-markup : document input ≡ none → listing offset room input ≡ refused r

@@ -10,7 +10,7 @@ use lib.ListN.{length, take, drop, length-append, length-drop}
 use lib.Seq.{take-at, drop-at}
 use lib.IntN.{ℤ, pos, negsuc}
 use Rattle.rules.specs.Basics.{every}
-use Rattle.rules.specs.Refusal.{Refusal, OFFSET, TOO-LONG, NOT-UTF-8, MARKUP, TYPE, SHAPE, VALUE, RULE, UNKNOWN-BOUND, TOO-MANY, NO-ROOM, number, rank, firstOf, answered, refused, faultsIn}
+use Rattle.rules.specs.Refusal.{Refusal, OFFSET, TOO-LONG, NOT-UTF-8, MARKUP, TYPE, SHAPE, VALUE, RULE, UNKNOWN-BOUND, TOO-MANY, NOT-WRITABLE, NO-ROOM, number, rankIn, rank, firstOf, answered, refused, faultsIn}
 use Rattle.rules.specs.Markup.{Element}
 use Rattle.rules.specs.Check.{shiftBy, elementOf, check}
 use Rattle.rules.specs.Sets.{Bound, unbounded, openAt, closedAt, Interval, Expression}
@@ -19,7 +19,7 @@ use Rattle.rules.specs.Listing.{setOf, intervalsWritten, unlisted, bound
 use Rattle.rules.specs.Services.{listing, lowBytes, eightBytes, overwrite, roomOf, listAnswer, listAfter}
 use Rattle.rules.specs.ListingPromise.{isClear, isListed, IsSetOfTimes, fits, Refuses, Lists, PromiseOfSet, ListingPromise}
 use Rattle.rules.proofs.Tests.{clash}
-use Rattle.rules.proofs.Precedence.{number-is, number-injective}
+use Rattle.rules.proofs.Precedence.{number-injective}
 use Rattle.rules.proofs.Ticks.{shiftBy-most}
 use Rattle.rules.proofs.Fitting.{list-fits}
 use Rattle.rules.proofs.Meaning.{set-meaning}
@@ -30,7 +30,7 @@ use Rattle.rules.proofs.Members.{set-intervals, clear-set}
 use Rattle.rules.proofs.ListingCases.{check-faultless, check-offset, listing-unlisted, listing-unclear, listing-too-many, listing-no-room, listing-answered, listing-faulty, faulty-early, faulty, other-type, unclear, many, a-set, case}
 
 -- refusals are told from one another, and from an answer, by the lowest eight bits
-pub small : (r : Refusal) → (1 ≤ number r) × (number r ≤ 11)
+pub small : (r : Refusal) → (1 ≤ number r) × (number r ≤ 255)
 small OFFSET = omega arith
 small TOO-LONG = omega arith
 small NOT-UTF-8 = omega arith
@@ -41,6 +41,7 @@ small VALUE = omega arith
 small RULE = omega arith
 small UNKNOWN-BOUND = omega arith
 small TOO-MANY = omega arith
+small NOT-WRITABLE = omega arith
 small NO-ROOM = omega arith
 
 pub low-bits : (r : Refusal) → (number r % 2 ^ 8 ≡ number r) × (number r / 2 ^ 8 ≡ 0)
@@ -49,12 +50,12 @@ low-bits r = omega (arith, small r)
 pub count-bits : (n : ℕ) → (n * 2 ^ 8 % 2 ^ 8 ≡ 0) × (n * 2 ^ 8 / 2 ^ 8 ≡ n)
 count-bits n = omega arith
 
-eight-length : (z : ℤ) → length (eightBytes z) ≡ 8
+pub eight-length : (z : ℤ) → length (eightBytes z) ≡ 8
 unfolding lowBytes
 eight-length (pos n) = refl
 eight-length (negsuc n) = refl
 
-bytes-length : (zs : List ℤ) → length (flatMap eightBytes zs) ≡ 8 * length zs
+pub bytes-length : (zs : List ℤ) → length (flatMap eightBytes zs) ≡ 8 * length zs
 unfolding flatMap
 bytes-length [] = refl
 bytes-length (z ∷ zs) = rw length-append (omega (arith, eight-length z, bytes-length zs))
@@ -64,26 +65,23 @@ bound-length unbounded = refl
 bound-length (openAt t) = refl
 bound-length (closedAt t) = refl
 
-numbers-length : (ss : List Interval) → length (listNumbers ss) ≡ 4 * length ss
+pub numbers-length : (ss : List Interval) → length (listNumbers ss) ≡ 4 * length ss
 unfolding flatMap
 numbers-length [] = refl
 numbers-length (s ∷ ss) = simp length-append (omega (arith, bound-length (s .low), bound-length (s .high), numbers-length ss))
 
-list-length : (ss : List Interval) → length (flatMap eightBytes (listNumbers ss)) ≡ 32 * length ss
+pub list-length : (ss : List Interval) → length (flatMap eightBytes (listNumbers ss)) ≡ 32 * length ss
 list-length ss = omega (arith, bytes-length (listNumbers ss), numbers-length ss)
 
 module _ (old new : List ℕ) (n : ℕ) (long : length new ≡ n) (room : n ≤ length old) where
-  overwrite-begins : take n (overwrite old new) ≡ new
+  pub overwrite-begins : take n (overwrite old new) ≡ new
   overwrite-begins = take-at new (drop (length new) old) n long
 
-  overwrite-rest : drop n (overwrite old new) ≡ drop n old
+  pub overwrite-rest : drop n (overwrite old new) ≡ drop n old
   overwrite-rest = drop-at new (drop (length new) old) n long ∙ rw long refl
 
-  overwrite-length : length (overwrite old new) ≡ length old
+  pub overwrite-length : length (overwrite old new) ≡ length old
   overwrite-length = simp (length-append, length-drop) (omega arith)
-
-ranked : (r q : Refusal) → number r < number q → rank r < rank q
-ranked r q h = omega (arith, number-is r, number-is q)
 
 module _ (offset : ℤ) (record′ list : List ℕ) where
   abbrev answer : ℕ
@@ -166,19 +164,20 @@ module _ (offset : ℤ) (record′ list : List ℕ) where
       let (s, known) = clear-set (shiftBy offset) e (check-faultless offset record′ c) l u in
       refuses TOO-MANY (listing-too-many offset (roomOf list) record′ e c l s known m)
 
-  -- a refusal later than 8 is none of the record's own
+  -- a refusal after RULE is none of the record's own
   not-faulty : (r : Refusal) {q p : Refusal} → check offset record′ ≡ refused r → firstOf (r ∷ faultsIn unlisted (elementOf record′)) ≡ some q
-      → 8 < number p → Refuses offset record′ answer list after p → ⊥
-  not-faulty r {q} {p} c f l a = omega (arith, faulty-early offset (roomOf list) record′ r c f, ap number (one-refusal (gives-faulty r q c f) a))
+      → rank RULE < rank p → Refuses offset record′ answer list after p → ⊥
+  not-faulty r {q} {p} c f l a = omega (arith, faulty-early offset (roomOf list) record′ r c f, ap rank (one-refusal (gives-faulty r q c f) a))
 
   pub listing-promise : ListingPromise offset record′ (listAnswer offset record′ list) list (listAfter offset record′ list)
+  unfolding rankIn
   listing-promise = record {
     sets = promise-of-set;
     others = λ h. elim (case offset record′) [
-      | faulty r q c f ↦ (q, gives-faulty r q c f, ranked q NO-ROOM (omega (arith, faulty-early offset (roomOf list) record′ r c f)))
-      | other-type e c l ↦ (TYPE, gives-type e c l, ranked TYPE NO-ROOM (omega arith))
-      | unclear e c l u ↦ (UNKNOWN-BOUND, gives-unknown e c l u, ranked UNKNOWN-BOUND NO-ROOM (omega arith))
-      | many e c l u m ↦ (TOO-MANY, gives-many e c l u m, ranked TOO-MANY NO-ROOM (omega arith))
+      | faulty r q c f ↦ (q, gives-faulty r q c f, omega (arith, faulty-early offset (roomOf list) record′ r c f))
+      | other-type e c l ↦ (TYPE, gives-type e c l, omega arith)
+      | unclear e c l u ↦ (UNKNOWN-BOUND, gives-unknown e c l u, omega arith)
+      | many e c l u m ↦ (TOO-MANY, gives-many e c l u m, omega arith)
       | a-set e s ↦ absurd (h e s)
     ];
     faulty = gives-faulty;

@@ -1,5 +1,5 @@
 -- The refusal ladder: of all faults the one that stands first is given, whatever the order in which they are found.
-use Prim.Native.Nat.{ℕ, suc, _≤_}
+use Prim.Native.Nat.{ℕ, _-_, _≤_}
 use mathlib.Core.Path.{_≡_, refl, sym, _∙_, ap}
 use mathlib.Core.Logic.{_↔_}
 use mathlib.Core.Bool.{Bool, true, false, cond}
@@ -11,13 +11,18 @@ use lib.Dec.{leb}
 use lib.ListN.{getD}
 use lib.IntN.{ℤ}
 use Rattle.rules.specs.Basics.{ifSome}
-use Rattle.rules.specs.Refusal.{Refusal, OFFSET, TOO-LONG, NOT-UTF-8, MARKUP, TYPE, SHAPE, VALUE, RULE, UNKNOWN-BOUND, TOO-MANY, NO-ROOM, number, precedence, rankIn, rank, earlier, firstOf, Outcome, answered, refused, faultsIn, faultsOf, _unless_, _when_}
+use Rattle.rules.specs.Refusal.{Refusal, OFFSET, TOO-LONG, NOT-UTF-8, MARKUP, TYPE, SHAPE, VALUE, RULE, UNKNOWN-BOUND, TOO-MANY, NOT-WRITABLE, NO-ROOM, number, precedence, rankIn, rank, earlier, firstOf, Outcome, answered, refused, faultsIn, faultsOf, _unless_, _when_}
 use Rattle.rules.specs.Markup.{Element, document}
 use Rattle.rules.specs.Check.{elementOf, recordFaults, check}
 use Rattle.rules.proofs.Tests.{clash}
 
--- the ladder holds each refusal at its rank, and the numbers follow the ladder
-on-ladder : (r : Refusal) → (getD precedence (rank r) OFFSET ≡ r) × (number r ≡ suc (rank r))
+-- the refusals in the order of their numbers
+abbrev numbered : List Refusal
+numbered =
+    OFFSET ∷ TOO-LONG ∷ NOT-UTF-8 ∷ MARKUP ∷ TYPE ∷ SHAPE ∷ VALUE ∷ RULE ∷ UNKNOWN-BOUND ∷ TOO-MANY ∷ NO-ROOM ∷ NOT-WRITABLE ∷ []
+
+-- the ladder holds each refusal at its rank, and so do the numbers
+on-ladder : (r : Refusal) → (getD precedence (rank r) OFFSET ≡ r) × (getD numbered (number r - 1) OFFSET ≡ r)
 unfolding rankIn
 on-ladder OFFSET = (refl, refl)
 on-ladder TOO-LONG = (refl, refl)
@@ -29,16 +34,14 @@ on-ladder VALUE = (refl, refl)
 on-ladder RULE = (refl, refl)
 on-ladder UNKNOWN-BOUND = (refl, refl)
 on-ladder TOO-MANY = (refl, refl)
+on-ladder NOT-WRITABLE = (refl, refl)
 on-ladder NO-ROOM = (refl, refl)
 
 pub rank-injective : (a b : Refusal) → rank a ≡ rank b → a ≡ b
 rank-injective a b e = sym (on-ladder a .0) ∙ ap (λ n. getD precedence n OFFSET) e ∙ on-ladder b .0
 
-pub number-is : (r : Refusal) → number r ≡ suc (rank r)
-number-is r = on-ladder r .1
-
 pub number-injective : (a b : Refusal) → number a ≡ number b → a ≡ b
-number-injective a b e = rank-injective a b (omega (arith, number-is a, number-is b))
+number-injective a b e = sym (on-ladder a .1) ∙ ap (λ n. getD numbered (n - 1) OFFSET) e ∙ on-ladder b .1
 
 -- of two, the one of the smaller rank
 lower : Refusal → Refusal → Refusal

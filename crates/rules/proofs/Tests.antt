@@ -1,8 +1,8 @@
 -- What tests that came out true say; and what follows from a contradiction.
 use Prim.Native.Nat.{ℕ, _≤_}
 use mathlib.Core.Path.{_≡_, refl, sym}
-use mathlib.Core.Bool.{Bool, true, false, _&&_, cond, and-eq-true-iff}
-use mathlib.Core.List.{List, [], _∷_}
+use mathlib.Core.Bool.{Bool, true, false, _&&_, _||_, cond, and-eq-true-iff}
+use mathlib.Core.List.{List, [], _∷_, _++_}
 use mathlib.Core.Option.{some}
 use native.Mathlib.Omega.{arith}
 use borrow.Author.Tests.{leb-true, eqb-true, eqb-false, eq-eqb, ne-eqb}
@@ -16,12 +16,26 @@ clash z = absurd (omega arith)
 pub both-true : (a b : Bool) → (a && b) ≡ true → (a ≡ true) × (b ≡ true)
 both-true a b = and-eq-true-iff a b .0
 
+pub neither : (a b : Bool) → (a || b) ≡ false → (a ≡ false) × (b ≡ false)
+neither true b e = clash (cc)
+neither false b e = (refl, e)
+
 pub isFrom-true : (low high c : ℕ) → isFrom low high c ≡ true → (low ≤ c) × (c ≤ high)
 isFrom-true low high c e = let (f, g) = both-true _ _ e in (leb-true low c f, leb-true c high g)
 
 pub every-true : {A : Type 0} (p : A → Bool) (a : A) (l : List A) → every p (a ∷ l) ≡ true → (p a ≡ true) × (every p l ≡ true)
 unfolding every
 every-true p a l = both-true (p a) (every p l)
+
+pub every-append : {A : Type 0} (p : A → Bool) (a b : List A) → every p a ≡ true → every p b ≡ true → every p (a ++ b) ≡ true
+unfolding every
+every-append p [] b h k = k
+every-append p (c ∷ a) b h k = let (f, g) = every-true p c a h in rw (f, every-append p a b g k)
+
+pub every-map : {A : Type 0} (p q : A → Bool) → ((a : A) → p a ≡ true → q a ≡ true) → (l : List A) → every p l ≡ true → every q l ≡ true
+unfolding every
+every-map p q f [] h = refl
+every-map p q f (a ∷ l) h = let (g, i) = every-true p a l h in rw (f a g, every-map p q f l i)
 
 -- one that is found passes the test, and any that all of the list pass
 pub found : {A : Type 0} (p q : A → Bool) (l : List A) (a : A) → every q l ≡ true → find p l ≡ some a → (p a ≡ true) × (q a ≡ true)

@@ -1,9 +1,9 @@
 -- Words that the other files use: optional values, tests over lists, texts, and the number that digits write.
-use Prim.Native.Nat.{ℕ, _+_, _-_, _*_}
+use Prim.Native.Nat.{ℕ, zero, suc, _+_, _-_, _*_, _/_, _%_}
 use Prim.Native.Char.{code}
 use Prim.Native.String.{String, [] as noText, _∷_ as _andText_}
 use mathlib.Core.Bool.{Bool, true, false, not, _&&_, _||_, cond}
-use mathlib.Core.List.{List, [], _∷_}
+use mathlib.Core.List.{List, [], _∷_, _++_}
 use mathlib.Core.Option.{Option, none, some}
 use lib.Dec.{leb, eqb}
 
@@ -92,3 +92,8 @@ decimalFrom n (d ∷ ds) = decimalFrom (10 * n + (d - 48)) ds
 
 abbrev pub decimal : List ℕ → ℕ
 decimal = decimalFrom 0
+
+-- the other way: n digits of a number, the lowest last
+unfoldable pub digitsOf : (n : ℕ) → ℕ → List ℕ
+digitsOf zero k = []
+digitsOf (suc n) k = digitsOf n (k / 10) ++ (48 + k % 10) ∷ []

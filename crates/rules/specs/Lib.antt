@@ -2,7 +2,9 @@ pub mod Basics
 pub mod Refusal
 pub mod Parsers
 pub mod Markup
+pub mod Writing
 pub mod Calendar
+pub mod Dates
 pub mod Timestamp
 pub mod Forms
 pub mod Invariants
@@ -11,9 +13,11 @@ pub mod Judge
 pub mod Utf8
 pub mod Check
 pub mod Sets
+pub mod LentLists
 pub mod Stretches
 pub mod Listing
 pub mod Comparison
 pub mod Services
+pub mod Printing
 pub mod ListingPromise
 pub mod ComparisonPromise

@@ -7,7 +7,7 @@ use lib.Dec.{leb, eqb}
 use Rattle.rules.specs.Basics.{ifSome}
 
 pub data Refusal : Type 0 where
-  OFFSET TOO-LONG NOT-UTF-8 MARKUP TYPE SHAPE VALUE RULE UNKNOWN-BOUND TOO-MANY NO-ROOM : Refusal
+  OFFSET TOO-LONG NOT-UTF-8 MARKUP TYPE SHAPE VALUE RULE UNKNOWN-BOUND TOO-MANY NOT-WRITABLE NO-ROOM : Refusal
 
 abbrev pub number : Refusal → ℕ
 number OFFSET = 1
@@ -20,12 +20,13 @@ number VALUE = 7
 number RULE = 8
 number UNKNOWN-BOUND = 9
 number TOO-MANY = 10
+number NOT-WRITABLE = 12
 number NO-ROOM = 11
 
 -- the ladder: the order in which refusals are given
 abbrev pub precedence : List Refusal
 precedence =
-    OFFSET ∷ TOO-LONG ∷ NOT-UTF-8 ∷ MARKUP ∷ TYPE ∷ SHAPE ∷ VALUE ∷ RULE ∷ UNKNOWN-BOUND ∷ TOO-MANY ∷ NO-ROOM ∷ []
+    OFFSET ∷ TOO-LONG ∷ NOT-UTF-8 ∷ MARKUP ∷ TYPE ∷ SHAPE ∷ VALUE ∷ RULE ∷ UNKNOWN-BOUND ∷ TOO-MANY ∷ NOT-WRITABLE ∷ NO-ROOM ∷ []
 
 abbrev pub isSame : Refusal → Refusal → Bool
 isSame a b = eqb (number a) (number b)
