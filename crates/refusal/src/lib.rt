@@ -4,7 +4,7 @@ ghost use Rattle.rules.specs.Basics.{ifSome};
 ghost use Rattle.rules.specs.Refusal.{number as pageNumber, rank as pageRank, earlier};
 ghost use Rattle.refusal.specs.Meaning.{refusalOf, faultOf};
 
-// The page's refusals, in the order of its table.
+// The page's refusals, in the order of the ladder.
 pub enum Refusal {
     Offset,
     TooLong,
@@ -16,6 +16,7 @@ pub enum Refusal {
     Rule,
     UnknownBound,
     TooMany,
+    NotWritable,
     NoRoom,
 }
 
@@ -40,6 +41,7 @@ pub fn number(r: Refusal) -> u64
         Refusal::Rule => 8,
         Refusal::UnknownBound => 9,
         Refusal::TooMany => 10,
+        Refusal::NotWritable => 12,
         Refusal::NoRoom => 11,
     }
 }
@@ -59,7 +61,8 @@ fn rank(r: Refusal) -> u64
         Refusal::Rule => 7,
         Refusal::UnknownBound => 8,
         Refusal::TooMany => 9,
-        Refusal::NoRoom => 10,
+        Refusal::NotWritable => 10,
+        Refusal::NoRoom => 11,
     }
 }
 
