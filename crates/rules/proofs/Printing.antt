@@ -1,6 +1,6 @@
 -- The record printed of stretches: it is read back as the tree that was written, passes the check under every offset agreed, and writes
 -- the union of the stretches.
-use Prim.Native.Nat.{ℕ, _+_, _*_, _≤_}
+use Prim.Native.Nat.{ℕ, _+_, _≤_}
 use mathlib.Core.Path.{_≡_, refl, sym, _∙_, ap}
 use mathlib.Core.Bool.{Bool, true, false, not, _&&_, _||_, and-false, or-false, or-assoc}
 use mathlib.Core.List.{List, [], _∷_, _++_, flatMap}
@@ -12,7 +12,6 @@ use lib.IntN.{ℤ, pos, negsuc}
 use Rattle.rules.specs.Basics.{find, exists, every, same, begins, split, oneOf, bytes, isDigit, digitsOf}
 use Rattle.rules.specs.Refusal.{SHAPE, Outcome, answered, _when_, both}
 use Rattle.rules.specs.Markup.{Attribute, lookup, isDistinct, Nodes, end, node, document}
-use Rattle.rules.specs.Writing.{attributeText, elementText, nodesText}
 use Rattle.rules.specs.Timestamp.{Moment, beforeStart, tickOf, readTimestamp}
 use Rattle.rules.specs.Forms.{isFlavor, isFlag, formFaults}
 use Rattle.rules.specs.Invariants.{isNull, breaksInterval, childNamed, Side, low, high, endpointOf}
@@ -26,11 +25,12 @@ use Rattle.rules.specs.Services.{listing}
 use Rattle.rules.specs.ListingPromise.{isListed}
 use Rattle.rules.specs.Listing.{setFrom, membersOf, joined, setOf}
 use Rattle.rules.specs.Dates.{yearsEnd, dateText, clockText, timestampText}
-use Rattle.rules.specs.Printing.{saidOf, boundNode, termAttributes, boundNodes, typed, termNodes, written, stayOf, recordText, isWritableBound, isWritableStretch}
+use Rattle.rules.specs.Printing.{saidOf, termAttributes, boundNodes, termNodes, written, stayOf, recordText, isWritableBound, isWritableStretch}
 use Rattle.rules.proofs.Tests.{clash, both-true, isFrom-true, every-true, every-append, every-map}
 use Rattle.rules.proofs.Depth.{openIn}
-use Rattle.rules.proofs.Writing.{isName, isBare, isBareTag, areBare, isBareTree, document-of-write, write-utf8, element-length, body-length}
-use Rattle.rules.proofs.Digits.{digitsOf-length, digitsOf-digits}
+use Rattle.rules.proofs.Writing.{isName, isBare, isBareTag, areBare, isBareTree, document-of-write, write-utf8}
+use Rattle.rules.proofs.Digits.{digitsOf-digits}
+use Rattle.rules.proofs.Pieces.{written-length, record-short}
 use Rattle.rules.proofs.Dates.{years-end, timestamp-of-tick}
 use Rattle.rules.proofs.Children.{faultsAs}
 use Rattle.rules.proofs.Precedence.{check-answered}
@@ -281,97 +281,6 @@ module _ (shift : ℕ) where
   unfolding setFrom lookup same find
   top-set s ss h = members-terms s ss h
 
--- The length of a record: 147 bytes a term at most.
-
-date-length : (days : ℕ) → length (dateText days) ≡ 8
-unfolding dateText
-date-length days = simp (length-append, digitsOf-length)
-
-clock-length : (t : ℕ) → length (clockText t) ≡ 11
-unfolding clockText
-clock-length t = simp (length-append, digitsOf-length)
-
-timestamp-length : (t : ℤ) → length (timestampText t) ≤ 24
-timestamp-length (pos t) = simp (length-append, date-length, clock-length) (omega arith)
-timestamp-length (negsuc t) = omega arith
-
--- `value="` and a timestamp, or `nullFlavor="NINF`
-said-length : (side : Side) → length (side .infinity) ≡ 4 → (b : Bound) → length (flatMap attributeText (saidOf side b ∷ [])) ≤ 33
-unfolding flatMap
-said-length side h unbounded = simp length-append (omega (arith, h))
-said-length side h (openAt t) = simp length-append (omega (arith, timestamp-length t))
-said-length side h (closedAt t) = simp length-append (omega (arith, timestamp-length t))
-
-flags-length : (l h : Bound) → length (flatMap attributeText (termAttributes (l upto h))) ≤ 55
-unfolding flatMap
-flags-length unbounded unbounded = omega arith
-flags-length unbounded (openAt t) = omega arith
-flags-length unbounded (closedAt t) = omega arith
-flags-length (openAt s) unbounded = omega arith
-flags-length (openAt s) (openAt t) = omega arith
-flags-length (openAt s) (closedAt t) = omega arith
-flags-length (closedAt s) unbounded = omega arith
-flags-length (closedAt s) (openAt t) = omega arith
-flags-length (closedAt s) (closedAt t) = omega arith
-
-bounds-length : (s : Interval) → length (nodesText (boundNodes s)) ≤ 79
-unfolding nodesText
-bounds-length s =
-    let a = saidOf low (s .low) ∷ [] in
-    let b = saidOf high (s .high) ∷ [] in
-    let first = elementText (low .child) a end [] in
-    let second = elementText (high .child) b end [] in
-    omega (
-      arith,
-      length-append first (second ++ []),
-      length-append second [],
-      element-length (low .child) a end [],
-      element-length (high .child) b end [],
-      said-length low refl (s .low),
-      said-length high refl (s .high),
-    )
-
-term-length : (s : Interval) → length (elementText (bytes "term") (termAttributes s) (boundNodes s) (nodesText (boundNodes s))) ≤ 147
-term-length s =
-    let inner = nodesText (boundNodes s) in
-    omega (
-      arith,
-      element-length (bytes "term") (termAttributes s) (boundNodes s) inner,
-      body-length (bytes "term") (low .child) (saidOf low (s .low) ∷ []) end (boundNode high (s .high) end) inner,
-      flags-length (s .low) (s .high),
-      bounds-length s,
-    )
-
-terms-length : (ss : List Interval) → length (nodesText (termNodes ss)) ≤ 147 * length ss
-unfolding nodesText termNodes
-terms-length [] = omega arith
-terms-length (s ∷ ss) =
-    let first = elementText (bytes "term") (termAttributes s) (boundNodes s) (nodesText (boundNodes s)) in
-    omega (arith, length-append first (nodesText (termNodes ss)), term-length s, terms-length ss)
-
--- and 31 bytes around the terms
-pub record-length : (ss : List Interval) → length (recordText ss) ≤ 31 + 147 * length (written ss)
-unfolding recordText termNodes nodesText flatMap
-record-length ss = go (written ss) (terms-length (written ss))
-  where
-    go : (rs : List Interval) → length (nodesText (termNodes rs)) ≤ 147 * length rs
-        → length (elementText (bytes "stay") (typed QSU-TS ∷ []) (termNodes rs) (nodesText (termNodes rs))) ≤ 31 + 147 * length rs
-    go [] h = omega arith
-    go (s ∷ rs) h =
-        omega (
-          arith,
-          element-length (bytes "stay") (typed QSU-TS ∷ []) (termNodes (s ∷ rs)) (nodesText (termNodes (s ∷ rs))),
-          body-length (bytes "stay") (bytes "term") (termAttributes s) (boundNodes s) (termNodes rs) (nodesText (termNodes (s ∷ rs))),
-        )
-
-written-length : (ss : List Interval) → length ss ≤ 32 → (1 ≤ length (written ss)) × (length (written ss) ≤ 32)
-written-length [] h = omega arith
-written-length (s ∷ ss) h = omega arith
-
--- a record of at most 32 stretches is never longer than 4,735 bytes
-pub record-short : (ss : List Interval) → length ss ≤ 32 → length (recordText ss) ≤ 4_735
-record-short ss h = omega (arith, record-length ss, written-length ss h)
-
 -- A canonical list of at most 32 stretches that can be written: its record is accepted, and listing it gives the list.
 
 pub record IsPrintable (ss : List Interval) : Type 0 where
@@ -467,7 +376,7 @@ module _ (ss : List Interval) (h : IsPrintable ss) where
   unfolding recordFaults
   record-accepted offset o =
       check-answered offset (recordText ss) (stayOf ss) .1
-      (record-read ss, rw (o, le-ltb 16_384 (length (recordText ss)) (omega (arith, record-short ss (h .few))), record-utf8 ss, record-read ss) (record-faultless (shiftBy offset)))
+      (record-read ss, rw (o, le-ltb 16_384 (length (recordText ss)) (omega (arith, record-short ss (h .few) (h .writable))), record-utf8 ss, record-read ss) (record-faultless (shiftBy offset)))
 
   -- its stretches are the list
   pub union-stretches : stretches (unionOf ss) ≡ ss

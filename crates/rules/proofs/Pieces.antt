@@ -1,0 +1,170 @@
+-- The record of stretches piece by piece, as it is written: what stands around the terms, and of a term its flags and its bounds.
+use Prim.Native.Nat.{ℕ, _+_, _*_, _≤_}
+use mathlib.Core.Path.{_≡_, refl, _∙_, ap, ap₂}
+use mathlib.Core.Bool.{true}
+use mathlib.Core.List.{List, [], _∷_, _++_, flatMap, append-assoc, append-nil}
+use native.Mathlib.Omega.{arith}
+use borrow.Author.Tests.{lt-ltb}
+use lib.Dec.{ltb}
+use lib.ListN.{length, length-append}
+use lib.IntN.{pos, negsuc}
+use Rattle.rules.specs.Basics.{every, bytes}
+use Rattle.rules.specs.Markup.{Attribute, end}
+use Rattle.rules.specs.Writing.{attributeText, elementText, nodesText}
+use Rattle.rules.specs.Invariants.{Side, low, high}
+use Rattle.rules.specs.Sets.{Bound, unbounded, openAt, closedAt, Interval}
+use Rattle.rules.specs.Dates.{yearsEnd, dateText, clockText, timestampText}
+use Rattle.rules.specs.Printing.{_is_, flagOf, saidOf, termAttributes, boundNodes, termNodes, written, recordText, isWritableBound, isWritableStretch}
+use Rattle.rules.proofs.Tests.{clash, both-true, every-true}
+use Rattle.rules.proofs.Digits.{digitsOf-length}
+use Rattle.rules.proofs.Dates.{years-end}
+
+-- ` lowClosed="true"`, or nothing at an unbounded end
+abbrev pub flagText : Side → Bound → List ℕ
+flagText side b = flatMap attributeText (flagOf side b)
+
+-- `<low value=".."/>`
+abbrev pub boundText : Side → Bound → List ℕ
+boundText side b = elementText (side .child) (saidOf side b ∷ []) end []
+
+abbrev pub termText : Interval → List ℕ
+termText s =
+    bytes "<term xsi:type=\"IVL_TS\"" ++ (flagText low (s .low) ++ (flagText high (s .high) ++ (bytes ">" ++ (boundText low (s .low) ++ (boundText high (s .high) ++ bytes "</term>")))))
+
+-- `<low value="`, a timestamp and `"/>`, whether the bound is open or closed
+abbrev pub valueText : (name value : List ℕ) → List ℕ
+valueText n v = (60 ∷ n ++ bytes " value=\"") ++ (v ++ bytes "\"/>")
+
+pub bound-valued : (n v : List ℕ) → elementText n ((bytes "value" is v) ∷ []) end [] ≡ valueText n v
+unfolding flatMap
+bound-valued n v = go (60 ∷ n) (bytes " value=\"") v (bytes "\"") (bytes "/>")
+  where
+    go : (m p v q r : List ℕ) → m ++ (p ++ v ++ q ++ []) ++ r ≡ (m ++ p) ++ (v ++ (q ++ r))
+    go m p v q r = simp (append-assoc, append-nil)
+
+bounds-text : (s : Interval) → nodesText (boundNodes s) ≡ boundText low (s .low) ++ boundText high (s .high)
+unfolding nodesText
+bounds-text s = rw append-nil
+
+low-flag : (b : Bound) (more : List Attribute) → flatMap attributeText (flagOf low b ++ more) ≡ flagText low b ++ flatMap attributeText more
+unfolding flatMap
+low-flag unbounded more = refl
+low-flag (openAt t) more = refl
+low-flag (closedAt t) more = refl
+
+flags-text : (s : Interval) → flatMap attributeText (termAttributes s) ≡ bytes " xsi:type=\"IVL_TS\"" ++ (flagText low (s .low) ++ flagText high (s .high))
+unfolding flatMap
+flags-text s = ap (bytes " xsi:type=\"IVL_TS\"" ++_) (low-flag (s .low) (flagOf high (s .high)))
+
+assembled : (a b c d : List ℕ) → 60 ∷ bytes "term" ++ (bytes " xsi:type=\"IVL_TS\"" ++ (a ++ b)) ++ (62 ∷ (c ++ d) ++ bytes "</" ++ bytes "term" ++ 62 ∷ [])
+    ≡ bytes "<term xsi:type=\"IVL_TS\"" ++ (a ++ (b ++ (bytes ">" ++ (c ++ (d ++ bytes "</term>")))))
+assembled a b c d = simp append-assoc
+
+term-text : (s : Interval) → elementText (bytes "term") (termAttributes s) (boundNodes s) (nodesText (boundNodes s)) ≡ termText s
+term-text s = rw (bounds-text s, flags-text s) (assembled (flagText low (s .low)) (flagText high (s .high)) (boundText low (s .low)) (boundText high (s .high)))
+
+terms-text : (ss : List Interval) → nodesText (termNodes ss) ≡ flatMap termText ss
+unfolding nodesText termNodes flatMap
+terms-text [] = refl
+terms-text (s ∷ ss) = ap₂ _++_ (term-text s) (terms-text ss)
+
+around : (inner : List ℕ) → 60 ∷ bytes "stay" ++ bytes " xsi:type=\"QSU_TS\"" ++ (62 ∷ inner ++ bytes "</" ++ bytes "stay" ++ 62 ∷ [])
+    ≡ bytes "<stay xsi:type=\"QSU_TS\">" ++ (inner ++ bytes "</stay>")
+around inner = simp append-assoc
+
+pub record-text : (ss : List Interval) → recordText ss ≡ bytes "<stay xsi:type=\"QSU_TS\">" ++ (flatMap termText (written ss) ++ bytes "</stay>")
+unfolding recordText termNodes flatMap
+record-text [] = around (nodesText (termNodes (written []))) ∙ ap (λ inner. bytes "<stay xsi:type=\"QSU_TS\">" ++ (inner ++ bytes "</stay>")) (terms-text (written []))
+record-text (s ∷ ss) = around (nodesText (termNodes (s ∷ ss))) ∙ ap (λ inner. bytes "<stay xsi:type=\"QSU_TS\">" ++ (inner ++ bytes "</stay>")) (terms-text (s ∷ ss))
+
+-- Its length: 31 bytes around the terms and 31 of each term, and the bytes of each bound with its flag.
+
+pub date-length : (days : ℕ) → length (dateText days) ≡ 8
+unfolding dateText
+date-length days = simp (length-append, digitsOf-length)
+
+pub clock-length : (t : ℕ) → length (clockText t) ≡ 11
+unfolding clockText
+clock-length t = simp (length-append, digitsOf-length)
+
+pub timestamp-length : (t : ℕ) → length (timestampText (pos t)) ≡ 24
+timestamp-length t = simp (length-append, date-length, clock-length)
+
+abbrev pub lowSize : Bound → ℕ
+lowSize unbounded = 24
+lowSize (openAt t) = 57
+lowSize (closedAt t) = 56
+
+abbrev pub highSize : Bound → ℕ
+highSize unbounded = 25
+highSize (openAt t) = 59
+highSize (closedAt t) = 58
+
+value-length : (n v : List ℕ) → length (valueText n v) ≡ 12 + length n + length v
+value-length n v = simp length-append (omega arith)
+
+valued-length : (side : Side) (t : ℕ) → length (elementText (side .child) ((bytes "value" is timestampText (pos t)) ∷ []) end []) ≡ 36 + length (side .child)
+valued-length side t = omega (arith, ap length (bound-valued (side .child) (timestampText (pos t))), value-length (side .child) (timestampText (pos t)), timestamp-length t)
+
+pub low-length : (b : Bound) → isWritableBound b ≡ true → length (flagText low b) + length (boundText low b) ≡ lowSize b
+unfolding flatMap
+low-length unbounded h = refl
+low-length (openAt (pos t)) h = omega (arith, valued-length low t)
+low-length (openAt (negsuc t)) h = clash (cc)
+low-length (closedAt (pos t)) h = omega (arith, valued-length low t)
+low-length (closedAt (negsuc t)) h = clash (cc)
+
+pub high-length : (b : Bound) → isWritableBound b ≡ true → length (flagText high b) + length (boundText high b) ≡ highSize b
+unfolding flatMap
+high-length unbounded h = refl
+high-length (openAt (pos t)) h = omega (arith, valued-length high t)
+high-length (openAt (negsuc t)) h = clash (cc)
+high-length (closedAt (pos t)) h = omega (arith, valued-length high t)
+high-length (closedAt (negsuc t)) h = clash (cc)
+
+pub term-length : (s : Interval) → isWritableStretch s ≡ true → length (termText s) ≡ 31 + lowSize (s .low) + highSize (s .high)
+term-length s h =
+    let (a, b) = both-true (isWritableBound (s .low)) (isWritableBound (s .high)) h in
+    omega (arith, sum (flagText low (s .low)) (flagText high (s .high)) (boundText low (s .low)) (boundText high (s .high)), low-length (s .low) a, high-length (s .high) b)
+  where
+    sum : (a b c d : List ℕ) → length (bytes "<term xsi:type=\"IVL_TS\"" ++ (a ++ (b ++ (bytes ">" ++ (c ++ (d ++ bytes "</term>"))))))
+        ≡ 31 + (length a + length c) + (length b + length d)
+    sum a b c d = simp length-append (omega arith)
+
+size-most : (l h : Bound) → (lowSize l ≤ 57) × (highSize h ≤ 59)
+size-most l h = (low-most l, high-most h)
+  where
+    low-most : (b : Bound) → lowSize b ≤ 57
+    low-most unbounded = omega arith
+    low-most (openAt t) = omega arith
+    low-most (closedAt t) = omega arith
+
+    high-most : (b : Bound) → highSize b ≤ 59
+    high-most unbounded = omega arith
+    high-most (openAt t) = omega arith
+    high-most (closedAt t) = omega arith
+
+terms-length : (ss : List Interval) → every isWritableStretch ss ≡ true → length (flatMap termText ss) ≤ 147 * length ss
+unfolding flatMap
+terms-length [] h = omega arith
+terms-length (s ∷ ss) h =
+    let (a, b) = every-true isWritableStretch s ss h in
+    omega (arith, length-append (termText s) (flatMap termText ss), term-length s a, size-most (s .low) (s .high), terms-length ss b)
+
+pub written-length : (ss : List Interval) → length ss ≤ 32 → (1 ≤ length (written ss)) × (length (written ss) ≤ 32)
+written-length [] h = omega arith
+written-length (s ∷ ss) h = omega arith
+
+pub written-writable : (ss : List Interval) → every isWritableStretch ss ≡ true → every isWritableStretch (written ss) ≡ true
+unfolding every
+written-writable [] h = let z : ltb 0 yearsEnd ≡ true = lt-ltb 0 yearsEnd (omega (arith, years-end)) in rw z
+written-writable (s ∷ ss) h = h
+
+pub record-length : (ss : List Interval) → length (recordText ss) ≡ 31 + length (flatMap termText (written ss))
+record-length ss =
+    let inner = flatMap termText (written ss) in
+    omega (arith, ap length (record-text ss), length-append (bytes "<stay xsi:type=\"QSU_TS\">") (inner ++ bytes "</stay>"), length-append inner (bytes "</stay>"))
+
+-- a record of at most 32 stretches is never longer than 4,735 bytes
+pub record-short : (ss : List Interval) → length ss ≤ 32 → every isWritableStretch ss ≡ true → length (recordText ss) ≤ 4_735
+record-short ss h w = omega (arith, record-length ss, terms-length (written ss) (written-writable ss w), written-length ss h)
