@@ -1,53 +1,25 @@
--- Writing bytes at positions one after another, and the bytes that list a set.
+-- The bytes that list a set, written one interval after another.
 use Prim.Native.Nat.{ℕ, zero, suc, _+_, _-_, _*_, _/_, _%_, _^_, _≤_, _<_}
-use mathlib.Core.Path.{_≡_, refl, sym, ap, ap₂, _∙_}
+use mathlib.Core.Path.{_≡_, refl, sym, ap, _∙_}
 use mathlib.Core.List.{List, [], _∷_, _++_, map, flatMap, append-assoc, append-nil}
 use mathlib.Core.Logic.{⊎-elim}
 use native.Mathlib.Omega.{arith}
 use native.Mathlib.Numerals.{add-one}
-use lib.ListN.{length, getD, take, set, take-append-drop, length-set, length-append}
-use lib.Seq.{take-suc, take-suc-set, drop-set-lt}
+use lib.ListN.{length, getD, take, set, length-append}
+use lib.Seq.{take-suc}
 use borrow.Author.Tests.{lt-ltb, le-ltb}
 use Rattle.rules.specs.Timestamp.{beforeStart}
 use Rattle.rules.specs.Listing.{boundNumbers, listNumbers}
 use Rattle.rules.specs.Services.{lowBytes, eightBytes, overwrite}
+use Rattle.writer.specs.Placing.{placed}
+use Rattle.writer.proofs.Placing.{placed-none, placed-cons, placed-append, placed-both, overwrite-placed}
 use Rattle.interval.specs.declared.Bound.{Bound}
 use Rattle.interval.specs.declared.Bound.the-variants.{Unbounded, Open, Closed}
 use Rattle.interval.specs.declared.Interval.{Interval}
 use Rattle.interval.specs.Meaning.{tickAt, boundOf, intervalOf, Ticked}
-use Rattle.interval.specs.Writing.{placed, kindOf, wrapped, bitsOf, boundBytes, intervalBytes}
+use Rattle.interval.specs.Writing.{kindOf, wrapped, bitsOf, boundBytes, intervalBytes}
 use Rattle.interval.proofs.Ranks.{le-or-lt}
 use Rattle.interval.proofs.Items.{nowhere}
-
--- ---- positions
-pub placed-none : (at : ℕ) (old : List ℕ) → placed at [] old ≡ old
-placed-none at old = let e : at + 0 ≡ at = omega arith in rw (e, append-nil) (take-append-drop at old)
-
--- the first byte, and then the others
-pub placed-cons : (at b : ℕ) (bs old : List ℕ) → at < length old → placed at (b ∷ bs) old ≡ placed (at + 1) bs (set old at b)
-placed-cons at b bs old h =
-    let e : at + 1 + length bs ≡ at + suc (length bs) = omega arith in
-    rw (e, drop-set-lt (at + suc (length bs)) old at b (omega arith), add-one, take-suc-set old at b h) (simp append-assoc)
-
-pub placed-append : (at : ℕ) (a b old : List ℕ) → at + length a ≤ length old → placed at (a ++ b) old ≡ placed (at + length a) b (placed at a old)
-placed-append at [] b old h = let e : at + 0 ≡ at = omega arith in ap₂ (λ (n : ℕ) (l : List ℕ). placed n b l) (sym e) (sym (placed-none at old))
-placed-append at (x ∷ a) b old h =
-    let e : at + 1 + length a ≡ at + suc (length a) = omega arith in
-    placed-cons at x (a ++ b) old (omega arith)
-    ∙ placed-append (at + 1) a b (set old at x) (rw length-set (omega arith))
-    ∙ ap₂ (λ (n : ℕ) (l : List ℕ). placed n b l) e (sym (placed-cons at x a old (omega arith)))
-
--- the same, where the length of the first part is known
-pub placed-both : (at n : ℕ) (a b old : List ℕ) → length a ≡ n → at + n ≤ length old → placed (at + n) b (placed at a old) ≡ placed at (a ++ b) old
-placed-both at n a b old e h = rw (← e) (sym (placed-append at a b old (omega arith)))
-
-pub placed-length : (at : ℕ) (new old : List ℕ) → at + length new ≤ length old → length (placed at new old) ≡ length old
-placed-length at [] old h = ap length (placed-none at old)
-placed-length at (x ∷ new) old h =
-    ap length (placed-cons at x new old (omega arith)) ∙ placed-length (at + 1) new (set old at x) (rw length-set (omega arith)) ∙ length-set old at x
-
-pub overwrite-placed : (old new : List ℕ) → overwrite old new ≡ placed 0 new old
-overwrite-placed old new = let e : 0 + length new ≡ length new = omega arith in rw e refl
 
 -- ---- numbers
 pub lowBytes-length : (n k : ℕ) → length (lowBytes n k) ≡ n

@@ -1,7 +1,6 @@
--- Bytes written at a position of lent memory, and the numbers of a bound ("The lent list").
+-- The numbers of a bound, and the bytes that list it ("The lent list").
 use Prim.Native.Nat.{ℕ, _+_, _-_, _%_, _^_}
 use mathlib.Core.List.{List, _++_, flatMap}
-use lib.ListN.{length, take, drop}
 use Rattle.rules.specs.Timestamp.{beforeStart}
 use Rattle.rules.specs.Listing.{boundNumbers}
 use Rattle.rules.specs.Services.{eightBytes}
@@ -9,10 +8,6 @@ use Rattle.interval.specs.declared.Bound.{Bound}
 use Rattle.interval.specs.declared.Bound.the-variants.{Unbounded, Open, Closed}
 use Rattle.interval.specs.declared.Interval.{Interval}
 use Rattle.interval.specs.Meaning.{boundOf}
-
--- these bytes at a position of memory, in place of as many others
-abbrev pub placed : (at : ℕ) → (new old : List ℕ) → List ℕ
-placed at new old = take at old ++ new ++ drop (at + length new) old
 
 -- a bound's kind, and the number of its tick in two's complement
 abbrev pub kindOf : Bound → ℕ

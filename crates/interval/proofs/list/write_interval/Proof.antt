@@ -3,7 +3,8 @@ use borrow.Author.Needs.{needs}
 use native.Mathlib.Omega.{arith}
 use mathlib.Core.Path.{_∙_}
 use Rattle.interval.specs.Writing.{boundBytes}
-use Rattle.interval.proofs.Writing.{placed-both, bound-length}
+use Rattle.writer.proofs.Placing.{placed-both}
+use Rattle.interval.proofs.Writing.{bound-length}
 use Rattle.interval.proofs.list.write_interval.Statement.{statement}
 use Rattle.interval.proofs.list.write_interval.Tie as tie
 

@@ -5,7 +5,7 @@ use Prim.Native.Nat.{_+_, _-_, _≤_}
 use mathlib.Core.Path.{_≡_, refl, sym, _∙_}
 use lib.ListN.{length, length-set}
 use Rattle.rules.specs.Services.{lowBytes}
-use Rattle.interval.specs.Writing.{placed}
+use Rattle.writer.specs.Placing.{placed}
 use Rattle.interval.proofs.Writing.{byte-stored, bytes-done}
 use Rattle.interval.proofs.list.write_number.Statement.{statement}
 use Rattle.interval.proofs.list.write_number.Tie as tie
