@@ -153,7 +153,7 @@ getD-most b [] n h = omega arith
 getD-most b (x ∷ l) zero h = leb-true x b (every-true (λ x. leb x b) x l h .0)
 getD-most b (x ∷ l) (suc n) h = getD-most b l n (every-true (λ x. leb x b) x l h .1)
 
-month-most : (y m : ℕ) → monthLength y m ≤ 31
+pub month-most : (y m : ℕ) → monthLength y m ≤ 31
 unfolding monthLength every
 month-most y m = getD-most 31 (monthLengths y) (m - 1) (go (isLeap y))
   where

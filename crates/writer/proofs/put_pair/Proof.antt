@@ -1,53 +1,49 @@
 -- `writer::put_pair` meets its contract.
 use borrow.Author.Needs.{needs}
 use native.Mathlib.Omega.{arith}
+use mathlib.Core.Path.{refl}
 use lib.ListN.{length-set}
 use Rattle.rules.proofs.Digits.{digitsOf-length}
 use Rattle.writer.proofs.Placing.{pair-put}
 use Rattle.writer.proofs.put_pair.Statement.{statement}
 use Rattle.writer.proofs.put_pair.Tie as tie
-use Rattle.writer.proofs.put_pair.Reads as reads
-use Rattle.writer.proofs.put_pair.Lts as lts
 
--- src/lib.rt:25:20
 cast-out : tie.Need-cast-out
 cast-out c = search needs
 
--- src/lib.rt:25:15
 add-out : tie.Need-add-out
 add-out c = search needs
 
--- src/lib.rt:25:5
 slice-write-out : tie.Need-slice-write-out
 slice-write-out c = search needs
 
--- src/lib.rt:26:24
 cast-out-2 : tie.Need-cast-out-2
 cast-out-2 c = search needs
 
--- src/lib.rt:26:19
 add-out-2 : tie.Need-add-out-2
 add-out-2 c = search needs
 
--- src/lib.rt:26:9
 add-out-3 : tie.Need-add-out-3
 add-out-3 c = search needs
 
--- src/lib.rt:26:5
 slice-write-out-2 : tie.Need-slice-write-out-2
 slice-write-out-2 c = rw length-set (omega arith)
 
--- src/lib.rt:27:5
 add-result : tie.Need-add-result
 add-result c = search needs
 
--- src/lib.rt:21:1
 same-length : tie.Need-same-length
 same-length c = search needs
 
--- src/lib.rt:21:1
 returns : tie.Need-returns
-returns c = record { room = omega (arith, digitsOf-length 2 (c .args .n)); next-is = omega (arith, digitsOf-length 2 (c .args .n)); bytes-are = pair-put (c .args .at) (c .args .n) (c .args .out .now) (c .pre .0) (c .pre .1) }
+returns c = (
+  refl,
+  record {
+    room = omega (arith, digitsOf-length 2 (c .args .n));
+    next-is = omega (arith, digitsOf-length 2 (c .args .n));
+    bytes-are = pair-put (c .args .at) (c .args .n) (c .args .out .now) (c .pre .0) (c .pre .1);
+  },
+)
 
 pub put-pair-spec : {M : Type 1} → statement M
 put-pair-spec =

@@ -1,0 +1,3 @@
+// A list of stretches printed back as a record.
+mod date;
+mod stamp;
