@@ -1,0 +1,96 @@
+-- Two bounds by their kinds and ticks: those of one stretch, and those between two.
+use Prim.Native.Nat.{ℕ, zero, suc, _^_, _<_}
+use mathlib.Core.Path.{_≡_, refl, sym, _∙_, ap}
+use mathlib.Core.Bool.{Bool, true, false, not, _&&_, _||_, and-false, or-false, Bool·not-not}
+use native.Mathlib.Omega.{arith}
+use borrow.Author.Tests.{ltb-true}
+use lib.Dec.{ltb, eqb}
+use lib.IntN.{ℤ, predℤ, suc-pred}
+use lib.Signed.{leZ, ltZ}
+use Rattle.rules.specs.Basics.{ifSome}
+use Rattle.rules.specs.Sets.{at, gapAfter, nextPlace, _isBefore_, firstPlace, lastPlace}
+use Rattle.rules.specs.LentLists.{Row as PageRow, isZero, boundIn, isUnbounded, signed}
+use Rattle.rules.proofs.Order.{before-next}
+use Rattle.lent.specs.Rows.{isBound, isInOrder, isFaulty}
+use Rattle.lent.proofs.Numbers.{signed-most, kind-signed, zero-signed}
+
+-- what the code asks of a bound's numbers, and of two ticks
+pub bound-is : (k t : ℕ) → ltb k 3 && (not (eqb k 0) || eqb t 0) ≡ isBound (signed k) (signed t)
+bound-is k t = rw (kind-signed k, zero-signed k, zero-signed t) (ap (ltb k 3 &&_) (go (eqb k 0)))
+  where
+    go : (x : Bool) → not x || eqb t 0 ≡ not (x && not (eqb t 0))
+    go true = sym (Bool·not-not (eqb t 0))
+    go false = refl
+
+pub order-is : (a b : ℕ) → a < 2 ^ 64 → b < 2 ^ 64 → (equal : Bool) → ltZ (signed a) (signed b) || equal && eqb a b ≡ isInOrder (signed a) (signed b) equal
+order-is a b h k true = sym (signed-most a b h k)
+order-is a b h k false = or-false (ltZ (signed a) (signed b))
+
+-- the good kinds
+data Kind : ℕ → Type 0 where
+  noEnd : Kind 0
+  isOpen : Kind 1
+  isClosed : Kind 2
+
+good : (k : ℕ) → k < 3 → Kind k
+good zero h = noEnd
+good (suc zero) h = isOpen
+good (suc (suc zero)) h = isClosed
+good (suc (suc (suc k))) h = absurd (omega arith)
+
+-- ---- a stretch
+abbrev rowWith : (k : ℕ) → ℤ → (h : ℕ) → ℤ → PageRow
+rowWith k t h u = record { lowKind = signed k; lowTick = t; highKind = signed h; highTick = u }
+
+-- the last place up to an open high is not before the first exactly if the low's tick is less
+open-high : (t u : ℤ) → ltZ t u ≡ not (ltZ (predℤ u) t)
+open-high t u = rw suc-pred at (before-next (gapAfter t) (gapAfter (predℤ u)))
+
+zeros : (x y : Bool) → not (not x) && not (not y) && true ≡ not (not x || not y || false)
+zeros true true = refl
+zeros true false = refl
+zeros false true = refl
+zeros false false = refl
+
+stretch-good : {k h : ℕ} → Kind k → Kind h → (t u : ℤ)
+    → (isBound (signed k) t && isBound (signed h) u) && (eqb k 0 || eqb h 0 || isInOrder t u (eqb k 2 && eqb h 2)) ≡ not (isFaulty (rowWith k t h u))
+stretch-good noEnd noEnd t u = zeros (isZero t) (isZero u)
+stretch-good noEnd isOpen t u = zeros (isZero t) true
+stretch-good noEnd isClosed t u = zeros (isZero t) true
+stretch-good isOpen noEnd t u = zeros true (isZero u)
+stretch-good isOpen isOpen t u = open-high t u
+stretch-good isOpen isClosed t u = before-next (gapAfter t) (at u)
+stretch-good isClosed noEnd t u = zeros true (isZero u)
+stretch-good isClosed isOpen t u = open-high t u
+stretch-good isClosed isClosed t u = before-next (at t) (at u)
+
+-- a bad kind is no bound's
+pub stretch-is : (k h : ℕ) (t u : ℤ)
+    → (isBound (signed k) t && isBound (signed h) u) && (eqb k 0 || eqb h 0 || isInOrder t u (eqb k 2 && eqb h 2)) ≡ not (isFaulty (rowWith k t h u))
+stretch-is k h t u = go (ltb k 3) refl (ltb h 3) refl
+  where
+    go : (x : Bool) → ltb k 3 ≡ x → (y : Bool) → ltb h 3 ≡ y
+        → (isBound (signed k) t && isBound (signed h) u) && (eqb k 0 || eqb h 0 || isInOrder t u (eqb k 2 && eqb h 2)) ≡ not (isFaulty (rowWith k t h u))
+    go true e true f = stretch-good (good k (ltb-true k 3 e)) (good h (ltb-true h 3 f)) t u
+    go true e false f = simp (kind-signed h, f, and-false)
+    go false e y f = rw (kind-signed k, e)
+
+-- ---- between two
+-- both are bounds at ticks, and the next place after the last is before the first exactly if the ticks are in order
+pub parted-is : (h l : ℕ) (t u : ℤ) → h < 3 → l < 3 → (not (eqb h 0) && not (eqb l 0)) && isInOrder t u (eqb h 1 && eqb l 1)
+    ≡ not (isUnbounded (boundIn (signed h) t) || isUnbounded (boundIn (signed l) u)
+    || ifSome (lastPlace (boundIn (signed h) t)) (λ z. ifSome (firstPlace (boundIn (signed l) u)) (λ f. not (nextPlace z isBefore f)) false) false)
+parted-is h l t u a b = go (good h a) (good l b)
+  where
+    go : {h l : ℕ} → Kind h → Kind l → (not (eqb h 0) && not (eqb l 0)) && isInOrder t u (eqb h 1 && eqb l 1)
+        ≡ not (isUnbounded (boundIn (signed h) t) || isUnbounded (boundIn (signed l) u)
+        || ifSome (lastPlace (boundIn (signed h) t)) (λ z. ifSome (firstPlace (boundIn (signed l) u)) (λ f. not (nextPlace z isBefore f)) false) false)
+    go noEnd noEnd = refl
+    go noEnd isOpen = refl
+    go noEnd isClosed = refl
+    go isOpen noEnd = refl
+    go isOpen isOpen = rw suc-pred (sym (Bool·not-not (leZ t u)))
+    go isOpen isClosed = rw suc-pred (sym (Bool·not-not (ltZ t u)))
+    go isClosed noEnd = refl
+    go isClosed isOpen = sym (Bool·not-not (ltZ t u))
+    go isClosed isClosed = sym (Bool·not-not (ltZ t u))
