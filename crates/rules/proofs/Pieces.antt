@@ -29,17 +29,22 @@ boundText side b = elementText (side .child) (saidOf side b ∷ []) end []
 
 abbrev pub termText : Interval → List ℕ
 termText s =
-    bytes "<term xsi:type=\"IVL_TS\"" ++ (flagText low (s .low) ++ (flagText high (s .high) ++ (bytes ">" ++ (boundText low (s .low) ++ (boundText high (s .high) ++ bytes "</term>")))))
+    bytes "<term xsi:type=\"IVL_TS\"" ++ flagText low (s .low) ++ flagText high (s .high) ++ bytes ">" ++ boundText low (s .low) ++ boundText high (s .high)
+    ++ bytes "</term>"
 
--- `<low value="`, a timestamp and `"/>`, whether the bound is open or closed
-abbrev pub valueText : (name value : List ℕ) → List ℕ
-valueText n v = (60 ∷ n ++ bytes " value=\"") ++ (v ++ bytes "\"/>")
+-- `<low value="`
+abbrev pub openingText : Side → List ℕ
+openingText side = 60 ∷ side .child ++ bytes " value=\""
 
-pub bound-valued : (n v : List ℕ) → elementText n ((bytes "value" is v) ∷ []) end [] ≡ valueText n v
+-- that, a timestamp and `"/>`, whether the bound is open or closed
+abbrev pub valueText : Side → (value : List ℕ) → List ℕ
+valueText side v = openingText side ++ v ++ bytes "\"/>"
+
+pub bound-valued : (side : Side) (v : List ℕ) → elementText (side .child) ((bytes "value" is v) ∷ []) end [] ≡ valueText side v
 unfolding flatMap
-bound-valued n v = go (60 ∷ n) (bytes " value=\"") v (bytes "\"") (bytes "/>")
+bound-valued side v = go (60 ∷ side .child) (bytes " value=\"") v (bytes "\"") (bytes "/>")
   where
-    go : (m p v q r : List ℕ) → m ++ (p ++ v ++ q ++ []) ++ r ≡ (m ++ p) ++ (v ++ (q ++ r))
+    go : (m p v q r : List ℕ) → m ++ (p ++ v ++ q ++ []) ++ r ≡ (m ++ p) ++ v ++ (q ++ r)
     go m p v q r = simp (append-assoc, append-nil)
 
 bounds-text : (s : Interval) → nodesText (boundNodes s) ≡ boundText low (s .low) ++ boundText high (s .high)
@@ -57,7 +62,7 @@ unfolding flatMap
 flags-text s = ap (bytes " xsi:type=\"IVL_TS\"" ++_) (low-flag (s .low) (flagOf high (s .high)))
 
 assembled : (a b c d : List ℕ) → 60 ∷ bytes "term" ++ (bytes " xsi:type=\"IVL_TS\"" ++ (a ++ b)) ++ (62 ∷ (c ++ d) ++ bytes "</" ++ bytes "term" ++ 62 ∷ [])
-    ≡ bytes "<term xsi:type=\"IVL_TS\"" ++ (a ++ (b ++ (bytes ">" ++ (c ++ (d ++ bytes "</term>")))))
+    ≡ bytes "<term xsi:type=\"IVL_TS\"" ++ a ++ b ++ bytes ">" ++ c ++ d ++ bytes "</term>"
 assembled a b c d = simp append-assoc
 
 term-text : (s : Interval) → elementText (bytes "term") (termAttributes s) (boundNodes s) (nodesText (boundNodes s)) ≡ termText s
@@ -69,13 +74,13 @@ terms-text [] = refl
 terms-text (s ∷ ss) = ap₂ _++_ (term-text s) (terms-text ss)
 
 around : (inner : List ℕ) → 60 ∷ bytes "stay" ++ bytes " xsi:type=\"QSU_TS\"" ++ (62 ∷ inner ++ bytes "</" ++ bytes "stay" ++ 62 ∷ [])
-    ≡ bytes "<stay xsi:type=\"QSU_TS\">" ++ (inner ++ bytes "</stay>")
+    ≡ bytes "<stay xsi:type=\"QSU_TS\">" ++ inner ++ bytes "</stay>"
 around inner = simp append-assoc
 
-pub record-text : (ss : List Interval) → recordText ss ≡ bytes "<stay xsi:type=\"QSU_TS\">" ++ (flatMap termText (written ss) ++ bytes "</stay>")
+pub record-text : (ss : List Interval) → recordText ss ≡ bytes "<stay xsi:type=\"QSU_TS\">" ++ flatMap termText (written ss) ++ bytes "</stay>"
 unfolding recordText termNodes flatMap
-record-text [] = around (nodesText (termNodes (written []))) ∙ ap (λ inner. bytes "<stay xsi:type=\"QSU_TS\">" ++ (inner ++ bytes "</stay>")) (terms-text (written []))
-record-text (s ∷ ss) = around (nodesText (termNodes (s ∷ ss))) ∙ ap (λ inner. bytes "<stay xsi:type=\"QSU_TS\">" ++ (inner ++ bytes "</stay>")) (terms-text (s ∷ ss))
+record-text [] = around (nodesText (termNodes (written []))) ∙ ap (λ inner. bytes "<stay xsi:type=\"QSU_TS\">" ++ inner ++ bytes "</stay>") (terms-text (written []))
+record-text (s ∷ ss) = around (nodesText (termNodes (s ∷ ss))) ∙ ap (λ inner. bytes "<stay xsi:type=\"QSU_TS\">" ++ inner ++ bytes "</stay>") (terms-text (s ∷ ss))
 
 -- Its length: 31 bytes around the terms and 31 of each term, and the bytes of each bound with its flag.
 
@@ -100,11 +105,11 @@ highSize unbounded = 25
 highSize (openAt t) = 59
 highSize (closedAt t) = 58
 
-value-length : (n v : List ℕ) → length (valueText n v) ≡ 12 + length n + length v
-value-length n v = simp length-append (omega arith)
+value-length : (side : Side) (v : List ℕ) → length (valueText side v) ≡ 12 + length (side .child) + length v
+value-length side v = simp length-append (omega arith)
 
 valued-length : (side : Side) (t : ℕ) → length (elementText (side .child) ((bytes "value" is timestampText (pos t)) ∷ []) end []) ≡ 36 + length (side .child)
-valued-length side t = omega (arith, ap length (bound-valued (side .child) (timestampText (pos t))), value-length (side .child) (timestampText (pos t)), timestamp-length t)
+valued-length side t = omega (arith, ap length (bound-valued side (timestampText (pos t))), value-length side (timestampText (pos t)), timestamp-length t)
 
 pub low-length : (b : Bound) → isWritableBound b ≡ true → length (flagText low b) + length (boundText low b) ≡ lowSize b
 unfolding flatMap
@@ -127,7 +132,7 @@ term-length s h =
     let (a, b) = both-true (isWritableBound (s .low)) (isWritableBound (s .high)) h in
     omega (arith, sum (flagText low (s .low)) (flagText high (s .high)) (boundText low (s .low)) (boundText high (s .high)), low-length (s .low) a, high-length (s .high) b)
   where
-    sum : (a b c d : List ℕ) → length (bytes "<term xsi:type=\"IVL_TS\"" ++ (a ++ (b ++ (bytes ">" ++ (c ++ (d ++ bytes "</term>"))))))
+    sum : (a b c d : List ℕ) → length (bytes "<term xsi:type=\"IVL_TS\"" ++ a ++ b ++ bytes ">" ++ c ++ d ++ bytes "</term>")
         ≡ 31 + (length a + length c) + (length b + length d)
     sum a b c d = simp length-append (omega arith)
 
@@ -161,9 +166,10 @@ written-writable [] h = let z : ltb 0 yearsEnd ≡ true = lt-ltb 0 yearsEnd (ome
 written-writable (s ∷ ss) h = h
 
 pub record-length : (ss : List Interval) → length (recordText ss) ≡ 31 + length (flatMap termText (written ss))
-record-length ss =
-    let inner = flatMap termText (written ss) in
-    omega (arith, ap length (record-text ss), length-append (bytes "<stay xsi:type=\"QSU_TS\">") (inner ++ bytes "</stay>"), length-append inner (bytes "</stay>"))
+record-length ss = ap length (record-text ss) ∙ sum (flatMap termText (written ss))
+  where
+    sum : (inner : List ℕ) → length (bytes "<stay xsi:type=\"QSU_TS\">" ++ inner ++ bytes "</stay>") ≡ 31 + length inner
+    sum inner = simp length-append (omega arith)
 
 -- a record of at most 32 stretches is never longer than 4,735 bytes
 pub record-short : (ss : List Interval) → length ss ≤ 32 → every isWritableStretch ss ≡ true → length (recordText ss) ≤ 4_735
