@@ -1,6 +1,6 @@
 -- Two bounds by their kinds and ticks: those of one stretch, and those between two.
 use Prim.Native.Nat.{ℕ, zero, suc, _^_, _<_}
-use mathlib.Core.Path.{_≡_, refl, sym, _∙_, ap}
+use mathlib.Core.Path.{_≡_, refl, sym, ap}
 use mathlib.Core.Bool.{Bool, true, false, not, _&&_, _||_, and-false, or-false, Bool·not-not}
 use native.Mathlib.Omega.{arith}
 use borrow.Author.Tests.{ltb-true}
@@ -46,14 +46,18 @@ rowWith k t h u = record { lowKind = signed k; lowTick = t; highKind = signed h;
 open-high : (t u : ℤ) → ltZ t u ≡ not (ltZ (predℤ u) t)
 open-high t u = rw suc-pred at (before-next (gapAfter t) (gapAfter (predℤ u)))
 
+-- both ticks are 0, or it is not asked of them
 zeros : (x y : Bool) → not (not x) && not (not y) && true ≡ not (not x || not y || false)
 zeros true true = refl
 zeros true false = refl
 zeros false true = refl
 zeros false false = refl
 
-stretch-good : {k h : ℕ} → Kind k → Kind h → (t u : ℤ)
-    → (isBound (signed k) t && isBound (signed h) u) && (eqb k 0 || eqb h 0 || isInOrder t u (eqb k 2 && eqb h 2)) ≡ not (isFaulty (rowWith k t h u))
+-- what the code asks of a stretch's numbers is what the rules do
+abbrev IsStretch : (k : ℕ) → ℤ → (h : ℕ) → ℤ → Type 0
+IsStretch k t h u = (isBound (signed k) t && isBound (signed h) u) && (eqb k 0 || eqb h 0 || isInOrder t u (eqb k 2 && eqb h 2)) ≡ not (isFaulty (rowWith k t h u))
+
+stretch-good : {k h : ℕ} → Kind k → Kind h → (t u : ℤ) → IsStretch k t h u
 stretch-good noEnd noEnd t u = zeros (isZero t) (isZero u)
 stretch-good noEnd isOpen t u = zeros (isZero t) true
 stretch-good noEnd isClosed t u = zeros (isZero t) true
@@ -65,32 +69,31 @@ stretch-good isClosed isOpen t u = open-high t u
 stretch-good isClosed isClosed t u = before-next (at t) (at u)
 
 -- a bad kind is no bound's
-pub stretch-is : (k h : ℕ) (t u : ℤ)
-    → (isBound (signed k) t && isBound (signed h) u) && (eqb k 0 || eqb h 0 || isInOrder t u (eqb k 2 && eqb h 2)) ≡ not (isFaulty (rowWith k t h u))
+pub stretch-is : (k h : ℕ) (t u : ℤ) → IsStretch k t h u
 stretch-is k h t u = go (ltb k 3) refl (ltb h 3) refl
   where
-    go : (x : Bool) → ltb k 3 ≡ x → (y : Bool) → ltb h 3 ≡ y
-        → (isBound (signed k) t && isBound (signed h) u) && (eqb k 0 || eqb h 0 || isInOrder t u (eqb k 2 && eqb h 2)) ≡ not (isFaulty (rowWith k t h u))
+    go : (x : Bool) → ltb k 3 ≡ x → (y : Bool) → ltb h 3 ≡ y → IsStretch k t h u
     go true e true f = stretch-good (good k (ltb-true k 3 e)) (good h (ltb-true h 3 f)) t u
     go true e false f = simp (kind-signed h, f, and-false)
     go false e y f = rw (kind-signed k, e)
 
 -- ---- between two
--- both are bounds at ticks, and the next place after the last is before the first exactly if the ticks are in order
-pub parted-is : (h l : ℕ) (t u : ℤ) → h < 3 → l < 3 → (not (eqb h 0) && not (eqb l 0)) && isInOrder t u (eqb h 1 && eqb l 1)
+-- the same of a high bound and the following low one
+abbrev IsParted : (h : ℕ) → ℤ → (l : ℕ) → ℤ → Type 0
+IsParted h t l u = (not (eqb h 0) && not (eqb l 0)) && isInOrder t u (eqb h 1 && eqb l 1)
     ≡ not (isUnbounded (boundIn (signed h) t) || isUnbounded (boundIn (signed l) u)
     || ifSome (lastPlace (boundIn (signed h) t)) (λ z. ifSome (firstPlace (boundIn (signed l) u)) (λ f. not (nextPlace z isBefore f)) false) false)
-parted-is h l t u a b = go (good h a) (good l b)
-  where
-    go : {h l : ℕ} → Kind h → Kind l → (not (eqb h 0) && not (eqb l 0)) && isInOrder t u (eqb h 1 && eqb l 1)
-        ≡ not (isUnbounded (boundIn (signed h) t) || isUnbounded (boundIn (signed l) u)
-        || ifSome (lastPlace (boundIn (signed h) t)) (λ z. ifSome (firstPlace (boundIn (signed l) u)) (λ f. not (nextPlace z isBefore f)) false) false)
-    go noEnd noEnd = refl
-    go noEnd isOpen = refl
-    go noEnd isClosed = refl
-    go isOpen noEnd = refl
-    go isOpen isOpen = rw suc-pred (sym (Bool·not-not (leZ t u)))
-    go isOpen isClosed = rw suc-pred (sym (Bool·not-not (ltZ t u)))
-    go isClosed noEnd = refl
-    go isClosed isOpen = sym (Bool·not-not (ltZ t u))
-    go isClosed isClosed = sym (Bool·not-not (ltZ t u))
+
+parted-good : {h l : ℕ} → Kind h → Kind l → (t u : ℤ) → IsParted h t l u
+parted-good noEnd noEnd t u = refl
+parted-good noEnd isOpen t u = refl
+parted-good noEnd isClosed t u = refl
+parted-good isOpen noEnd t u = refl
+parted-good isOpen isOpen t u = rw suc-pred (sym (Bool·not-not (leZ t u)))
+parted-good isOpen isClosed t u = rw suc-pred (sym (Bool·not-not (ltZ t u)))
+parted-good isClosed noEnd t u = refl
+parted-good isClosed isOpen t u = sym (Bool·not-not (ltZ t u))
+parted-good isClosed isClosed t u = sym (Bool·not-not (ltZ t u))
+
+pub parted-is : (h l : ℕ) (t u : ℤ) → h < 3 → l < 3 → IsParted h t l u
+parted-is h l t u a b = parted-good (good h a) (good l b) t u

@@ -1,80 +1,86 @@
+-- `lent::is_proper` meets its contract. The loop's invariant: what is left, from the k-th row on, decides.
+use Prim.Native.Nat.{_-_, _*_, _/_, _≤_}
+use mathlib.Core.Path.{_≡_, sym, _∙_, ap}
+use mathlib.Core.Bool.{not}
+use native.Mathlib.Omega.{arith}
+use borrow.Author.Needs.{needs}
+use borrow.Author.Tests.{not-true, not-false}
+use lib.ListN.{length}
+use Rattle.lent.proofs.Proper.{Left, improper-part, improper-long, proper-empty, first-bad, first-good, next-bad, next-unparted, next-good, none-left, good-kinds}
 use Rattle.lent.proofs.is_proper.Statement.{statement}
 use Rattle.lent.proofs.is_proper.Tie as tie
-use Rattle.lent.proofs.is_proper.Reads as reads
-use Rattle.lent.proofs.is_proper.Lts as lts
-use Rattle.lent.proofs.are_parted.Reads as are-parted-reads
-use Rattle.lent.proofs.is_stretch.Reads as is-stretch-reads
-use Rattle.lent.proofs.read_row.Reads as read-row-reads
 
 abbrev Inv-loop : tie.InvT-loop
-Inv-loop list n row₀ k₀ row k = ?
+Inv-loop list n row₀ k₀ row k = (k ≤ n) × (length list ≡ 32 * n) × Left list row k n
 
 abbrev μ-loop : tie.MeasureT-loop
-μ-loop list n row₀ k₀ row k = ?
+μ-loop list n row₀ k₀ row k = n - k
 
--- src/lib.rt:95:9
 returns : tie.Need-returns Inv-loop μ-loop
-returns c = ?
+returns c = sym (ap not (proper-empty (c .before .before .args .list .now) (c .if1 .taken)))
 
--- src/lib.rt:98:9
 returns-2 : tie.Need-returns-2 Inv-loop μ-loop
-returns-2 c = ?
+returns-2 c = sym (ap not (improper-part (c .before .before .before .args .list .now) (c .if2 .taken)))
 
--- src/lib.rt:101:9
 returns-3 : tie.Need-returns-3 Inv-loop μ-loop
-returns-3 c = ?
+returns-3 c = sym (ap not (improper-long (c .before .before .before .before .args .list .now) (c .before .if2 .left) (c .if3 .taken)))
 
--- src/lib.rt:104:9
 read-row-requires : tie.Need-read-row-requires Inv-loop μ-loop
-read-row-requires c κs = ?
+read-row-requires c κs = search needs
 
--- src/lib.rt:105:9
 is-stretch-requires : tie.Need-is-stretch-requires Inv-loop μ-loop
-is-stretch-requires c κs = ?
+is-stretch-requires c κs = search needs
 
--- src/lib.rt:106:9
 returns-4 : tie.Need-returns-4 Inv-loop μ-loop
-returns-4 c = ?
+returns-4 c =
+    let s = c .before .before .before .before .before .before .before .args .list .now in
+    sym (ap not (first-bad s (length s / 32) (omega arith) (omega arith) (omega arith) (c .before .before .read-row .result) (c .before .before .read-row .ensures) (not-false _ (sym (c .before .is-stretch .ensures) ∙ not-true _ (c .if4 .taken)))))
 
--- src/lib.rt:109:5
 loop-holds : tie.Need-loop-holds Inv-loop μ-loop
-loop-holds c = ?
+loop-holds c =
+    let s = c .before .before .before .before .before .before .before .args .list .now in
+    (omega arith, omega arith, first-good s (length s / 32) (omega arith) (omega arith) (omega arith) (c .before .before .read-row .result) (c .before .before .read-row .ensures) (not-true _ (sym (c .before .is-stretch .ensures) ∙ not-false _ (c .if4 .left))))
 
--- src/lib.rt:110:13
 read-row-requires-2 : tie.Need-read-row-requires-2 Inv-loop μ-loop
-read-row-requires-2 c κs = ?
+read-row-requires-2 c κs = search needs
 
--- src/lib.rt:111:13
 is-stretch-requires-2 : tie.Need-is-stretch-requires-2 Inv-loop μ-loop
-is-stretch-requires-2 c κs = ?
+is-stretch-requires-2 c κs = search needs
 
--- src/lib.rt:112:13
 returns-5 : tie.Need-returns-5 Inv-loop μ-loop
-returns-5 c = ?
+returns-5 c =
+    let s = c .before .before .before .before .before .before .before .before .before .before .before .before .args .list .now in
+    let l = c .before .before .before .before .loop in
+    sym (ap not (next-bad s (length s / 32) (l .k) (c .before .before .before .loop-test .taken) (l .row) (l .inv .2) (c .before .before .read-row2 .result) (c .before .before .read-row2 .ensures) (not-false _ (sym (c .before .is-stretch2 .ensures) ∙ not-true _ (c .if5 .taken)))))
 
--- src/lib.rt:114:13
 are-parted-requires : tie.Need-are-parted-requires Inv-loop μ-loop
-are-parted-requires c κs = ?
+are-parted-requires c κs =
+    let q = c .before .before .read-row2 .result in
+    (good-kinds (c .before .before .before .before .loop .row) (c .before .before .before .before .loop .inv .2 .good) .1, good-kinds q (not-true _ (sym (c .before .is-stretch2 .ensures) ∙ not-false _ (c .if5 .left))) .0)
 
--- src/lib.rt:115:13
 returns-6 : tie.Need-returns-6 Inv-loop μ-loop
-returns-6 c = ?
+returns-6 c =
+    let s = c .before .before .before .before .before .before .before .before .before .before .before .before .before .before .args .list .now in
+    let l = c .before .before .before .before .before .before .loop in
+    sym (ap not (next-unparted s (length s / 32) (l .k) (c .before .before .before .before .before .loop-test .taken) (l .row) (l .inv .2) (c .before .before .before .before .read-row2 .result) (c .before .before .before .before .read-row2 .ensures) (not-false _ (sym (c .before .are-parted .ensures) ∙ not-true _ (c .if6 .taken)))))
 
--- src/lib.rt:118:9
 add-k : tie.Need-add-k Inv-loop μ-loop
-add-k c = ?
+add-k c = omega arith
 
--- src/lib.rt:109:5
 loop-less : tie.Need-loop-less Inv-loop μ-loop
-loop-less c = ?
+loop-less c = omega arith
 
--- src/lib.rt:109:5
 loop-again : tie.Need-loop-again Inv-loop μ-loop
-loop-again c = ?
+loop-again c =
+    let s = c .before .before .before .before .before .before .before .before .before .before .before .before .before .before .args .list .now in
+    let l = c .before .before .before .before .before .before .loop in
+    (omega arith, l .inv .1, next-good s (length s / 32) (l .k) (c .before .before .before .before .before .loop-test .taken) (l .row) (l .inv .2) (c .before .before .before .before .read-row2 .result) (c .before .before .before .before .read-row2 .ensures) (not-true _ (sym (c .before .before .before .is-stretch2 .ensures) ∙ not-false _ (c .before .before .if5 .left))) (not-true _ (sym (c .before .are-parted .ensures) ∙ not-false _ (c .if6 .left))))
 
--- src/lib.rt:91:1
 returns-7 : tie.Need-returns-7 Inv-loop μ-loop
-returns-7 c = ?
+returns-7 c =
+    let s = c .before .before .before .before .before .before .before .before .before .args .list .now in
+    let l = c .before .loop in
+    sym (ap not (none-left s (length s / 32) (l .k) (c .loop-test .left) (l .row) (l .inv .2)))
 
 pub is-proper-spec : {M : Type 1} → statement M
 is-proper-spec =

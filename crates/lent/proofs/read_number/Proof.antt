@@ -1,6 +1,6 @@
 -- `lent::read_number` meets its contract. The loop's invariant: the number is that of the bytes from k on, and they hold it.
-use Prim.Native.Nat.{suc, _+_, _-_, _^_, _≤_, _<_}
-use mathlib.Core.Path.{_≡_, refl, sym, _∙_, ap}
+use Prim.Native.Nat.{_+_, _-_, _^_, _≤_, _<_}
+use mathlib.Core.Path.{_≡_, refl}
 use borrow.Author.Needs.{needs}
 use native.Mathlib.Omega.{arith}
 use lib.ListN.{take, drop, getD}

@@ -2,9 +2,6 @@
 use borrow.Author.Needs.{needs}
 use Rattle.lent.proofs.read_row.Statement.{statement}
 use Rattle.lent.proofs.read_row.Tie as tie
-use Rattle.lent.proofs.read_row.Reads as reads
-use Rattle.lent.proofs.read_row.Lts as lts
-use Rattle.lent.proofs.read_number.Reads as read-number-reads
 
 mul-at : tie.Need-mul-at
 mul-at c = search needs
