@@ -17,13 +17,13 @@ abbrev μ-loop : tie.MeasureT-loop
 μ-loop list n row₀ k₀ row k = n - k
 
 returns : tie.Need-returns Inv-loop μ-loop
-returns c = sym (ap not (proper-empty (c .before .before .args .list .now) (c .if1 .taken)))
+returns c = sym (ap not (proper-empty (c .before .before .args .list .now) (omega arith)))
 
 returns-2 : tie.Need-returns-2 Inv-loop μ-loop
-returns-2 c = sym (ap not (improper-part (c .before .before .before .args .list .now) (c .if2 .taken)))
+returns-2 c = sym (ap not (improper-part (c .before .before .before .args .list .now) (omega arith)))
 
 returns-3 : tie.Need-returns-3 Inv-loop μ-loop
-returns-3 c = sym (ap not (improper-long (c .before .before .before .before .args .list .now) (c .before .if2 .left) (c .if3 .taken)))
+returns-3 c = sym (ap not (improper-long (c .before .before .before .before .args .list .now) (omega arith) (omega arith)))
 
 read-row-requires : tie.Need-read-row-requires Inv-loop μ-loop
 read-row-requires c κs = search needs
