@@ -1,12 +1,11 @@
 -- The date of a day by division: the quotient is at most one year, or one month, too small.
 use Prim.Native.Nat.{ℕ, zero, suc, _+_, _-_, _*_, _/_, _≤_, _<_}
-use mathlib.Core.Path.{_≡_, refl, sym, _∙_, ap}
+use mathlib.Core.Path.{_≡_, ap}
 use mathlib.Core.Bool.{Bool, true, false, cond}
 use native.Mathlib.Omega.{arith}
-use Rattle.rules.specs.Calendar.{isLeap, yearLength, monthLength, daysOfYears, daysOfMonths, daysBeforeYear}
+use Rattle.rules.specs.Calendar.{isLeap, yearLength, daysOfYears, daysOfMonths, daysBeforeYear}
 use Rattle.rules.proofs.Calendar.{days-of-years, days-before-year, days-of-years-most, months-make-year, month-ends}
 use Rattle.rules.proofs.Dates.{month-most, IsDateOf, date-of, date-unique}
-use Rattle.printing.specs.declared.date.Date.{Date}
 use Rattle.printing.specs.Dates.{dateAt, InYear, InMonth}
 
 module _ (days : ℕ) (h : days < 3_652_059) where

@@ -1,5 +1,5 @@
 -- The date of a day, as the code holds it.
-use Prim.Native.Nat.{ℕ, suc, _+_, _-_, _≤_, _<_}
+use Prim.Native.Nat.{ℕ, suc, _-_, _≤_, _<_}
 use Rattle.rules.specs.Calendar.{daysOfYears, daysOfMonths}
 use Rattle.rules.specs.Dates.{yearAt, monthAt}
 use Rattle.printing.specs.declared.date.Date.{Date}

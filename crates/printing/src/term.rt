@@ -5,7 +5,7 @@ ghost use Prim.Native.Nat.{_+_, _<_, _≤_};
 ghost use lib.ListN.{length};
 ghost use Rattle.rules.specs.Sets.{unbounded};
 ghost use Rattle.rules.specs.Printing.{isWritableBound, isWritableStretch};
-ghost use Rattle.rules.proofs.Pieces.{flagText, openingText, boundText, termText};
+ghost use Rattle.rules.proofs.Pieces.{flagText, openingText, boundText, tagText, termText};
 ghost use Rattle.writer.specs.Placing.{Put};
 ghost use Rattle.printing.specs.Terms.{sideOf, boundOf, stretchOf};
 use crate::stamp::put_timestamp;
@@ -71,17 +71,24 @@ fn put_bound(out: &mut [u8], at: usize, side: Side, kind: u64, tick: u64) -> usi
     put(out, b, b"\"/>")
 }
 
-// Writes a term.
-pub fn put_term(out: &mut [u8], at: usize, row: Row) -> usize
-    requires { ⌜ row .«low_kind» < 3 ⌝ ∗ ⌜ row .«high_kind» < 3 ⌝ ∗ ⌜ isWritableStretch (stretchOf row) ≡ true ⌝ }
-    requires { ⌜ at + length (termText (stretchOf row)) ≤ length (now out) ⌝ }
-    ensures { λ r. ⌜ Put at (termText (stretchOf row)) (now (out .entry)) r (now (out .exit)) ⌝ }
+// Writes the start tag of a term.
+fn put_tag(out: &mut [u8], at: usize, row: Row) -> usize
+    requires { ⌜ row .«low_kind» < 3 ⌝ ∗ ⌜ row .«high_kind» < 3 ⌝ ∗ ⌜ at + length (tagText (stretchOf row)) ≤ length (now out) ⌝ }
+    ensures { λ r. ⌜ Put at (tagText (stretchOf row)) (now (out .entry)) r (now (out .exit)) ⌝ }
 {
     let a = put(out, at, b"<term xsi:type=\"IVL_TS\"");
     let b = put_flag(out, a, Side::Low, row.low_kind);
     let c = put_flag(out, b, Side::High, row.high_kind);
-    let d = put(out, c, b">");
-    let e = put_bound(out, d, Side::Low, row.low_kind, row.low_tick);
-    let f = put_bound(out, e, Side::High, row.high_kind, row.high_tick);
-    put(out, f, b"</term>")
+    put(out, c, b">")
+}
+
+// Writes a term.
+pub fn put_term(out: &mut [u8], at: usize, row: Row) -> usize
+    requires { ⌜ row .«low_kind» < 3 ⌝ ∗ ⌜ row .«high_kind» < 3 ⌝ ∗ ⌜ isWritableStretch (stretchOf row) ≡ true ⌝ ∗ ⌜ at + length (termText (stretchOf row)) ≤ length (now out) ⌝ }
+    ensures { λ r. ⌜ Put at (termText (stretchOf row)) (now (out .entry)) r (now (out .exit)) ⌝ }
+{
+    let a = put_tag(out, at, row);
+    let b = put_bound(out, a, Side::Low, row.low_kind, row.low_tick);
+    let c = put_bound(out, b, Side::High, row.high_kind, row.high_tick);
+    put(out, c, b"</term>")
 }

@@ -7,7 +7,7 @@ use native.Mathlib.Omega.{arith}
 use borrow.Author.Tests.{lt-ltb}
 use lib.Dec.{ltb}
 use lib.ListN.{length, length-append}
-use lib.IntN.{pos, negsuc}
+use lib.IntN.{ℤ, pos, negsuc}
 use Rattle.rules.specs.Basics.{every, bytes}
 use Rattle.rules.specs.Markup.{Attribute, end}
 use Rattle.rules.specs.Writing.{attributeText, elementText, nodesText}
@@ -20,45 +20,51 @@ use Rattle.rules.proofs.Digits.{digitsOf-length}
 use Rattle.rules.proofs.Dates.{years-end}
 
 -- ` lowClosed="true"`, or nothing at an unbounded end
-abbrev pub flagText : Side → Bound → List ℕ
+unfoldable pub flagText : Side → Bound → List ℕ
 flagText side b = flatMap attributeText (flagOf side b)
 
 -- `<low value=".."/>`
-abbrev pub boundText : Side → Bound → List ℕ
+unfoldable pub boundText : Side → Bound → List ℕ
 boundText side b = elementText (side .child) (saidOf side b ∷ []) end []
 
-abbrev pub termText : Interval → List ℕ
-termText s =
-    bytes "<term xsi:type=\"IVL_TS\"" ++ flagText low (s .low) ++ flagText high (s .high) ++ bytes ">" ++ boundText low (s .low) ++ boundText high (s .high)
-    ++ bytes "</term>"
+-- `<term xsi:type="IVL_TS" .. >`
+unfoldable pub tagText : Interval → List ℕ
+tagText s = bytes "<term xsi:type=\"IVL_TS\"" ++ flagText low (s .low) ++ flagText high (s .high) ++ bytes ">"
+
+unfoldable pub termText : Interval → List ℕ
+termText s = tagText s ++ boundText low (s .low) ++ boundText high (s .high) ++ bytes "</term>"
 
 -- `<low value="`
-abbrev pub openingText : Side → List ℕ
+unfoldable pub openingText : Side → List ℕ
 openingText side = 60 ∷ side .child ++ bytes " value=\""
 
 -- that, a timestamp and `"/>`, whether the bound is open or closed
 abbrev pub valueText : Side → (value : List ℕ) → List ℕ
 valueText side v = openingText side ++ v ++ bytes "\"/>"
 
-pub bound-valued : (side : Side) (v : List ℕ) → elementText (side .child) ((bytes "value" is v) ∷ []) end [] ≡ valueText side v
-unfolding flatMap
-bound-valued side v = go (60 ∷ side .child) (bytes " value=\"") v (bytes "\"") (bytes "/>")
+value-text : (side : Side) (v : List ℕ) → elementText (side .child) ((bytes "value" is v) ∷ []) end [] ≡ valueText side v
+unfolding openingText flatMap
+value-text side v = go (60 ∷ side .child) (bytes " value=\"") v (bytes "\"") (bytes "/>")
   where
     go : (m p v q r : List ℕ) → m ++ (p ++ v ++ q ++ []) ++ r ≡ (m ++ p) ++ v ++ (q ++ r)
     go m p v q r = simp (append-assoc, append-nil)
 
+pub bound-valued : (side : Side) (t : ℤ) → (boundText side (openAt t) ≡ valueText side (timestampText t)) × (boundText side (closedAt t) ≡ valueText side (timestampText t))
+unfolding boundText
+bound-valued side t = (value-text side (timestampText t), value-text side (timestampText t))
+
 bounds-text : (s : Interval) → nodesText (boundNodes s) ≡ boundText low (s .low) ++ boundText high (s .high)
-unfolding nodesText
+unfolding nodesText boundText
 bounds-text s = rw append-nil
 
 low-flag : (b : Bound) (more : List Attribute) → flatMap attributeText (flagOf low b ++ more) ≡ flagText low b ++ flatMap attributeText more
-unfolding flatMap
+unfolding flatMap flagText
 low-flag unbounded more = refl
 low-flag (openAt t) more = refl
 low-flag (closedAt t) more = refl
 
 flags-text : (s : Interval) → flatMap attributeText (termAttributes s) ≡ bytes " xsi:type=\"IVL_TS\"" ++ (flagText low (s .low) ++ flagText high (s .high))
-unfolding flatMap
+unfolding flatMap flagText
 flags-text s = ap (bytes " xsi:type=\"IVL_TS\"" ++_) (low-flag (s .low) (flagOf high (s .high)))
 
 assembled : (a b c d : List ℕ) → 60 ∷ bytes "term" ++ (bytes " xsi:type=\"IVL_TS\"" ++ (a ++ b)) ++ (62 ∷ (c ++ d) ++ bytes "</" ++ bytes "term" ++ 62 ∷ [])
@@ -66,6 +72,7 @@ assembled : (a b c d : List ℕ) → 60 ∷ bytes "term" ++ (bytes " xsi:type=\"
 assembled a b c d = simp append-assoc
 
 term-text : (s : Interval) → elementText (bytes "term") (termAttributes s) (boundNodes s) (nodesText (boundNodes s)) ≡ termText s
+unfolding termText tagText
 term-text s = rw (bounds-text s, flags-text s) (assembled (flagText low (s .low)) (flagText high (s .high)) (boundText low (s .low)) (boundText high (s .high)))
 
 terms-text : (ss : List Interval) → nodesText (termNodes ss) ≡ flatMap termText ss
@@ -105,29 +112,31 @@ highSize unbounded = 25
 highSize (openAt t) = 59
 highSize (closedAt t) = 58
 
-value-length : (side : Side) (v : List ℕ) → length (valueText side v) ≡ 12 + length (side .child) + length v
-value-length side v = simp length-append (omega arith)
-
-valued-length : (side : Side) (t : ℕ) → length (elementText (side .child) ((bytes "value" is timestampText (pos t)) ∷ []) end []) ≡ 36 + length (side .child)
-valued-length side t = omega (arith, ap length (bound-valued side (timestampText (pos t))), value-length side (timestampText (pos t)), timestamp-length t)
+valued-length : (side : Side) (t : ℕ) → length (valueText side (timestampText (pos t))) ≡ 36 + length (side .child)
+unfolding openingText
+valued-length side t = sum (side .child) (timestampText (pos t)) (timestamp-length t)
+  where
+    sum : (n v : List ℕ) → length v ≡ 24 → length (60 ∷ n ++ bytes " value=\"" ++ v ++ bytes "\"/>") ≡ 36 + length n
+    sum n v e = simp length-append (omega arith)
 
 pub low-length : (b : Bound) → isWritableBound b ≡ true → length (flagText low b) + length (boundText low b) ≡ lowSize b
-unfolding flatMap
-low-length unbounded h = refl
-low-length (openAt (pos t)) h = omega (arith, valued-length low t)
+unfolding flagText flatMap
+low-length unbounded h = unfold boundText in refl
+low-length (openAt (pos t)) h = omega (arith, ap length (bound-valued low (pos t) .0), valued-length low t)
 low-length (openAt (negsuc t)) h = clash (cc)
-low-length (closedAt (pos t)) h = omega (arith, valued-length low t)
+low-length (closedAt (pos t)) h = omega (arith, ap length (bound-valued low (pos t) .1), valued-length low t)
 low-length (closedAt (negsuc t)) h = clash (cc)
 
 pub high-length : (b : Bound) → isWritableBound b ≡ true → length (flagText high b) + length (boundText high b) ≡ highSize b
-unfolding flatMap
-high-length unbounded h = refl
-high-length (openAt (pos t)) h = omega (arith, valued-length high t)
+unfolding flagText flatMap
+high-length unbounded h = unfold boundText in refl
+high-length (openAt (pos t)) h = omega (arith, ap length (bound-valued high (pos t) .0), valued-length high t)
 high-length (openAt (negsuc t)) h = clash (cc)
-high-length (closedAt (pos t)) h = omega (arith, valued-length high t)
+high-length (closedAt (pos t)) h = omega (arith, ap length (bound-valued high (pos t) .1), valued-length high t)
 high-length (closedAt (negsuc t)) h = clash (cc)
 
 pub term-length : (s : Interval) → isWritableStretch s ≡ true → length (termText s) ≡ 31 + lowSize (s .low) + highSize (s .high)
+unfolding termText tagText
 term-length s h =
     let (a, b) = both-true (isWritableBound (s .low)) (isWritableBound (s .high)) h in
     omega (arith, sum (flagText low (s .low)) (flagText high (s .high)) (boundText low (s .low)) (boundText high (s .high)), low-length (s .low) a, high-length (s .high) b)

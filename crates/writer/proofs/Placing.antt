@@ -39,6 +39,10 @@ placed-length at (x ∷ new) old h =
 pub overwrite-placed : (old new : List ℕ) → overwrite old new ≡ placed 0 new old
 overwrite-placed old new = let e : 0 + length new ≡ length new = omega arith in rw e refl
 
+-- nothing is put
+pub put-none : (at : ℕ) (x : List ℕ) → at ≤ length x → Put at [] x at x
+put-none at x h = record { room = omega arith; next-is = omega arith; bytes-are = sym (placed-none at x) }
+
 -- one piece and then another are put as one
 pub put-both : {at r q : ℕ} {a b x y z : List ℕ} → Put at a x r y → Put r b y q z → Put at (a ++ b) x q z
 put-both {at} {r} {q} {a} {b} {x} {y} {z} p s =

@@ -1,5 +1,4 @@
 -- `printing::stamp::put_timestamp` meets its contract.
-use mathlib.Core.Path.{_∙_}
 use native.Mathlib.Omega.{arith}
 use Rattle.writer.proofs.Placing.{put-both}
 use Rattle.rules.proofs.Dates.{years-end}

@@ -1,0 +1,77 @@
+-- The pieces of a term, by the numbers of its bounds.
+use Prim.Native.Nat.{ℕ, zero, suc, _+_, _-_, _^_, _<_}
+use mathlib.Core.Path.{_≡_, refl, ap}
+use mathlib.Core.List.{List, _++_}
+use mathlib.Core.Bool.{Bool, true, false, cond}
+use native.Mathlib.Omega.{arith}
+use borrow.Author.Tests.{ltb-true, eqb-true, eqb-false}
+use lib.Dec.{ltb, eqb}
+use lib.ListN.{length, length-append}
+use lib.IntN.{ℤ, pos, negsuc}
+use Rattle.rules.specs.Basics.{bytes}
+use Rattle.rules.specs.Invariants.{Side, low, high}
+use Rattle.rules.specs.Sets.{Interval, _upto_}
+use Rattle.rules.specs.LentLists.{boundIn, signed}
+use Rattle.rules.specs.Dates.{yearsEnd, timestampText}
+use Rattle.rules.specs.Printing.{isWritableTick, isWritableBound, isWritableStretch}
+use Rattle.rules.proofs.Tests.{clash, both-true}
+use Rattle.rules.proofs.Pieces.{flagText, boundText, openingText, valueText, tagText, termText, bound-valued}
+use Rattle.printing.specs.Terms.{boundOf}
+
+-- a flag goes by the kind alone
+pub flag-any : (side : Side) (k t u : ℕ) → flagText side (boundOf k t) ≡ flagText side (boundOf k u)
+unfolding flagText
+flag-any side k t u = go (signed k) (signed t) (signed u)
+  where
+    go : (k t u : ℤ) → flagText side (boundIn k t) ≡ flagText side (boundIn k u)
+    go (pos zero) t u = refl
+    go (pos (suc zero)) t u = refl
+    go (pos (suc (suc k))) t u = refl
+    go (negsuc k) t u = refl
+
+-- a tick that can be written is one of years 0001 to 9999
+tick-written : (t : ℕ) → isWritableTick (signed t) ≡ true → (t < yearsEnd) × (signed t ≡ pos t)
+tick-written t h = go (ltb t (2 ^ 63)) refl h
+  where
+    go : (b : Bool) → ltb t (2 ^ 63) ≡ b → isWritableTick (cond b (pos t) (negsuc (2 ^ 64 - suc t))) ≡ true → (t < yearsEnd) × (cond b (pos t) (negsuc (2 ^ 64 - suc t)) ≡ pos t)
+    go true e h = (ltb-true t yearsEnd h, refl)
+    go false e h = clash (cc)
+
+-- the text of a bound that is not unbounded
+pub record Valued (side : Side) (k t : ℕ) : Type 0 where
+  pub small : t < yearsEnd
+  pub text : boundText side (boundOf k t) ≡ valueText side (timestampText (pos t))
+
+pub valued : (side : Side) (k t : ℕ) → (k ≡ 0 → ⊥) → k < 3 → isWritableBound (boundOf k t) ≡ true → Valued side k t
+valued side k t n l h = go (eqb k 1) refl
+  where
+    go : (b : Bool) → eqb k 1 ≡ b → Valued side k t
+    go true e =
+        let z : k ≡ 1 = eqb-true k 1 e in
+        let (s, p) = tick-written t (rw z at h) in
+        record { small = s; text = rw (z, p) (bound-valued side (pos t) .0) }
+    go false e =
+        let z : k ≡ 2 = omega (arith, eqb-false k 1 e) in
+        let (s, p) = tick-written t (rw z at h) in
+        record { small = s; text = rw (z, p) (bound-valued side (pos t) .1) }
+
+pub only-closed : (k : ℕ) → k < 3 → (k ≡ 0 → ⊥) → (k ≡ 1 → ⊥) → k ≡ 2
+only-closed k l a b = omega (arith, a, b)
+
+-- the lengths of a start tag and of a term
+pub tag-length : (l t h u : ℕ) → length (tagText (boundOf l t upto boundOf h u)) ≡ 24 + length (flagText low (boundOf l 0)) + length (flagText high (boundOf h 0))
+unfolding tagText
+tag-length l t h u = rw (flag-any low l t 0, flag-any high h u 0) (sum (flagText low (boundOf l 0)) (flagText high (boundOf h 0)))
+  where
+    sum : (a b : List ℕ) → length (bytes "<term xsi:type=\"IVL_TS\"" ++ a ++ b ++ bytes ">") ≡ 24 + length a + length b
+    sum a b = simp length-append (omega arith)
+
+pub term-sizes : (s : Interval) → length (termText s) ≡ length (tagText s) + length (boundText low (s .low)) + length (boundText high (s .high)) + 7
+unfolding termText
+term-sizes s = simp length-append
+
+pub opening-length : (side : Side) (v : List ℕ) → length (valueText side v) ≡ length (openingText side) + length v + 3
+opening-length side v = simp length-append
+
+pub bounds-writable : (s : Interval) → isWritableStretch s ≡ true → (isWritableBound (s .low) ≡ true) × (isWritableBound (s .high) ≡ true)
+bounds-writable s = both-true (isWritableBound (s .low)) (isWritableBound (s .high))
