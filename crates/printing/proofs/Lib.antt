@@ -1,3 +1,4 @@
 pub mod Dates
 pub mod Stamps
 pub mod Terms
+pub mod Records

@@ -1,10 +1,10 @@
 -- The pieces of a term, by the numbers of its bounds.
 use Prim.Native.Nat.{ℕ, zero, suc, _+_, _-_, _^_, _<_}
-use mathlib.Core.Path.{_≡_, refl, ap}
+use mathlib.Core.Path.{_≡_, refl, sym, _∙_, ap}
 use mathlib.Core.List.{List, _++_}
-use mathlib.Core.Bool.{Bool, true, false, cond}
+use mathlib.Core.Bool.{Bool, true, false, _||_, cond}
 use native.Mathlib.Omega.{arith}
-use borrow.Author.Tests.{ltb-true, eqb-true, eqb-false}
+use borrow.Author.Tests.{ltb-true, ltb-false, le-ltb, eqb-true, eqb-false}
 use lib.Dec.{ltb, eqb}
 use lib.ListN.{length, length-append}
 use lib.IntN.{ℤ, pos, negsuc}
@@ -15,7 +15,8 @@ use Rattle.rules.specs.LentLists.{boundIn, signed}
 use Rattle.rules.specs.Dates.{yearsEnd, timestampText}
 use Rattle.rules.specs.Printing.{isWritableTick, isWritableBound, isWritableStretch}
 use Rattle.rules.proofs.Tests.{clash, both-true}
-use Rattle.rules.proofs.Pieces.{flagText, boundText, openingText, valueText, tagText, termText, bound-valued}
+use Rattle.rules.proofs.Dates.{years-end}
+use Rattle.rules.proofs.Pieces.{lowSize, highSize, flagText, boundText, openingText, valueText, tagText, termText, bound-valued, term-length}
 use Rattle.printing.specs.Terms.{boundOf}
 
 -- a flag goes by the kind alone
@@ -75,3 +76,34 @@ opening-length side v = simp length-append
 
 pub bounds-writable : (s : Interval) → isWritableStretch s ≡ true → (isWritableBound (s .low) ≡ true) × (isWritableBound (s .high) ≡ true)
 bounds-writable s = both-true (isWritableBound (s .low)) (isWritableBound (s .high))
+
+-- a bound can be written if it is unbounded or its tick is in years 0001 to 9999
+pub writable-bound : (k t : ℕ) → k < 3 → (eqb k 0 || ltb t 3_155_378_976_000_000) ≡ isWritableBound (boundOf k t)
+writable-bound k t h = go (eqb k 0) (eqb k 1) refl refl
+  where
+    tick : ltb t 3_155_378_976_000_000 ≡ isWritableTick (signed t)
+    tick = inner (ltb t (2 ^ 63)) refl
+      where
+        inner : (b : Bool) → ltb t (2 ^ 63) ≡ b → ltb t 3_155_378_976_000_000 ≡ isWritableTick (cond b (pos t) (negsuc (2 ^ 64 - suc t)))
+        inner true e = ap (ltb t) (sym years-end)
+        inner false e = le-ltb t 3_155_378_976_000_000 (omega (arith, ltb-false t (2 ^ 63) e))
+
+    go : (a b : Bool) → eqb k 0 ≡ a → eqb k 1 ≡ b → (a || ltb t 3_155_378_976_000_000) ≡ isWritableBound (boundOf k t)
+    go true b e f = rw (eqb-true k 0 e) refl
+    go false true e f = rw (eqb-true k 1 f) tick
+    go false false e f = let z : k ≡ 2 = omega (arith, eqb-false k 0 e, eqb-false k 1 f) in rw z tick
+
+-- the size of a bound goes by the kind alone
+pub size-any : (k t u : ℕ) → (lowSize (boundOf k t) ≡ lowSize (boundOf k u)) × (highSize (boundOf k t) ≡ highSize (boundOf k u))
+size-any k t u = go (signed k) (signed t) (signed u)
+  where
+    go : (k t u : ℤ) → (lowSize (boundIn k t) ≡ lowSize (boundIn k u)) × (highSize (boundIn k t) ≡ highSize (boundIn k u))
+    go (pos zero) t u = (refl, refl)
+    go (pos (suc zero)) t u = (refl, refl)
+    go (pos (suc (suc k))) t u = (refl, refl)
+    go (negsuc k) t u = (refl, refl)
+
+-- the length of a term by the kinds of its bounds
+pub term-size : (l t h u : ℕ) → isWritableStretch (boundOf l t upto boundOf h u) ≡ true
+    → length (termText (boundOf l t upto boundOf h u)) ≡ 31 + lowSize (boundOf l 0) + highSize (boundOf h 0)
+term-size l t h u w = term-length (boundOf l t upto boundOf h u) w ∙ rw (size-any l t 0 .0, size-any h u 0 .1) refl

@@ -43,6 +43,10 @@ overwrite-placed old new = let e : 0 + length new ≡ length new = omega arith i
 pub put-none : (at : ℕ) (x : List ℕ) → at ≤ length x → Put at [] x at x
 put-none at x h = record { room = omega arith; next-is = omega arith; bytes-are = sym (placed-none at x) }
 
+-- after one piece, what is left to place
+pub put-rest : {at r : ℕ} {a x y : List ℕ} (b : List ℕ) → Put at a x r y → placed r b y ≡ placed at (a ++ b) x
+put-rest {at} {r} {a} {x} {y} b p = rw (p .bytes-are, p .next-is) (sym (placed-append at a b x (p .room)))
+
 -- one piece and then another are put as one
 pub put-both : {at r q : ℕ} {a b x y z : List ℕ} → Put at a x r y → Put r b y q z → Put at (a ++ b) x q z
 put-both {at} {r} {q} {a} {b} {x} {y} {z} p s =
@@ -51,7 +55,7 @@ put-both {at} {r} {q} {a} {b} {x} {y} {z} p s =
     record {
       room = omega (arith, p .next-is, s .room);
       next-is = omega (arith, p .next-is, s .next-is);
-      bytes-are = s .bytes-are ∙ rw (p .bytes-are, p .next-is) (sym (placed-append at a b x (p .room)));
+      bytes-are = s .bytes-are ∙ put-rest b p;
     }
 
 -- one more byte of a piece is stored, and none is left
