@@ -16,7 +16,8 @@ use Rattle.rules.specs.ComparisonPromise.{answerIn}
 use Rattle.rules.proofs.Opened.{opened}
 use Rattle.rules.proofs.Tests.{clash}
 use Rattle.rules.proofs.ListingPromise.{small}
-use Rattle.demands.specs.Demands.{Services, resultIn, Demands}
+use Rattle.demands.specs.Services.{Services, resultIn}
+use Rattle.demands.specs.Demands.{Demands}
 use Rattle.demands.proofs.Determined.{demands-determine}
 
 abbrev identifier : String

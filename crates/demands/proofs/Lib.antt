@@ -1,3 +1,5 @@
+pub mod Answers
+pub mod Printing
 pub mod Demands
 pub mod Determined
 pub mod Impostors
