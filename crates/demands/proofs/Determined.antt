@@ -24,7 +24,7 @@ use Rattle.rules.proofs.ListingPromise.{small}
 use Rattle.rules.proofs.PrintingCases.{unwritable, full, fitting, printing-case, unwritable-is}
 use Rattle.rules.proofs.ComparisonPromise.{Pair, alike, unlike, pair}
 use Rattle.demands.specs.Services.{Services, services, resultIn, Answers, accepts, refuses, Same}
-use Rattle.demands.specs.Printing.{Prints, PrintPromise}
+use Rattle.demands.specs.Printing.{Prints}
 use Rattle.demands.specs.Demands.{IsFirst, timeFaults, cutFaults, IsCut, Demands}
 use Rattle.demands.proofs.Demands.{demands-met}
 

@@ -1,8 +1,8 @@
 -- The services keep what request A1 asks of printing.
 use Prim.Native.Nat.{ℕ, zero, suc, _*_, _≤_, _<_}
-use mathlib.Core.Path.{_≡_, refl, sym, _∙_, ap, subst}
+use mathlib.Core.Path.{_≡_, refl, _∙_, subst}
 use mathlib.Core.Logic.{_⊎_, inl, inr, _↔_}
-use mathlib.Core.Bool.{Bool, true, false, not, _||_}
+use mathlib.Core.Bool.{true, false}
 use mathlib.Core.List.{List, [], _∷_, flatMap}
 use native.Mathlib.Omega.{arith}
 use lib.ListN.{length, take, drop, replicate}
@@ -12,9 +12,9 @@ use Rattle.rules.specs.Basics.{exists, every}
 use Rattle.rules.specs.Refusal.{Refusal, NOT-WRITABLE, NO-ROOM, number, Outcome, answered, refused}
 use Rattle.rules.specs.Check.{isOffset}
 use Rattle.rules.specs.Sets.{openAt, Interval, _upto_}
-use Rattle.rules.specs.LentLists.{isByte, isImproperList, listed}
+use Rattle.rules.specs.LentLists.{isImproperList, listed}
 use Rattle.rules.specs.Listing.{listNumbers}
-use Rattle.rules.specs.Services.{packed, eightBytes, roomOf, listing, listAnswer, listAfter}
+use Rattle.rules.specs.Services.{eightBytes, roomOf, listing, listAnswer, listAfter}
 use Rattle.rules.specs.Printing.{recordText, isWritableStretch, isUnwritable, printing, printAnswer, printAfter}
 use Rattle.rules.specs.ListingPromise.{numberIn}
 use Rattle.rules.proofs.Opened.{opened}
