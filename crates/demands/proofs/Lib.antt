@@ -1,4 +1,5 @@
 pub mod Answers
+pub mod RecordLayout
 pub mod Printing
 pub mod Demands
 pub mod Determined

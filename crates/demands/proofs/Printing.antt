@@ -1,30 +1,35 @@
 -- The services keep what request A1 asks of printing.
-use Prim.Native.Nat.{ℕ, zero, suc, _*_, _≤_, _<_}
-use mathlib.Core.Path.{_≡_, refl, _∙_, subst}
+use Prim.Native.Nat.{ℕ, zero, suc, _+_, _*_, _^_, _≤_, _<_}
+use mathlib.Core.Path.{_≡_, refl, _∙_, ap, subst}
 use mathlib.Core.Logic.{_⊎_, inl, inr, _↔_}
 use mathlib.Core.Bool.{true, false}
 use mathlib.Core.List.{List, [], _∷_, flatMap}
 use native.Mathlib.Omega.{arith}
+use borrow.Author.Tests.{ltb-true, le-ltb}
+use lib.Dec.{ltb}
 use lib.ListN.{length, take, drop, replicate}
 use lib.Seq.{take-at}
-use lib.IntN.{ℤ, pos}
+use lib.IntN.{ℤ, pos, negsuc}
 use Rattle.rules.specs.Basics.{exists, every}
 use Rattle.rules.specs.Refusal.{Refusal, NOT-WRITABLE, NO-ROOM, number, Outcome, answered, refused}
+use Rattle.rules.specs.Timestamp.{beforeStart}
 use Rattle.rules.specs.Check.{isOffset}
 use Rattle.rules.specs.Sets.{openAt, Interval, _upto_}
 use Rattle.rules.specs.LentLists.{isImproperList, listed}
 use Rattle.rules.specs.Listing.{listNumbers}
-use Rattle.rules.specs.Services.{eightBytes, roomOf, listing, listAnswer, listAfter}
-use Rattle.rules.specs.Printing.{recordText, isWritableStretch, isUnwritable, printing, printAnswer, printAfter}
+use Rattle.rules.specs.Services.{eightBytes, roomOf, listing, listAnswer, listAfter, tickAnswer, tickAfter}
+use Rattle.rules.specs.Dates.{yearsEnd, timestampText}
+use Rattle.rules.specs.Printing.{recordText, isWritableTick, isWritableStretch, isUnwritable, printing, printAnswer, printAfter}
 use Rattle.rules.specs.ListingPromise.{numberIn}
 use Rattle.rules.proofs.Opened.{opened}
 use Rattle.rules.proofs.Tests.{clash}
 use Rattle.rules.proofs.Printing.{record-accepted, record-short}
-use Rattle.rules.proofs.PrintingCases.{is-printable, list-bytes, listed-length, listed-back, listing-proper, written-bytes, unwritable, full, fitting, printing-case, unwritable-is, printing-unwritable, printing-no-room, printing-answered}
+use Rattle.rules.proofs.PrintingCases.{is-printable, list-bytes, listed-length, listed-back, timing-of-tick, listing-proper, written-bytes, unwritable, full, fitting, printing-case, unwritable-is, printing-unwritable, printing-no-room, printing-answered}
 use Rattle.rules.proofs.ListingPromise.{low-bits, count-bits, list-length, overwrite-begins, overwrite-rest}
 use Rattle.demands.specs.Services.{services, resultIn, isAmong, Answers, accepts, refuses}
 use Rattle.demands.specs.Printing.{emptyStay, Prints, ReadsBack, IsProperList, PrintPromise}
 use Rattle.demands.proofs.Answers.{packed-refused, packed-accepted}
+use Rattle.demands.proofs.RecordLayout.{layout}
 
 -- answers of printing, case by case
 module _ (list record′ : List ℕ) where
@@ -98,7 +103,7 @@ module _ (list : List ℕ) (w : isUnwritable list ≡ false) (offset : ℤ) (o :
         checked = rw (record-accepted (listed list) (is-printable list w) offset o) refl;
         accepted = rw h (count-bits (length (listed list)) .0);
         as-many = rw h (omega (arith, count-bits (length (listed list)), listed-length list w));
-        same = λ b. rw (h, list-bytes list w b) (overwrite-begins lent list (length list) refl l);
+        begins = λ b. rw (h, list-bytes list w b) (overwrite-begins lent list (length list) refl l);
         unchanged = rw h (overwrite-rest lent (flatMap eightBytes (listNumbers (listed list))) (length list) (list-length (listed list) ∙ listed-length list w) l);
       }
 
@@ -119,7 +124,7 @@ module _ (offset : ℤ) (record′ list : List ℕ) where
       rw (h, count-bits (length ss) .1, take-at n (drop (length n) list) (32 * length ss) (list-length ss)) (record {
         proper = p;
         are-bytes = written-bytes (listNumbers ss);
-        not-writable = λ lent. (λ e. elim (not-writable n lent .0 e) [ inl f ↦ clash (cc) | inr f ↦ f ], λ f. not-writable n lent .1 (inr f));
+        outside = λ lent. (λ e. elim (not-writable n lent .0 e) [ inl f ↦ clash (cc) | inr f ↦ f ], λ f. not-writable n lent .1 (inr f));
       })
 
   listed-proper : numberIn (listAnswer offset record′ list) ≡ 0 → IsProperList services (take (32 * resultIn (listAnswer offset record′ list)) (listAfter offset record′ list))
@@ -146,14 +151,25 @@ no-stretch : (record′ : List ℕ) → length emptyStay ≤ length record′ �
 no-stretch record′ l =
     subst (λ text. Prints text (printAnswer [] record′) record′ (printAfter [] record′)) (empty .1) (prints [] record′ (empty .0) (rw (empty .1) l))
 
+-- a tick as a full timestamp
+full-timestamp : (offset tick before : ℤ) → isOffset offset ≡ true → isWritableTick tick ≡ true
+    → (tickAnswer offset (timestampText tick) ≡ 18 * 2 ^ 8) × (tickAfter offset (timestampText tick) before ≡ tick)
+full-timestamp offset (pos t) before o h =
+    let e = timing-of-tick offset t o (ltb-true t yearsEnd h) in
+    let l : ltb (t + beforeStart) beforeStart ≡ false = le-ltb (t + beforeStart) beforeStart (omega arith) in
+    (rw e refl, rw (e, l) (ap pos (omega arith)))
+full-timestamp offset (negsuc t) before o h = clash (cc)
+
 pub print-promise : PrintPromise services
 print-promise = record {
-  not-writable = not-writable;
-  no-room = no-room;
-  printed = prints;
+  listed-proper = listed-proper;
+  layout = layout;
+  full-timestamp = full-timestamp;
   no-stretch = no-stretch;
   read-back = read-back;
-  listed-proper = listed-proper;
+  printed = prints;
+  not-writable = not-writable;
+  no-room = no-room;
   at-most = at-most;
   reached = (longest, replicate 4_735 0, reached);
 }

@@ -1,5 +1,5 @@
 -- The answers of printing, case by case; and what listing gives is proper.
-use Prim.Native.Nat.{ℕ, zero, suc, _-_, _*_, _/_, _%_, _^_, _≤_, _<_}
+use Prim.Native.Nat.{ℕ, zero, suc, _+_, _-_, _*_, _/_, _%_, _^_, _≤_, _<_}
 use mathlib.Core.Path.{_≡_, refl, sym, _∙_, ap}
 use mathlib.Core.Logic.{_⊎_, inl, inr, _↔_}
 use mathlib.Core.Bool.{Bool, true, false, not, _||_}
@@ -8,20 +8,24 @@ use native.Mathlib.Omega.{arith}
 use native.Mathlib.Decide.{decLe}
 use borrow.Author.Tests.{lt-ltb, le-ltb, eqb-true, not-false}
 use lib.Dec.{ltb, eqb}
-use lib.ListN.{length}
+use lib.ListN.{length, length-append}
 use lib.IntN.{ℤ, pos, negsuc}
 use Rattle.rules.specs.Basics.{every}
 use Rattle.rules.specs.Refusal.{NOT-WRITABLE, NO-ROOM, rankIn, firstOf, answered, refused, _unless_, _when_}
 use Rattle.rules.specs.Markup.{Element}
+use Rattle.rules.specs.Timestamp.{beforeStart}
 use Rattle.rules.specs.Check.{isOffset, shiftBy}
 use Rattle.rules.specs.Sets.{Interval, Expression}
 use Rattle.rules.specs.Stretches.{stretches}
 use Rattle.rules.specs.Listing.{setOf, listNumbers}
-use Rattle.rules.specs.Services.{lowBytes, eightBytes, roomOf, listing}
+use Rattle.rules.specs.Services.{lowBytes, eightBytes, roomOf, listing, timing}
 use Rattle.rules.specs.ListingPromise.{fits, IsSetOfTimes}
 use Rattle.rules.specs.LentLists.{isByte, numbersIn, isImproper, isImproperList, listed}
+use Rattle.rules.specs.Dates.{yearsEnd, dateText, clockText, timestampText}
 use Rattle.rules.specs.Printing.{recordText, isWritableStretch, isUnwritable, printing}
 use Rattle.rules.proofs.Tests.{clash, neither, every-append}
+use Rattle.rules.proofs.Digits.{digitsOf-length}
+use Rattle.rules.proofs.Dates.{timestamp-of-tick}
 use Rattle.rules.proofs.Ticks.{shiftBy-most}
 use Rattle.rules.proofs.Canonical.{Canonical}
 use Rattle.rules.proofs.Drawing.{stretches-canonical}
@@ -64,6 +68,16 @@ module _ (list : List ℕ) (w : isUnwritable list ≡ false) where
   pub listed-back : (offset : ℤ) (lent : List ℕ) → isOffset offset ≡ true → length list ≤ length lent
       → listing offset (roomOf lent) (recordText (listed list)) ≡ answered (listed list)
   listed-back offset lent o l = record-listed (listed list) is-printable offset (roomOf lent) o (omega (arith, listed-length))
+
+-- the timestamp service reads a printed timestamp as its tick
+timestamp-size : (t : ℕ) → length (timestampText (pos t)) ≡ 24
+unfolding dateText clockText
+timestamp-size t = simp (length-append, digitsOf-length)
+
+pub timing-of-tick : (offset : ℤ) (t : ℕ) → isOffset offset ≡ true → t < yearsEnd
+    → timing offset (timestampText (pos t)) ≡ answered (record { start = t + beforeStart; precision = 18; next = t + beforeStart + 1 })
+unfolding timing firstOf
+timing-of-tick offset t o l = rw (timestamp-of-tick (shiftBy offset) t l, o, le-ltb 16_384 (length (timestampText (pos t))) (omega (arith, timestamp-size t)))
 
 -- what listing gives
 pub listing-gives : (offset : ℤ) (room : ℕ) (input : List ℕ) (ss : List Interval) → listing offset room input ≡ answered ss
