@@ -130,7 +130,7 @@ module _ (offset : ℤ) (record′ list : List ℕ) where
   listed-proper : numberIn (listAnswer offset record′ list) ≡ 0 → IsProperList services (take (32 * resultIn (listAnswer offset record′ list)) (listAfter offset record′ list))
   listed-proper e = let (ss, h) = packed-accepted length (listing offset (roomOf list) record′) e in wrote ss h
 
--- the lowest stretches between ticks that are neighbours, both bounds open
+-- stretches from a tick on, each between it and the next, both bounds open
 between : (count tick : ℕ) → List Interval
 between zero t = []
 between (suc n) t = openAt (pos t) upto openAt (pos (suc t)) ∷ between n (suc t)
@@ -138,7 +138,7 @@ between (suc n) t = openAt (pos t) upto openAt (pos (suc t)) ∷ between n (suc 
 abbrev longest : List ℕ
 longest = flatMap eightBytes (listNumbers (between 32 0))
 
--- the lowest 32 of them fill a record of 4,735 bytes
+-- 32 of them fill a record of 4,735 bytes
 reached : resultIn (printAnswer longest (replicate 4_735 0)) ≡ 4_735
 unfolding opened between
 reached = refl
