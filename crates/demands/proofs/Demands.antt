@@ -1,6 +1,6 @@
 -- The services meet the user's demands.
-use Prim.Native.Nat.{ℕ, zero, suc, _-_, _/_, _^_, _≤_, _<_}
-use mathlib.Core.Path.{_≡_, refl, sym, _∙_, ap, subst}
+use Prim.Native.Nat.{ℕ, _≤_}
+use mathlib.Core.Path.{_≡_, refl, sym, subst}
 use mathlib.Core.Logic.{_⊎_, inl, inr, _↔_}
 use mathlib.Core.Bool.{Bool, true, not}
 use mathlib.Core.List.{List, [], _∷_, _++_, append-eq-nil-iff}
@@ -8,78 +8,54 @@ use mathlib.Core.Option.{Option, none, some}
 use native.Mathlib.Decide.{decLe}
 use native.Mathlib.Omega.{arith}
 use lib.ListN.{length}
-use lib.IntN.{ℤ, pos, negsuc}
-use borrow.Author.Tests.{ltb-true, le-ltb}
+use lib.IntN.{ℤ}
 use Rattle.rules.specs.Basics.{exists}
-use Rattle.rules.specs.Refusal.{Refusal, OFFSET, TOO-LONG, NOT-UTF-8, MARKUP, TYPE, SHAPE, VALUE, RULE, UNKNOWN-BOUND, TOO-MANY, NO-ROOM, number, precedence, firstOf, Outcome, answered, refused, faultsOf, _unless_, _when_}
+use Rattle.rules.specs.Refusal.{Refusal, OFFSET, TOO-LONG, NOT-UTF-8, MARKUP, TYPE, SHAPE, VALUE, RULE, UNKNOWN-BOUND, TOO-MANY, NOT-WRITABLE, NO-ROOM, number, rankIn, rank, firstOf, Outcome, answered, refused, faultsOf, _when_}
 use Rattle.rules.specs.Utf8.{isUtf8, cutLength}
 use Rattle.rules.specs.Markup.{Element}
 use Rattle.rules.specs.Timestamp.{Moment, readTimestamp, tickOf}
 use Rattle.rules.specs.Check.{isOffset, shiftBy, isTooLong, recordFaults, check}
 use Rattle.rules.specs.Comparison.{Comparer, comparerFor, orUnknown}
-use Rattle.rules.specs.Services.{packed, lowBytes, eightBytes, roomOf, checkAnswer, compareChecked, comparedNumber, compareAnswer, timing, tickAnswer, tickAfter, cutting, cutAnswer}
-use Rattle.rules.specs.ListingPromise.{numberIn, fits, Refuses, ListingPromise}
+use Rattle.rules.specs.Services.{packed, roomOf, checkAnswer, compareChecked, comparedNumber, compareAnswer, timing, tickAnswer, tickAfter, cutting, cutAnswer}
+use Rattle.rules.specs.ListingPromise.{numberIn, Refuses, ListingPromise}
 use Rattle.rules.proofs.Tests.{clash}
 use Rattle.rules.proofs.Precedence.{number-injective, first-is, no-fault, unless-answered, unless-refused, check-refused, check-answered}
 use Rattle.rules.proofs.CheckRefusals.{Pass, none-left, pass-append, pass-when, first-passes, check-refusals}
 use Rattle.rules.proofs.Ticks.{read-or-value, precision-range}
 use Rattle.rules.proofs.Utf8.{cut-whole, cut-fits, cut-longest}
-use Rattle.rules.proofs.ListingCases.{faulty, other-type, unclear, many, a-set, case}
-use Rattle.rules.proofs.ListingPromise.{small, low-bits, count-bits, listing-promise}
+use Rattle.rules.proofs.ListingCases.{faulty-early, faulty, other-type, unclear, many, a-set, case}
+use Rattle.rules.proofs.ListingPromise.{count-bits, listing-promise}
+use Rattle.rules.proofs.LentLists.{signed-eight}
 use Rattle.rules.proofs.ComparedRecords.{says as says-answer, comparison-of}
 use Rattle.rules.proofs.ComparisonPromise.{names-first, names-second, comparison-promise}
-use Rattle.demands.specs.Demands.{services, resultIn, isAmong, Answers, accepts, refuses, Compares, says, names, recordRefusals, IsFirst, timeFaults, cutFaults, IsCut, valueOf, signedOf, Demands}
+use Rattle.demands.specs.Services.{services, resultIn, isAmong, Answers, accepts, refuses, Compares, says, names}
+use Rattle.demands.specs.Demands.{recordRefusals, listRefusals, IsFirst, timeFaults, cutFaults, IsCut, Demands}
+use Rattle.demands.proofs.Answers.{packed-refused, packed-accepted, packed-answers}
+use Rattle.demands.proofs.Printing.{print-answers, print-promise}
 
 iff-trans : {A B C : Type 0} → (A ↔ B) → (B ↔ C) → A ↔ C
 iff-trans f g = (λ a. g .0 (f .0 a), λ c. f .1 (g .1 c))
 
--- the number and the result of a packed answer
-module _ {A : Type 0} (result : A → ℕ) where
-  packed-refused : (o : Outcome A) (r : Refusal) → numberIn (packed result o) ≡ number r ↔ o ≡ refused r
-  packed-refused (answered a) r = (λ e. clash (omega (arith, small r, count-bits (result a), e)), λ e. clash (cc))
-  packed-refused (refused q) r = (λ e. ap refused (number-injective q r (sym (low-bits q .0) ∙ e)), λ e. let z : q ≡ r = cc in rw z (low-bits r .0))
-
-  packed-accepted : (o : Outcome A) → numberIn (packed result o) ≡ 0 → (a : A) × (o ≡ answered a)
-  packed-accepted (answered a) e = (a, refl)
-  packed-accepted (refused r) e = clash (omega (arith, small r, low-bits r, e))
-
-  packed-answers : {may : List Refusal} {Result : ℕ → Type 0} {Kept : Type 0} (o : Outcome A) → ((a : A) → o ≡ answered a → Result (result a))
-      → ((r : Refusal) → o ≡ refused r → (isAmong may r ≡ true) × Kept) → Answers may Result Kept (packed result o)
-  packed-answers {Result = Result} (answered a) f g = accepts (count-bits (result a) .0) (subst Result (sym (count-bits (result a) .1)) (f a refl))
-  packed-answers (refused r) f g = refuses r (g r refl .0) (low-bits r .0) (low-bits r .1) (g r refl .1)
-
-all-among : (r : Refusal) → isAmong precedence r ≡ true
-unfolding exists
-all-among OFFSET = refl
-all-among TOO-LONG = refl
-all-among NOT-UTF-8 = refl
-all-among MARKUP = refl
-all-among TYPE = refl
-all-among SHAPE = refl
-all-among VALUE = refl
-all-among RULE = refl
-all-among UNKNOWN-BOUND = refl
-all-among TOO-MANY = refl
-all-among NO-ROOM = refl
-
-record-among : (r : Refusal) → number r ≤ 8 → isAmong recordRefusals r ≡ true
-unfolding exists
-record-among OFFSET h = refl
-record-among TOO-LONG h = refl
-record-among NOT-UTF-8 h = refl
-record-among MARKUP h = refl
-record-among TYPE h = refl
-record-among SHAPE h = refl
-record-among VALUE h = refl
-record-among RULE h = refl
-record-among UNKNOWN-BOUND h = clash (omega arith)
-record-among TOO-MANY h = clash (omega arith)
-record-among NO-ROOM h = clash (omega arith)
+-- what stands up to RULE on the ladder may be given by checking and by listing
+early-among : (r : Refusal) → rank r ≤ rank RULE → (isAmong recordRefusals r ≡ true) × (isAmong listRefusals r ≡ true)
+unfolding exists rankIn
+early-among OFFSET h = (refl, refl)
+early-among TOO-LONG h = (refl, refl)
+early-among NOT-UTF-8 h = (refl, refl)
+early-among MARKUP h = (refl, refl)
+early-among TYPE h = (refl, refl)
+early-among SHAPE h = (refl, refl)
+early-among VALUE h = (refl, refl)
+early-among RULE h = (refl, refl)
+early-among UNKNOWN-BOUND h = clash (omega arith)
+early-among TOO-MANY h = clash (omega arith)
+early-among NOT-WRITABLE h = clash (omega arith)
+early-among NO-ROOM h = clash (omega arith)
 
 -- checking
 module _ (offset : ℤ) (input : List ℕ) where
   among-checked : (r : Refusal) → check offset input ≡ refused r → isAmong recordRefusals r ≡ true
-  among-checked r e = record-among r (check-refusals offset input e)
+  among-checked r e = early-among r (check-refusals offset input e .0) .0
 
   check-answers : Answers recordRefusals (λ n. n ≡ 0) (Unit {0}) (checkAnswer offset input)
   check-answers = packed-answers (λ e. 0) (check offset input) (λ e h. refl) (λ r h. (among-checked r h, tt))
@@ -116,22 +92,23 @@ module _ (offset : ℤ) (first second : List ℕ) where
 -- listing
 module _ (offset : ℤ) (input list : List ℕ) {answer : ℕ} {after : List ℕ} (p : ListingPromise offset input answer list after) where
   abbrev ListAnswers : Type 0
-  ListAnswers = Answers precedence (λ n. n ≤ 32) (after ≡ list) answer
+  ListAnswers = Answers listRefusals (λ n. n ≤ 32) (after ≡ list) answer
 
-  by-refusal : {r : Refusal} → Refuses offset input answer list after r → ListAnswers
-  by-refusal {r} h = refuses r (all-among r) (h .number-given) (h .no-count) (h .unchanged)
+  by-refusal : {r : Refusal} → isAmong listRefusals r ≡ true → Refuses offset input answer list after r → ListAnswers
+  by-refusal {r} may h = refuses r may (h .number-given) (h .no-count) (h .unchanged)
 
   list-answers : ListAnswers
+  unfolding exists
   list-answers = elim (case offset input) [
-    | faulty r q c f ↦ by-refusal (p .faulty r q c f)
-    | other-type e c l ↦ by-refusal (p .other-type e c l)
-    | unclear e c l u ↦ by-refusal (p .unknown-bound .1 (e, c, l, u))
-    | many e c l u m ↦ by-refusal (p .too-many .1 (e, c, l, u, m))
+    | faulty r q c f ↦ by-refusal (early-among q (faulty-early offset (roomOf list) input r c f) .1) (p .faulty r q c f)
+    | other-type e c l ↦ by-refusal refl (p .other-type e c l)
+    | unclear e c l u ↦ by-refusal refl (p .unknown-bound .1 (e, c, l, u))
+    | many e c l u m ↦ by-refusal refl (p .too-many .1 (e, c, l, u, m))
     | a-set e h ↦
         let s = p .sets e h in
         elim (decLe (length (s .stretches)) (roomOf list)) [
           | yes l ↦ accepts (s .room l .number-given) (omega (arith, s .room l .count, s .at-most, h .few))
-          | no l ↦ by-refusal (s .no-room .1 (omega arith))
+          | no l ↦ by-refusal refl (s .no-room .1 (omega arith))
         ]
   ]
 
@@ -204,19 +181,6 @@ module _ (text : List ℕ) (room : ℕ) where
   cut-first : (r : Refusal) → numberIn (cutAnswer text room) ≡ number r ↔ IsFirst r (cutFaults text)
   cut-first r = iff-trans (packed-refused (λ n. n) (cutting text room) r) (iff-trans (cutting-refused r) (first-is (cutFaults text) r))
 
--- the bytes of a number
-value-of : (n k : ℕ) → k < 256 ^ n → valueOf (lowBytes n k) ≡ k
-unfolding valueOf lowBytes
-value-of zero k l = omega arith
-value-of (suc n) k l = omega (arith, value-of n (k / 256) (omega arith))
-
-read-back : (z : ℤ) → fits z ≡ true → signedOf (eightBytes z) ≡ z
-read-back (pos n) e = let l = ltb-true n (2 ^ 63) e in rw (value-of 8 n (omega arith), e)
-read-back (negsuc n) e =
-    let l = ltb-true n (2 ^ 63) e in
-    let z : 2 ^ 64 - 1 - (2 ^ 64 - suc n) ≡ n = omega arith in
-    rw (value-of 8 (2 ^ 64 - suc n) (omega arith), le-ltb (2 ^ 64 - suc n) (2 ^ 63) (omega arith), z)
-
 pub demands-met : Demands services
 demands-met = record {
   one = record {
@@ -227,6 +191,7 @@ demands-met = record {
     list-answers = λ offset input list. list-answers offset input list (listing-promise offset input list);
     tick-answers = tick-answers;
     cut-answers = cut-answers;
+    print-answers = print-answers;
   };
   two = record {
     accepted = check-accepted;
@@ -238,5 +203,6 @@ demands-met = record {
     cut = cut;
     cut-refused = cut-first;
   };
-  three = record { read-back = read-back; listing-promise = listing-promise };
+  three = record { read-back = signed-eight; listing-promise = listing-promise };
+  print = print-promise;
 }

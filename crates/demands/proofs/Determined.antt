@@ -8,7 +8,7 @@ use native.Mathlib.Decide.{decLe}
 use native.Mathlib.Omega.{arith}
 use lib.ListN.{length, take-append-drop}
 use lib.IntN.{ℤ, pos}
-use Rattle.rules.specs.Refusal.{Refusal, number, firstOf, Outcome, answered, refused, faultsOf}
+use Rattle.rules.specs.Refusal.{Refusal, NOT-WRITABLE, NO-ROOM, number, firstOf, Outcome, answered, refused, faultsOf}
 use Rattle.rules.specs.Markup.{Element}
 use Rattle.rules.specs.Timestamp.{Moment, readTimestamp}
 use Rattle.rules.specs.Check.{shiftBy, recordFaults, check}
@@ -21,8 +21,11 @@ use Rattle.rules.proofs.Tests.{clash}
 use Rattle.rules.proofs.Precedence.{first-is, no-fault}
 use Rattle.rules.proofs.ListingCases.{faulty, other-type, unclear, many, a-set, case}
 use Rattle.rules.proofs.ListingPromise.{small}
+use Rattle.rules.proofs.PrintingCases.{unwritable, full, fitting, printing-case, unwritable-is}
 use Rattle.rules.proofs.ComparisonPromise.{Pair, alike, unlike, pair}
-use Rattle.demands.specs.Demands.{Services, services, resultIn, Answers, accepts, refuses, IsFirst, timeFaults, cutFaults, IsCut, Demands, Same}
+use Rattle.demands.specs.Services.{Services, services, resultIn, Answers, accepts, refuses, Same}
+use Rattle.demands.specs.Printing.{Prints}
+use Rattle.demands.specs.Demands.{IsFirst, timeFaults, cutFaults, IsCut, Demands}
 use Rattle.demands.proofs.Demands.{demands-met}
 
 same-answer : {a b : ℕ} → numberIn a ≡ numberIn b → resultIn a ≡ resultIn b → a ≡ b
@@ -97,6 +100,20 @@ module _ (offset : ℤ) (input before : List ℕ) {a b : ℕ} {x y : List ℕ} w
     | a-set e h ↦ same-set (p .sets e h) (q .sets e h)
   ]
 
+-- the two records afterwards, and the two answers
+module _ {before : List ℕ} {a b : ℕ} {x y : List ℕ} where
+  same-refused : {may : List Refusal} {R : ℕ → Type 0} (r : Refusal) → numberIn a ≡ number r → numberIn b ≡ number r
+      → Answers may R (x ≡ before) a → Answers may R (y ≡ before) b → (a ≡ b) × (x ≡ y)
+  same-refused r e f (accepts g h) i = clash (omega (arith, small r))
+  same-refused r e f (refuses q m g h k) (accepts i j) = clash (omega (arith, small r))
+  same-refused r e f (refuses q m g h k) (refuses u n i j l) = (same-answer (e ∙ sym f) (h ∙ sym j), k ∙ sym l)
+
+  same-printed : {text : List ℕ} → Prints text a before x → Prints text b before y → (a ≡ b) × (x ≡ y)
+  same-printed {text} h i = (
+    same-answer (h .accepted ∙ sym (i .accepted)) (h .length-given ∙ sym (i .length-given)),
+    sym (take-append-drop (length text) x) ∙ rw (h .begins ∙ sym (i .begins), h .unchanged ∙ sym (i .unchanged)) (take-append-drop (length text) y),
+  )
+
 module _ {s t : Services} (p : Demands s) (q : Demands t) where
   same-check : (offset : ℤ) (input : List ℕ) → s .check-says offset input ≡ t .check-says offset input
   same-check offset input =
@@ -161,6 +178,19 @@ module _ {s t : Services} (p : Demands s) (q : Demands t) where
       longest : {m n : ℕ} → IsCut text room m → IsCut text room n → m ≡ n
       longest {m} {n} a b = omega (arith, a .most n (b .within) (b .fits) (b .whole), b .most m (a .within) (a .fits) (a .whole))
 
+  -- by the case that a list and a lent record are
+  same-print : (list record′ : List ℕ) → (s .print-says list record′ ≡ t .print-says list record′) × (s .print-leaves list record′ ≡ t .print-leaves list record′)
+  same-print list record′ =
+      let a = p .one .print-answers list record′ in
+      let b = q .one .print-answers list record′ in
+      elim (printing-case list (length record′)) [
+        | unwritable h ↦
+            let w = unwritable-is list .0 h in
+            same-refused NOT-WRITABLE (p .print .not-writable list record′ .1 w) (q .print .not-writable list record′ .1 w) a b
+        | full w l ↦ same-refused NO-ROOM (p .print .no-room list record′ .1 (w, l)) (q .print .no-room list record′ .1 (w, l)) a b
+        | fitting w l ↦ same-printed (p .print .printed list record′ w l) (q .print .printed list record′ w l)
+      ]
+
   same : Same s t
   same = record {
     same-check = same-check;
@@ -170,6 +200,8 @@ module _ {s t : Services} (p : Demands s) (q : Demands t) where
     same-tick = λ offset text. same-tick offset text (pos 0);
     same-tick-left = same-tick-left;
     same-cut = same-cut;
+    same-print = λ list record′. same-print list record′ .0;
+    same-print-left = λ list record′. same-print list record′ .1;
   }
 
 pub demands-determine : (s : Services) → Demands s → Same s services

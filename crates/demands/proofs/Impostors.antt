@@ -1,22 +1,27 @@
--- The impostors that the rules page names ("What a contract here has to say"): none of them meets the demands.
-use Prim.Native.Nat.{ℕ, _≤_}
+-- The impostors that the rules page names ("What a contract here has to say"), and some that print: none of them meets the demands.
+use Prim.Native.Nat.{ℕ, _*_, _^_, _≤_}
 use Prim.Native.String.{String}
-use mathlib.Core.Path.{_≡_, sym, _∙_, ap}
-use mathlib.Core.List.{List, _++_}
+use mathlib.Core.Path.{_≡_, refl, sym, _∙_, ap}
+use mathlib.Core.Bool.{Bool, true, false, _||_}
+use mathlib.Core.List.{List, [], _∷_, _++_, flatMap}
 use native.Mathlib.Omega.{arith}
+use lib.Dec.{eqb}
 use lib.ListN.{length, replicate}
 use lib.IntN.{ℤ, pos}
-use Rattle.rules.specs.Basics.{bytes}
-use Rattle.rules.specs.Refusal.{Refusal, number}
+use Rattle.rules.specs.Basics.{exists, bytes}
+use Rattle.rules.specs.Refusal.{Refusal, NO-ROOM, number}
 use Rattle.rules.specs.Markup.{Element}
 use Rattle.rules.specs.Comparison.{Unknown}
-use Rattle.rules.specs.Services.{roomOf, answerNumber}
+use Rattle.rules.specs.Sets.{Interval}
+use Rattle.rules.specs.LentLists.{isUnbounded, listed}
+use Rattle.rules.specs.Services.{eightBytes, roomOf, answerNumber}
 use Rattle.rules.specs.ListingPromise.{numberIn, IsSetOfTimes}
 use Rattle.rules.specs.ComparisonPromise.{answerIn}
 use Rattle.rules.proofs.Opened.{opened}
 use Rattle.rules.proofs.Tests.{clash}
 use Rattle.rules.proofs.ListingPromise.{small}
-use Rattle.demands.specs.Demands.{Services, resultIn, Demands}
+use Rattle.demands.specs.Services.{Services, resultIn, accepts, refuses}
+use Rattle.demands.specs.Demands.{Demands}
 use Rattle.demands.proofs.Determined.{demands-determine}
 
 abbrev identifier : String
@@ -31,6 +36,16 @@ before-2024 = bytes "<term xsi:type=\"IVL_TS\" highClosed=\"false\"><low nullFla
 
 abbrev from-2025 : List ℕ
 from-2025 = bytes "<term xsi:type=\"IVL_TS\" lowClosed=\"true\"><low value=\"2025\"/><high nullFlavor=\"PINF\"/></term>"
+
+-- lists of one stretch: all before tick 3, and all after it
+abbrev before-3 : List ℕ
+before-3 = flatMap eightBytes (pos 0 ∷ pos 0 ∷ pos 1 ∷ pos 3 ∷ [])
+
+abbrev after-3 : List ℕ
+after-3 = flatMap eightBytes (pos 1 ∷ pos 3 ∷ pos 0 ∷ pos 0 ∷ [])
+
+abbrev hasUnboundedEnd : Interval → Bool
+hasUnboundedEnd v = isUnbounded (v .low) || isUnbounded (v .high)
 
 module _ (s : Services) (p : Demands s) where
   -- what such services say of them
@@ -61,6 +76,14 @@ module _ (s : Services) (p : Demands s) where
   lists-two : resultIn (s .list-says (pos 0) (unionOf (before-2024 ++ from-2025)) (replicate 64 7)) ≡ 2
   unfolding opened
   lists-two = ap resultIn (demands-determine s p .same-list (pos 0) (unionOf (before-2024 ++ from-2025)) (replicate 64 7))
+
+  prints-one : s .print-says before-3 (replicate 258 7) ≡ 145 * 2 ^ 8
+  unfolding opened
+  prints-one = demands-determine s p .same-print before-3 (replicate 258 7)
+
+  prints-two : s .print-says (before-3 ++ after-3) (replicate 258 7) ≡ 258 * 2 ^ 8
+  unfolding opened
+  prints-two = demands-determine s p .same-print (before-3 ++ after-3) (replicate 258 7)
 
   -- one that refuses all
   pub refuses-all : ((offset : ℤ) (record′ : List ℕ) → (r : Refusal) × (numberIn (s .check-says offset record′) ≡ number r)) → ⊥
@@ -96,3 +119,30 @@ module _ (s : Services) (p : Demands s) where
       → let stretches = p .three .listing-promise offset record′ list .sets e h .stretches in
       length stretches ≤ roomOf list → (resultIn (s .list-says offset record′ list) ≡ length stretches → ⊥) → ⊥
   invents-count offset record′ list e h l n = n (p .three .listing-promise offset record′ list .sets e h .room l .count)
+
+  -- one that prints nothing: its length is always 0, or the lent record is never written
+  pub prints-nothing : ((list record′ : List ℕ) → resultIn (s .print-says list record′) ≡ 0) → ⊥
+  prints-nothing h = let (list, record′, e) = p .print .reached in omega (arith, e, h list record′)
+
+  pub writes-no-record : ((list record′ : List ℕ) → s .print-leaves list record′ ≡ record′) → ⊥
+  unfolding opened
+  writes-no-record h =
+      let z : false ≡ true = ap (exists (eqb 60)) (sym (h before-3 (replicate 258 7)) ∙ demands-determine s p .same-print-left before-3 (replicate 258 7)) in
+      clash (cc)
+
+  -- one that refuses every list with an unbounded end
+  pub refuses-unbounded : ((list record′ : List ℕ) → exists hasUnboundedEnd (listed list) ≡ true → (r : Refusal) × (numberIn (s .print-says list record′) ≡ number r)) → ⊥
+  unfolding opened
+  refuses-unbounded h = let (r, e) = h before-3 (replicate 258 7) refl in omega (arith, small r, e, prints-one)
+
+  -- one that writes and then says NO ROOM
+  pub writes-and-refuses : (list record′ : List ℕ) → numberIn (s .print-says list record′) ≡ number NO-ROOM → (s .print-leaves list record′ ≡ record′ → ⊥) → ⊥
+  writes-and-refuses list record′ e n = elim (p .one .print-answers list record′) [ accepts f h ↦ clash (omega (arith, e, f)) | refuses r m f h kept ↦ n kept ]
+
+  -- one that prints the first stretch alone: of a list with further stretches it says what it says of the list without them
+  pub prints-first-alone : ((first rest record′ : List ℕ) → length first ≡ 32 → numberIn (s .print-says first record′) ≡ 0 → numberIn (s .print-says (first ++ rest) record′) ≡ 0
+      → s .print-says (first ++ rest) record′ ≡ s .print-says first record′) → ⊥
+  unfolding opened
+  prints-first-alone h =
+      let e = h before-3 after-3 (replicate 258 7) refl (ap numberIn prints-one) (ap numberIn prints-two) in
+      omega (arith, prints-one, prints-two, e)

@@ -1,3 +1,6 @@
+pub mod Answers
+pub mod RecordLayout
+pub mod Printing
 pub mod Demands
 pub mod Determined
 pub mod Impostors

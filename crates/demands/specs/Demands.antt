@@ -1,81 +1,50 @@
--- The user's three demands, in their order and words, as statements about the five services. The law `demands-met` says that the services
--- meet them, and `demands-determine` that nothing else does.
-use Prim.Native.Nat.{ℕ, _+_, _-_, _*_, _/_, _^_, _≤_}
+-- The user's three demands, in their order and words, as statements about the services, and what the change requests that have landed
+-- ask besides. Each number that a request adds joins demand 1's. The law `demands-met` says that the services meet all of it, and
+-- `demands-determine` that nothing else does.
+use Prim.Native.Nat.{ℕ, _≤_}
 use mathlib.Core.Path.{_≡_}
-use mathlib.Core.Logic.{_⊎_, _↔_}
-use mathlib.Core.Bool.{Bool, true, not, cond}
+use mathlib.Core.Logic.{_↔_}
+use mathlib.Core.Bool.{true, not}
 use mathlib.Core.List.{List, [], _∷_, _++_, map, List·Memᴰ}
 use mathlib.Core.Option.{some}
-use lib.Dec.{ltb}
 use lib.ListN.{length, take}
-use lib.IntN.{ℤ, pos, negsuc}
-use Rattle.rules.specs.Basics.{exists}
-use Rattle.rules.specs.Refusal.{Refusal, OFFSET, TOO-LONG, NOT-UTF-8, MARKUP, TYPE, SHAPE, VALUE, RULE, number, precedence, isSame, rank, answered, faultsOf, _when_}
+use lib.IntN.{ℤ}
+use Rattle.rules.specs.Refusal.{Refusal, OFFSET, TOO-LONG, NOT-UTF-8, MARKUP, TYPE, SHAPE, VALUE, RULE, UNKNOWN-BOUND, TOO-MANY, NOT-WRITABLE, NO-ROOM, number, precedence, rank, answered, faultsOf, _when_}
 use Rattle.rules.specs.Utf8.{isUtf8}
 use Rattle.rules.specs.Markup.{Element}
 use Rattle.rules.specs.Timestamp.{Moment, readTimestamp, tickOf}
 use Rattle.rules.specs.Check.{isOffset, shiftBy, isTooLong, recordFaults, check}
-use Rattle.rules.specs.Comparison.{Answer, Comparer, comparerFor, orUnknown}
-use Rattle.rules.specs.Services.{eightBytes, checkAnswer, compareAnswer, listAnswer, listAfter, tickAnswer, tickAfter, cutAnswer}
+use Rattle.rules.specs.Comparison.{Comparer, comparerFor, orUnknown}
+use Rattle.rules.specs.Services.{eightBytes}
+use Rattle.rules.specs.LentLists.{unsigned, signed}
 use Rattle.rules.specs.ListingPromise.{numberIn, fits, ListingPromise}
-use Rattle.rules.specs.ComparisonPromise.{Names, Says, ComparisonPromise}
-
--- what five functions do with each input: what they say, and what they leave in lent memory
-pub record Services : Type 0 where
-  pub check-says : (offset : ℤ) → (record′ : List ℕ) → ℕ
-  pub compare-says : (offset : ℤ) → (first second : List ℕ) → ℕ
-  pub list-says : (offset : ℤ) → (record′ list : List ℕ) → ℕ
-  pub list-leaves : (offset : ℤ) → (record′ list : List ℕ) → List ℕ
-  pub tick-says : (offset : ℤ) → (text : List ℕ) → ℕ
-  pub tick-leaves : (offset : ℤ) → (text : List ℕ) → (tick : ℤ) → ℤ
-  pub cut-says : (text : List ℕ) → (room : ℕ) → ℕ
-
--- the exported functions, each by its contract
-abbrev pub services : Services
-services = record {
-  check-says = checkAnswer;
-  compare-says = compareAnswer;
-  list-says = listAnswer;
-  list-leaves = listAfter;
-  tick-says = tickAnswer;
-  tick-leaves = tickAfter;
-  cut-says = cutAnswer;
-}
-
--- an answer: its number in bits 0 to 7, `numberIn`, and its result in those above
-abbrev pub resultIn : ℕ → ℕ
-resultIn answer = answer / 2 ^ 8
-
-abbrev pub isAmong : List Refusal → Refusal → Bool
-isAmong rs r = exists (isSame r) rs
-
--- an answer is a result with no number, or a number with no result, and then lent memory is kept
-pub data Answers (may : List Refusal) (Result : ℕ → Type 0) (Kept : Type 0) (answer : ℕ) : Type 0 where
-  accepts : numberIn answer ≡ 0 → Result (resultIn answer) → Answers may Result Kept answer
-  refuses : (r : Refusal) → isAmong may r ≡ true → numberIn answer ≡ number r → resultIn answer ≡ 0 → Kept → Answers may Result Kept answer
-
--- of a comparison: it says yes, no or unknown, or it names the record that it refuses, and the number
-pub data Compares (may : List Refusal) (answer : ℕ) : Type 0 where
-  says : (x : Answer) → Says x answer → Compares may answer
-  names : (which : ℕ) (r : Refusal) → (which ≡ 1) ⊎ (which ≡ 2) → isAmong may r ≡ true → Names which r answer → Compares may answer
+use Rattle.rules.specs.ComparisonPromise.{Says, ComparisonPromise}
+use Rattle.demands.specs.Services.{Services, resultIn, Answers, Compares}
+use Rattle.demands.specs.Printing.{PrintPromise}
 
 -- what checking may give
 abbrev pub recordRefusals : List Refusal
 recordRefusals = OFFSET ∷ TOO-LONG ∷ NOT-UTF-8 ∷ MARKUP ∷ TYPE ∷ SHAPE ∷ VALUE ∷ RULE ∷ []
 
+-- what listing may give
+abbrev pub listRefusals : List Refusal
+listRefusals = OFFSET ∷ TOO-LONG ∷ NOT-UTF-8 ∷ MARKUP ∷ TYPE ∷ SHAPE ∷ VALUE ∷ RULE ∷ UNKNOWN-BOUND ∷ TOO-MANY ∷ NO-ROOM ∷ []
+
 -- 1. "Give the box any bytes and it ends with an answer. Each entry point refuses what is wrong by one number from your rules page, from
 -- OFFSET to NO ROOM, and asks nothing of its caller. A refusal hands back that number (in a comparison, also which record it was) and no
 -- result, and every lent buffer keeps its bytes."
 pub record Demand1 (s : Services) : Type 0 where
-  pub numbers : map number precedence ≡ 1 ∷ 2 ∷ 3 ∷ 4 ∷ 5 ∷ 6 ∷ 7 ∷ 8 ∷ 9 ∷ 10 ∷ 11 ∷ []
+  pub numbers : map number precedence ≡ 1 ∷ 2 ∷ 3 ∷ 4 ∷ 5 ∷ 6 ∷ 7 ∷ 8 ∷ 9 ∷ 10 ∷ 12 ∷ 11 ∷ []
   pub one-number : (r q : Refusal) → number r ≡ number q → r ≡ q
   pub check-answers : (offset : ℤ) (record′ : List ℕ) → Answers recordRefusals (λ n. n ≡ 0) (Unit {0}) (s .check-says offset record′)
   pub compare-answers : (offset : ℤ) (first second : List ℕ) → Compares recordRefusals (s .compare-says offset first second)
   pub list-answers : (offset : ℤ) (record′ list : List ℕ)
-      → Answers precedence (λ n. n ≤ 32) (s .list-leaves offset record′ list ≡ list) (s .list-says offset record′ list)
+      → Answers listRefusals (λ n. n ≤ 32) (s .list-leaves offset record′ list ≡ list) (s .list-says offset record′ list)
   pub tick-answers : (offset : ℤ) (text : List ℕ) (tick : ℤ)
       → Answers (OFFSET ∷ TOO-LONG ∷ VALUE ∷ []) (λ n. (4 ≤ n) × (n ≤ 18)) (s .tick-leaves offset text tick ≡ tick) (s .tick-says offset text)
   pub cut-answers : (text : List ℕ) (room : ℕ) → Answers (TOO-LONG ∷ NOT-UTF-8 ∷ []) (λ n. n ≤ length text) (Unit {0}) (s .cut-says text room)
+  pub print-answers : (list record′ : List ℕ)
+      → Answers (NOT-WRITABLE ∷ NO-ROOM ∷ []) (λ n. n ≤ 4_735) (s .print-leaves list record′ ≡ record′) (s .print-says list record′)
 
 -- r applies, and nothing that applies stands before it on the ladder
 abbrev pub IsFirst : Refusal → (faults : List Refusal) → Type 0
@@ -114,19 +83,11 @@ pub record Demand2 (s : Services) : Type 0 where
   pub cut : (text : List ℕ) (room : ℕ) → cutFaults text ≡ [] → (numberIn (s .cut-says text room) ≡ 0) × IsCut text room (resultIn (s .cut-says text room))
   pub cut-refused : (text : List ℕ) (room : ℕ) (r : Refusal) → numberIn (s .cut-says text room) ≡ number r ↔ IsFirst r (cutFaults text)
 
--- the number that eight bytes hold, lowest first, and signed
-unfoldable pub valueOf : List ℕ → ℕ
-valueOf [] = 0
-valueOf (b ∷ bs) = b + 256 * valueOf bs
-
-abbrev pub signedOf : List ℕ → ℤ
-signedOf bs = let n = valueOf bs in cond (ltb n (2 ^ 63)) (pos n) (negsuc (2 ^ 64 - 1 - n))
-
 -- 3. "Take any set of times that passes those rules under the offset agreed .. Whatever bytes it is written in, whichever allowed offset is
 -- agreed and whatever list is lent, the following holds .." In one piece: `ListingPromise`.
 pub record Demand3 (s : Services) : Type 0 where
   -- the bytes of a number that fits, read back, are the number
-  pub read-back : (z : ℤ) → fits z ≡ true → signedOf (eightBytes z) ≡ z
+  pub read-back : (z : ℤ) → fits z ≡ true → signed (unsigned (eightBytes z)) ≡ z
   pub listing-promise : (offset : ℤ) (record′ list : List ℕ)
       → ListingPromise offset record′ (s .list-says offset record′ list) list (s .list-leaves offset record′ list)
 
@@ -134,13 +95,5 @@ pub record Demands (s : Services) : Type 0 where
   pub one : Demand1 s
   pub two : Demand2 s
   pub three : Demand3 s
-
--- two that do the same with every input
-pub record Same (s t : Services) : Type 0 where
-  pub same-check : (offset : ℤ) (record′ : List ℕ) → s .check-says offset record′ ≡ t .check-says offset record′
-  pub same-compare : (offset : ℤ) (first second : List ℕ) → s .compare-says offset first second ≡ t .compare-says offset first second
-  pub same-list : (offset : ℤ) (record′ list : List ℕ) → s .list-says offset record′ list ≡ t .list-says offset record′ list
-  pub same-list-left : (offset : ℤ) (record′ list : List ℕ) → s .list-leaves offset record′ list ≡ t .list-leaves offset record′ list
-  pub same-tick : (offset : ℤ) (text : List ℕ) → s .tick-says offset text ≡ t .tick-says offset text
-  pub same-tick-left : (offset : ℤ) (text : List ℕ) (tick : ℤ) → s .tick-leaves offset text tick ≡ t .tick-leaves offset text tick
-  pub same-cut : (text : List ℕ) (room : ℕ) → s .cut-says text room ≡ t .cut-says text room
+  -- request A1
+  pub print : PrintPromise s

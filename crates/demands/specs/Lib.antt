@@ -1,1 +1,3 @@
+pub mod Services
+pub mod Printing
 pub mod Demands

@@ -1,1 +1,1 @@
-// The user's demands as statements about the five services (specs/), and the proof that they are met (proofs/). No code is here.
+// The user's demands as statements about the six services (specs/), and the proof that they are met (proofs/). No code is here.

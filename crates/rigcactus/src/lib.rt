@@ -12,7 +12,7 @@ ghost use Rattle.refusal.specs.Meaning.{refusalOf, faultOf};
 ghost use Rattle.timestamp.specs.Moments.{outcomeOf};
 ghost use Rattle.comparison.specs.Meaning.{answerMeant, comparedMeant};
 ghost use Rattle.listing.specs.Answers.{Few, listedMeant};
-ghost use Rattle.demands.specs.Demands.{services};
+ghost use Rattle.demands.specs.Services.{services};
 ghost use Rattle.rigcactus.specs.Faults.{listingFaults};
 use comparison::Answer;
 use comparison::Compared;

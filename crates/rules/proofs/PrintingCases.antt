@@ -1,26 +1,31 @@
 -- The answers of printing, case by case; and what listing gives is proper.
-use Prim.Native.Nat.{ℕ, _*_, _/_, _%_, _≤_, _<_}
-use mathlib.Core.Path.{_≡_, refl, _∙_, ap}
-use mathlib.Core.Bool.{Bool, true, false, not}
+use Prim.Native.Nat.{ℕ, zero, suc, _+_, _-_, _*_, _/_, _%_, _^_, _≤_, _<_}
+use mathlib.Core.Path.{_≡_, refl, sym, _∙_, ap}
+use mathlib.Core.Logic.{_⊎_, inl, inr, _↔_}
+use mathlib.Core.Bool.{Bool, true, false, not, _||_}
 use mathlib.Core.List.{List, [], _∷_, _++_, flatMap}
 use native.Mathlib.Omega.{arith}
 use native.Mathlib.Decide.{decLe}
 use borrow.Author.Tests.{lt-ltb, le-ltb, eqb-true, not-false}
 use lib.Dec.{ltb, eqb}
-use lib.ListN.{length}
-use lib.IntN.{ℤ}
+use lib.ListN.{length, length-append}
+use lib.IntN.{ℤ, pos, negsuc}
 use Rattle.rules.specs.Basics.{every}
 use Rattle.rules.specs.Refusal.{NOT-WRITABLE, NO-ROOM, rankIn, firstOf, answered, refused, _unless_, _when_}
 use Rattle.rules.specs.Markup.{Element}
+use Rattle.rules.specs.Timestamp.{beforeStart}
 use Rattle.rules.specs.Check.{isOffset, shiftBy}
 use Rattle.rules.specs.Sets.{Interval, Expression}
 use Rattle.rules.specs.Stretches.{stretches}
 use Rattle.rules.specs.Listing.{setOf, listNumbers}
-use Rattle.rules.specs.Services.{eightBytes, roomOf, listing}
+use Rattle.rules.specs.Services.{lowBytes, eightBytes, roomOf, listing, timing}
 use Rattle.rules.specs.ListingPromise.{fits, IsSetOfTimes}
 use Rattle.rules.specs.LentLists.{isByte, numbersIn, isImproper, isImproperList, listed}
+use Rattle.rules.specs.Dates.{yearsEnd, dateText, clockText, timestampText}
 use Rattle.rules.specs.Printing.{recordText, isWritableStretch, isUnwritable, printing}
-use Rattle.rules.proofs.Tests.{clash, neither}
+use Rattle.rules.proofs.Tests.{clash, neither, every-append}
+use Rattle.rules.proofs.Digits.{digitsOf-length}
+use Rattle.rules.proofs.Dates.{timestamp-of-tick}
 use Rattle.rules.proofs.Ticks.{shiftBy-most}
 use Rattle.rules.proofs.Canonical.{Canonical}
 use Rattle.rules.proofs.Drawing.{stretches-canonical}
@@ -64,6 +69,16 @@ module _ (list : List ℕ) (w : isUnwritable list ≡ false) where
       → listing offset (roomOf lent) (recordText (listed list)) ≡ answered (listed list)
   listed-back offset lent o l = record-listed (listed list) is-printable offset (roomOf lent) o (omega (arith, listed-length))
 
+-- the timestamp service reads a printed timestamp as its tick
+timestamp-size : (t : ℕ) → length (timestampText (pos t)) ≡ 24
+unfolding dateText clockText
+timestamp-size t = simp (length-append, digitsOf-length)
+
+pub timing-of-tick : (offset : ℤ) (t : ℕ) → isOffset offset ≡ true → t < yearsEnd
+    → timing offset (timestampText (pos t)) ≡ answered (record { start = t + beforeStart; precision = 18; next = t + beforeStart + 1 })
+unfolding timing firstOf
+timing-of-tick offset t o l = rw (timestamp-of-tick (shiftBy offset) t l, o, le-ltb 16_384 (length (timestampText (pos t))) (omega (arith, timestamp-size t)))
+
 -- what listing gives
 pub listing-gives : (offset : ℤ) (room : ℕ) (input : List ℕ) (ss : List Interval) → listing offset room input ≡ answered ss
     → (e : Element) × (s : Expression) × IsSetOfTimes offset input e × (setOf (shiftBy offset) e ≡ answered s) × (stretches s ≡ ss)
@@ -98,7 +113,44 @@ listing-proper offset room input ss h =
     rw z at (proper-list (stretches s) (omega (arith, stretches-at-most s, k .few)) (stretches-canonical s)
     (list-fits (shiftBy offset) (shiftBy-most offset (check-offset offset input (k .accepted))) e known))
 
+-- and all of it are bytes
+low-bytes : (n k : ℕ) → every isByte (lowBytes n k) ≡ true
+unfolding lowBytes every
+low-bytes zero k = refl
+low-bytes (suc n) k = rw (lt-ltb (k % 256) 256 (omega arith), low-bytes n (k / 256))
+
+eight-bytes : (z : ℤ) → every isByte (eightBytes z) ≡ true
+eight-bytes (pos n) = low-bytes 8 n
+eight-bytes (negsuc n) = low-bytes 8 (2 ^ 64 - suc n)
+
+pub written-bytes : (zs : List ℤ) → every isByte (flatMap eightBytes zs) ≡ true
+unfolding flatMap every
+written-bytes [] = refl
+written-bytes (z ∷ zs) = every-append isByte (eightBytes z) (flatMap eightBytes zs) (eight-bytes z) (written-bytes zs)
+
+-- what can't be written is improper or has a tick outside years 0001 to 9999
+pub unwritable-is : (list : List ℕ) → isUnwritable list ≡ true ↔ (isImproperList list ≡ true) ⊎ (every isWritableStretch (listed list) ≡ false)
+unwritable-is list = go (isImproperList list) (every isWritableStretch (listed list))
+  where
+    go : (a b : Bool) → (a || not b) ≡ true ↔ (a ≡ true) ⊎ (b ≡ false)
+    go true b = (λ e. inl refl, λ h. refl)
+    go false true = (λ e. clash (cc), λ h. elim h [ inl e ↦ e | inr e ↦ sym e ])
+    go false false = (λ e. inr refl, λ h. refl)
+
+-- a list can't be written, or its record doesn't fit a room, or it does
+pub data PrintingCase (list : List ℕ) (room : ℕ) : Type 0 where
+  unwritable : isUnwritable list ≡ true → PrintingCase list room
+  full : isUnwritable list ≡ false → room < length (recordText (listed list)) → PrintingCase list room
+  fitting : isUnwritable list ≡ false → length (recordText (listed list)) ≤ room → PrintingCase list room
+
 module _ (list : List ℕ) (room : ℕ) where
+  pub printing-case : PrintingCase list room
+  printing-case = go (isUnwritable list) refl
+    where
+      go : (b : Bool) → isUnwritable list ≡ b → PrintingCase list room
+      go true e = unwritable e
+      go false e = elim (decLe (length (recordText (listed list))) room) [ yes l ↦ fitting e l | no l ↦ full e (omega arith) ]
+
   pub printing-unwritable : isUnwritable list ≡ true → printing list room ≡ refused NOT-WRITABLE
   unfolding printing firstOf rankIn
   printing-unwritable h = rw h (go (ltb room (length (recordText (listed list)))))

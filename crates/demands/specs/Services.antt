@@ -1,0 +1,69 @@
+-- The six services as the demands see them: what they say and leave, the parts of an answer, and what it is to do the same.
+use Prim.Native.Nat.{ℕ, _/_, _^_}
+use mathlib.Core.Path.{_≡_}
+use mathlib.Core.Logic.{_⊎_}
+use mathlib.Core.Bool.{Bool, true}
+use mathlib.Core.List.{List}
+use lib.IntN.{ℤ}
+use Rattle.rules.specs.Basics.{exists}
+use Rattle.rules.specs.Refusal.{Refusal, number, isSame}
+use Rattle.rules.specs.Comparison.{Answer}
+use Rattle.rules.specs.Services.{checkAnswer, compareAnswer, listAnswer, listAfter, tickAnswer, tickAfter, cutAnswer}
+use Rattle.rules.specs.Printing.{printAnswer, printAfter}
+use Rattle.rules.specs.ListingPromise.{numberIn}
+use Rattle.rules.specs.ComparisonPromise.{Names, Says}
+
+-- what six functions do with each input: what they say, and what they leave in lent memory
+pub record Services : Type 0 where
+  pub check-says : (offset : ℤ) → (record′ : List ℕ) → ℕ
+  pub compare-says : (offset : ℤ) → (first second : List ℕ) → ℕ
+  pub list-says : (offset : ℤ) → (record′ list : List ℕ) → ℕ
+  pub list-leaves : (offset : ℤ) → (record′ list : List ℕ) → List ℕ
+  pub tick-says : (offset : ℤ) → (text : List ℕ) → ℕ
+  pub tick-leaves : (offset : ℤ) → (text : List ℕ) → (tick : ℤ) → ℤ
+  pub cut-says : (text : List ℕ) → (room : ℕ) → ℕ
+  pub print-says : (list record′ : List ℕ) → ℕ
+  pub print-leaves : (list record′ : List ℕ) → List ℕ
+
+-- the exported functions, each by its contract
+abbrev pub services : Services
+services = record {
+  check-says = checkAnswer;
+  compare-says = compareAnswer;
+  list-says = listAnswer;
+  list-leaves = listAfter;
+  tick-says = tickAnswer;
+  tick-leaves = tickAfter;
+  cut-says = cutAnswer;
+  print-says = printAnswer;
+  print-leaves = printAfter;
+}
+
+-- an answer: its number in bits 0 to 7, `numberIn`, and its result in those above
+abbrev pub resultIn : ℕ → ℕ
+resultIn answer = answer / 2 ^ 8
+
+abbrev pub isAmong : List Refusal → Refusal → Bool
+isAmong rs r = exists (isSame r) rs
+
+-- an answer is a result with no number, or a number with no result, and then lent memory is kept
+pub data Answers (may : List Refusal) (Result : ℕ → Type 0) (Kept : Type 0) (answer : ℕ) : Type 0 where
+  accepts : numberIn answer ≡ 0 → Result (resultIn answer) → Answers may Result Kept answer
+  refuses : (r : Refusal) → isAmong may r ≡ true → numberIn answer ≡ number r → resultIn answer ≡ 0 → Kept → Answers may Result Kept answer
+
+-- of a comparison: it says yes, no or unknown, or it names the record that it refuses, and the number
+pub data Compares (may : List Refusal) (answer : ℕ) : Type 0 where
+  says : (x : Answer) → Says x answer → Compares may answer
+  names : (which : ℕ) (r : Refusal) → (which ≡ 1) ⊎ (which ≡ 2) → isAmong may r ≡ true → Names which r answer → Compares may answer
+
+-- two that do the same with every input
+pub record Same (s t : Services) : Type 0 where
+  pub same-check : (offset : ℤ) (record′ : List ℕ) → s .check-says offset record′ ≡ t .check-says offset record′
+  pub same-compare : (offset : ℤ) (first second : List ℕ) → s .compare-says offset first second ≡ t .compare-says offset first second
+  pub same-list : (offset : ℤ) (record′ list : List ℕ) → s .list-says offset record′ list ≡ t .list-says offset record′ list
+  pub same-list-left : (offset : ℤ) (record′ list : List ℕ) → s .list-leaves offset record′ list ≡ t .list-leaves offset record′ list
+  pub same-tick : (offset : ℤ) (text : List ℕ) → s .tick-says offset text ≡ t .tick-says offset text
+  pub same-tick-left : (offset : ℤ) (text : List ℕ) (tick : ℤ) → s .tick-leaves offset text tick ≡ t .tick-leaves offset text tick
+  pub same-cut : (text : List ℕ) (room : ℕ) → s .cut-says text room ≡ t .cut-says text room
+  pub same-print : (list record′ : List ℕ) → s .print-says list record′ ≡ t .print-says list record′
+  pub same-print-left : (list record′ : List ℕ) → s .print-leaves list record′ ≡ t .print-leaves list record′
