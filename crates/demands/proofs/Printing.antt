@@ -23,7 +23,8 @@ use Rattle.rules.specs.Printing.{recordText, isWritableTick, isWritableStretch,
 use Rattle.rules.specs.ListingPromise.{numberIn}
 use Rattle.rules.proofs.Opened.{opened}
 use Rattle.rules.proofs.Tests.{clash}
-use Rattle.rules.proofs.Printing.{record-accepted, record-short}
+use Rattle.rules.proofs.Pieces.{record-short}
+use Rattle.rules.proofs.Printing.{record-accepted}
 use Rattle.rules.proofs.PrintingCases.{is-printable, list-bytes, listed-length, listed-back, timing-of-tick, listing-proper, written-bytes, unwritable, full, fitting, printing-case, unwritable-is, printing-unwritable, printing-no-room, printing-answered}
 use Rattle.rules.proofs.ListingPromise.{low-bits, count-bits, list-length, overwrite-begins, overwrite-rest}
 use Rattle.demands.specs.Services.{services, resultIn, isAmong, Answers, accepts, refuses}
@@ -60,7 +61,7 @@ module _ (list record′ : List ℕ) where
   print-answers = elim (printing-case list (length record′)) [
     | unwritable h ↦ by-refusal NOT-WRITABLE refl (printing-unwritable list (length record′) h)
     | full w l ↦ by-refusal NO-ROOM refl (printing-no-room list (length record′) w l)
-    | fitting w l ↦ let p = prints w l in accepts (p .accepted) (rw (p .length-given) (record-short (listed list) (is-printable list w .few)))
+    | fitting w l ↦ let p = prints w l in accepts (p .accepted) (rw (p .length-given) (let q = is-printable list w in record-short (listed list) (q .few) (q .writable)))
   ]
 
   not-writable : numberIn (printAnswer list record′) ≡ number NOT-WRITABLE ↔ (isImproperList list ≡ true) ⊎ (every isWritableStretch (listed list) ≡ false)

@@ -118,6 +118,24 @@ pub extern "C" fn rigcactus_list(record: &[u8], offset: i64, list: &mut [u8]) ->
     listed_number(listed)
 }
 
+// Prints a list of stretches as a record. Bits 0 to 7 of the answer are the refusal's number, 0 if the list is printed; the other bits are
+// the record's length in bytes, which the lent record then begins with. A refusal leaves the lent record as it was.
+#[no_mangle]
+pub extern "C" fn rigcactus_print(list: &[u8], record: &mut [u8]) -> u64
+    ensures { λ r. ⌜ r ≡ services .print-says (now (list .entry)) (now («record» .entry)) ⌝ }
+    ensures { λ r. ⌜ now («record» .exit) ≡ services .print-leaves (now (list .entry)) (now («record» .entry)) ⌝ }
+{
+    if !printing::is_writable(list) {
+        return refusal::number(Refusal::NotWritable);
+    }
+    let length = printing::record_length(list);
+    if record.len() < length {
+        return refusal::number(Refusal::NoRoom);
+    }
+    printing::print(list, record);
+    (length as u64) * 256
+}
+
 // The number of an answer.
 fn answer_number(answer: Answer) -> u64
     ensures { λ r. ⌜ (r ≡ answerNumber (answerMeant answer)) × (r ≤ 3) ⌝ }

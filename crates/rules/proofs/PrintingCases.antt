@@ -8,7 +8,7 @@ use native.Mathlib.Omega.{arith}
 use native.Mathlib.Decide.{decLe}
 use borrow.Author.Tests.{lt-ltb, le-ltb, eqb-true, not-false}
 use lib.Dec.{ltb, eqb}
-use lib.ListN.{length, length-append}
+use lib.ListN.{length}
 use lib.IntN.{ℤ, pos, negsuc}
 use Rattle.rules.specs.Basics.{every}
 use Rattle.rules.specs.Refusal.{NOT-WRITABLE, NO-ROOM, rankIn, firstOf, answered, refused, _unless_, _when_}
@@ -21,10 +21,9 @@ use Rattle.rules.specs.Listing.{setOf, listNumbers}
 use Rattle.rules.specs.Services.{lowBytes, eightBytes, roomOf, listing, timing}
 use Rattle.rules.specs.ListingPromise.{fits, IsSetOfTimes}
 use Rattle.rules.specs.LentLists.{isByte, numbersIn, isImproper, isImproperList, listed}
-use Rattle.rules.specs.Dates.{yearsEnd, dateText, clockText, timestampText}
+use Rattle.rules.specs.Dates.{yearsEnd, timestampText}
 use Rattle.rules.specs.Printing.{recordText, isWritableStretch, isUnwritable, printing}
 use Rattle.rules.proofs.Tests.{clash, neither, every-append}
-use Rattle.rules.proofs.Digits.{digitsOf-length}
 use Rattle.rules.proofs.Dates.{timestamp-of-tick}
 use Rattle.rules.proofs.Ticks.{shiftBy-most}
 use Rattle.rules.proofs.Canonical.{Canonical}
@@ -36,6 +35,7 @@ use Rattle.rules.proofs.ListingCases.{check-faultless, check-offset, li
 use Rattle.rules.proofs.ListingPromise.{numbers-length, bytes-length}
 use Rattle.rules.proofs.LentLists.{numbers-written, numbers-read, numbersFrom-length}
 use Rattle.rules.proofs.ProperLists.{IsProper, proper, stretches-back, not-improper}
+use Rattle.rules.proofs.Pieces.{timestamp-length}
 use Rattle.rules.proofs.Printing.{IsPrintable, record-listed}
 
 -- a lent list that can be written
@@ -70,14 +70,10 @@ module _ (list : List ℕ) (w : isUnwritable list ≡ false) where
   listed-back offset lent o l = record-listed (listed list) is-printable offset (roomOf lent) o (omega (arith, listed-length))
 
 -- the timestamp service reads a printed timestamp as its tick
-timestamp-size : (t : ℕ) → length (timestampText (pos t)) ≡ 24
-unfolding dateText clockText
-timestamp-size t = simp (length-append, digitsOf-length)
-
 pub timing-of-tick : (offset : ℤ) (t : ℕ) → isOffset offset ≡ true → t < yearsEnd
     → timing offset (timestampText (pos t)) ≡ answered (record { start = t + beforeStart; precision = 18; next = t + beforeStart + 1 })
 unfolding timing firstOf
-timing-of-tick offset t o l = rw (timestamp-of-tick (shiftBy offset) t l, o, le-ltb 16_384 (length (timestampText (pos t))) (omega (arith, timestamp-size t)))
+timing-of-tick offset t o l = rw (timestamp-of-tick (shiftBy offset) t l, o, le-ltb 16_384 (length (timestampText (pos t))) (omega (arith, timestamp-length t)))
 
 -- what listing gives
 pub listing-gives : (offset : ℤ) (room : ℕ) (input : List ℕ) (ss : List Interval) → listing offset room input ≡ answered ss
