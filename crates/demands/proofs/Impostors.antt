@@ -120,10 +120,11 @@ module _ (s : Services) (p : Demands s) where
       length stretches ≤ roomOf list → (resultIn (s .list-says offset record′ list) ≡ length stretches → ⊥) → ⊥
   invents-count offset record′ list e h l n = n (p .three .listing-promise offset record′ list .sets e h .room l .count)
 
-  -- one that prints nothing: its length is always 0, or the lent record is never written
+  -- one that always prints nothing
   pub prints-nothing : ((list record′ : List ℕ) → resultIn (s .print-says list record′) ≡ 0) → ⊥
   prints-nothing h = let (list, record′, e) = p .print .reached in omega (arith, e, h list record′)
 
+  -- one that writes no record, whatever it says
   pub writes-no-record : ((list record′ : List ℕ) → s .print-leaves list record′ ≡ record′) → ⊥
   unfolding opened
   writes-no-record h =

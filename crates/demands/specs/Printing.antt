@@ -72,6 +72,7 @@ pub record PrintPromise (s : Services) : Type 0 where
       → IsProperList s (take (32 * resultIn (s .list-says offset record′ list)) (s .list-leaves offset record′ list))
   -- "as a QSU_TS named `stay`, one IVL_TS `term` a stretch in order, .. unbounded ends as NINF and PINF with no flag. Layout follows
   -- document 01's example: type, then flags, one space before each attribute, no other white space, `/>` where childless."
+  -- `written` is the stretches, or one empty term for none
   pub layout : (ss : List Interval) → recordText ss ≡ stayText (written ss)
   -- "each bound as a full timestamp with four fraction digits and `+0000`": of 18 digits, and the tick whatever offset is agreed
   pub full-timestamp : (offset tick before : ℤ) → isOffset offset ≡ true → isWritableTick tick ≡ true
