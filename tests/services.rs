@@ -15,14 +15,19 @@ mod faults;
 mod lent;
 mod likeness;
 mod list;
+mod lists;
 mod markup;
 mod options;
 mod pairs;
 mod places;
+mod print;
+mod printed;
 mod random;
 mod records;
+mod series;
 mod sets;
 mod table;
+mod tally;
 mod tick;
 
 use std::process::ExitCode;
@@ -30,8 +35,14 @@ use std::process::ExitCode;
 use options::Options;
 
 /// What tries each service, and says whether it agrees with the other implementation.
-const SERVICES: [(&str, fn(&Options) -> bool); 5] =
-    [("cut", cut::run), ("tick", tick::run), ("check", check::run), ("list", list::run), ("compare", compare::run)];
+const SERVICES: [(&str, fn(&Options) -> bool); 6] = [
+    ("cut", cut::run),
+    ("tick", tick::run),
+    ("check", check::run),
+    ("list", list::run),
+    ("compare", compare::run),
+    ("print", print::run),
+];
 
 fn options() -> Option<Options> {
     let mut options = Options { cases: 500_000, seed: 1, only_made: false, service: None };
