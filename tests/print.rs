@@ -192,15 +192,6 @@ fn length_of_record(random: &mut Random, list: &[u8], printed: &Printed) -> usiz
 
 // ---- The trials ----------------------------------------------------------------------------------------------------
 
-/// The list that a table writes: its numbers, and so many bytes more.
-fn list_of(text: &str) -> Vec<u8> {
-    let (numbers, more) = text.split_once('+').unwrap_or((text, "0"));
-    let numbers = numbers.split(',').filter(|number| *number != "-");
-    let mut list: Vec<u8> = numbers.flat_map(|number| number.parse::<i64>().unwrap().to_le_bytes()).collect();
-    list.resize(list.len() + more.parse::<usize>().unwrap(), 0);
-    list
-}
-
 /// The lists of tests/records/print.txt: the second printer and the service are to give what stands there. What is printed is read back.
 fn stored_lists() -> bool {
     let mut random = Random::new(1);
@@ -210,7 +201,7 @@ fn stored_lists() -> bool {
         let words: Vec<&str> = line.splitn(4, ' ').collect();
         let refusal: u64 = words[0].parse().unwrap();
         let length: usize = words[1].parse().unwrap();
-        let (list, record) = (list_of(words[2]), words[3].as_bytes());
+        let (list, record) = (table::list(words[2]), words[3].as_bytes());
 
         let printed = printed::print(&list, &trial.dates);
         let answer = if refusal == 0 { (record.len() as u64) << 8 } else { refusal };
