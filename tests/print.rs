@@ -1,5 +1,7 @@
 //! `rigcactus_print` against a second printer of lists (printed.rs).
 
+use std::collections::BTreeSet;
+
 use crate::lent::{Fenced, Guarded};
 use crate::lists::{self, LAST_TICK};
 use crate::places::{Stretch, STRETCH_BYTES};
@@ -50,11 +52,14 @@ fn check_and_list(record: &[u8], offset: i64) -> (u64, u64, Vec<u8>) {
 /// Differences that are printed, at most.
 const PRINTED: u64 = 10;
 
+/// How many bytes of a list are shown where there is a difference, at most.
+const LONGEST_SHOWN: usize = 41 * STRETCH_BYTES;
+
 /// What guards are made of: bytes of kinds and ticks.
 const GUARDS: [u8; 5] = [0, 1, 2, 0x80, 0xFF];
 
-/// The longest list that is made, in bytes, and the longest record that is lent.
-const LONGEST_LIST: usize = 41 * STRETCH_BYTES;
+/// The longest list that is tried, in bytes, and the longest record that is lent.
+const LONGEST_LIST: usize = 65_537 * STRETCH_BYTES;
 const LONGEST_RECORD: usize = 8192;
 
 /// The bytes of a record around its terms, and the most that a term has.
@@ -94,7 +99,8 @@ impl Trial {
     fn differ(&mut self, list: &[u8], what: &str) {
         self.counts.differences += 1;
         if self.counts.differences <= PRINTED {
-            eprintln!("print: a list of {} bytes {:?}, {what}", list.len(), printed::stretches(list));
+            let shown = printed::stretches(&list[..list.len().min(LONGEST_SHOWN)]);
+            eprintln!("print: a list of {} bytes {shown:?}, {what}", list.len());
         }
     }
 
@@ -110,12 +116,12 @@ impl Trial {
         }
     }
 
-    /// Tries a list with room for its record, if it has one, and reads back one in many.
+    /// Tries a list with room for its record, if it has one, and reads it back; of the longest ones, one in many.
     fn attempt_with_room(&mut self, list: &[u8], random: &mut Random) {
         let printed = printed::print(list, &self.dates);
         let length = printed.record.len() + random.one_of(&[0, 0, 1, 1000]);
         self.attempt_record(list, &printed, length, random);
-        if printed.faults.is_empty() && random.once_in(32) {
+        if printed.faults.is_empty() && (list.len() < MOST_STRETCHES * STRETCH_BYTES || random.once_in(32)) {
             self.read_back(list, &printed.record, random.one_of(&OFFSETS));
         }
     }
@@ -166,7 +172,8 @@ impl Trial {
         let (checked, listed, again) = check_and_list(record, offset);
         let due = ((list.len() / STRETCH_BYTES) as u64) << 8;
         if (checked, listed) != (0, due) || again != list {
-            self.differ(list, &format!("read back under offset {offset}: checked {checked}, listed {listed}, {:?}", printed::stretches(&again)));
+            let again = printed::stretches(&again);
+            self.differ(list, &format!("read back under offset {offset}: checked {checked}, listed {listed}, {again:?}"));
         }
     }
 }
@@ -257,8 +264,7 @@ fn listed_records(options: &Options) -> bool {
     trial.counts.differences == 0 && (options.cases < 100_000 || in_years > 0 && outside > 0)
 }
 
-/// Every short list of bounds side by side, about the years' ends and those of all numbers too; every length of a list; and every length
-/// of a lent record for some lists.
+/// Every short list of bounds side by side, about the years' ends and those of all numbers too.
 fn short_lists() -> Counts {
     let mut random = Random::new(2);
     let mut trial = Trial::new(&mut random);
@@ -269,11 +275,20 @@ fn short_lists() -> Counts {
     }
     series::every_list(&series::neighbours(3, 3), 3, &mut attempt);
     series::every_list(&series::edges(), 1, &mut attempt);
+    trial.counts
+}
 
-    let long: Vec<Stretch> = (0..40).map(|i| [2, 2 * i, 1, 2 * i + 1]).collect();
+/// Every length of a list up to 40 stretches, and some far greater ones; and every length of a lent record for some lists.
+fn every_length() -> Counts {
+    let mut random = Random::new(3);
+    let mut trial = Trial::new(&mut random);
+    let long: Vec<Stretch> = (0..65_537).map(|i| [2, 2 * i, 1, 2 * i + 1]).collect();
     let long = lists::bytes(&long);
-    (0..=long.len()).for_each(|length| trial.attempt_with_room(&long[..length], &mut random));
-
+    (0..=40 * STRETCH_BYTES).for_each(|length| trial.attempt_with_room(&long[..length], &mut random));
+    for count in [64, 256, 257, 65_536, 65_537] {
+        let too_many = Printed { faults: BTreeSet::from([Fault::TooMany]), record: Vec::new() };
+        trial.attempt_record(&long[..count * STRETCH_BYTES], &too_many, LONGEST_RECORD, &mut random);
+    }
     for stretches in series::some_lists() {
         let list = lists::bytes(&stretches);
         let printed = printed::print(&list, &trial.dates);
@@ -287,7 +302,7 @@ fn short_lists() -> Counts {
 
 /// Every day of years 1 to 9999, every second of some days and every fraction of some seconds, by their first and last ticks.
 fn every_moment() -> Counts {
-    let mut random = Random::new(3);
+    let mut random = Random::new(4);
     let mut trial = Trial::new(&mut random);
     let days = trial.dates.count() as i64;
     if days != 3_652_059 {
@@ -319,10 +334,12 @@ pub fn run(options: &Options) -> bool {
     alike &= listed_records(options);
     if !options.only_made {
         let short = short_lists();
-        short.print("every short list of some bounds, and every length of some lists and of their records");
+        short.print("every short list of some bounds");
+        let lengths = every_length();
+        lengths.print("every length of a list, and of a lent record for some lists");
         let moments = every_moment();
         moments.print("every day of years 1 to 9999, every second of some days, every fraction of some seconds");
-        alike &= short.differences == 0 && moments.differences == 0;
+        alike &= [short, lengths, moments].iter().all(|counts| counts.differences == 0);
     }
     alike
 }

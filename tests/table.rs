@@ -1,4 +1,4 @@
-//! The tables of tests/records: lines of words and texts, as the head of tests/records/check.txt says, and lists, as that of print.txt does.
+//! The tables of tests/records: lines of words and texts, as the head of tests/records/check.txt says, and lists, as that of print.txt.
 
 /// The lines that say something, with their numbers from 1 on.
 pub fn lines(table: &'static str) -> impl Iterator<Item = (usize, &'static str)> {

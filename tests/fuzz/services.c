@@ -513,6 +513,8 @@ static void claim_with_enough(struct lent list, size_t record_length, uint64_t a
         CLAIM(rigcactus_refusal(enough) == RIGCACTUS_ACCEPTED && rigcactus_length(enough) > record_length);
     else
         CLAIM(enough == answer);
+    if (list.length == 0)
+        CLAIM(rigcactus_print(NULL, 0, record, sizeof record) == enough);
     if (rigcactus_refusal(enough) == RIGCACTUS_ACCEPTED)
         claim_room(list, rigcactus_length(enough));
 }
