@@ -10,7 +10,7 @@
 #     make valgrind runs every command, and damaged records, under valgrind
 #     make bench    compares speed with what would be used instead: Rust's standard library, glibc, expat, Boost.ICL
 #     make bench-page    the same, and puts the tables into docs/BENCH.md
-#     make compare-expat    compares the reader of markup with expat on a million texts; it needs expat
+#     make compare-expat    compares the reader of markup with expat on a million texts, and has expat read printed records; it needs expat
 #     make fuzz     fuzzes the services for half an hour, or for SECONDS=N; it needs clang with libFuzzer
 #     make clean    removes target/
 
@@ -39,7 +39,7 @@ version = 0.1.0
 records = $(wildcard tests/records/*.txt)
 proved = $(shell find crates \( -name '*.rt' -o -name '*.antt' \) -not -path '*/must-fail/*') crates.txt
 # The services that the archive has. Adding one here has tests/services.rs try it.
-services = rigcactus_cut rigcactus_tick rigcactus_check rigcactus_list rigcactus_compare
+services = rigcactus_cut rigcactus_tick rigcactus_check rigcactus_list rigcactus_compare rigcactus_print
 c_api = $(patsubst %,target/tests/c_api_%,1 2 3 4 5)
 tests = target/tests/header_c $(c_api) target/tests/documents target/tests/services target/tests/stack target/tests/replay target/tests/planted target/tests/seeds \
 	target/tests/markup_stack target/tests/markup_reader target/tests/moment target/tests/damage
@@ -185,12 +185,17 @@ target/tests/markup_reader: tests/markup/reader.rs tests/random.rs $(markup_arch
 	$(RUSTC) $(RUSTFLAGS) -o $@ $< -L native=target/staticlib -l static=markup_bench
 
 # Not among the tests: expat is asked for nowhere else.
-compare-expat: target/tests/compare_expat
+compare-expat: target/tests/compare_expat target/tests/print_expat
 	target/tests/compare_expat
+	target/tests/print_expat
 
 target/tests/compare_expat: tests/markup/expat.c $(markup_archive)
 	@mkdir -p $(@D)
 	$(CC) $(CFLAGS) -o $@ $< $(markup_archive) -lexpat
+
+target/tests/print_expat: tests/print/expat.c $(header) $(archive)
+	@mkdir -p $(@D)
+	$(CC) $(CFLAGS) -Iinclude -o $@ $< $(archive) -lexpat
 
 # The fuzzer is led by the branches that are taken in the services and in the second implementations, both compiled for it here. Not among
 # the tests either.
@@ -213,7 +218,7 @@ target/fuzz/services: tests/fuzz/services.c $(header) target/fuzz/librigcactus.a
 
 # The bench is linked with the services at four places, since their speed depends on that. Without expat nothing is there to compare
 # checking and comparing with, and listing is compared with Boost.ICL's sets as well.
-benches = cut tick $(if $(expat),check compare $(if $(boost),list))
+benches = cut tick print $(if $(expat),check compare $(if $(boost),list))
 bench: $(foreach bench,$(benches),$(places:%=target/bench/%/$(bench)))
 	@bench/times
 	@bench/instructions
@@ -229,6 +234,9 @@ target/bench/%/cut: bench/cut.rs target/bench/%/librigcactus.a
 	$(RUSTC) $(RUSTFLAGS) -o $@ $< -L native=$(@D) -l static=rigcactus
 
 target/bench/%/tick: bench/tick.c bench/sides.h $(header) target/bench/%/librigcactus.a
+	$(CC) $(CFLAGS) -Iinclude -o $@ $< $(@D)/librigcactus.a
+
+target/bench/%/print: bench/print.c bench/sides.h $(header) target/bench/%/librigcactus.a
 	$(CC) $(CFLAGS) -Iinclude -o $@ $< $(@D)/librigcactus.a
 
 target/bench/%/check: bench/check.c bench/sides.h bench/records.h $(header) target/bench/%/librigcactus.a

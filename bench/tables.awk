@@ -88,9 +88,10 @@ function by_set(service, other, sets,  count, names, i) {
     print "| " names[i] " | " written_bytes(service, names[i]) " | " both(service, names[i], other) " |"
 }
 
-# How cost grows, by the byte, or by the interval, as the name of a set says: a line for each.
+# How cost grows, by the byte, or by the interval or the stretch, as the name of a set says: a line for each.
 function growth(service, kind, other, sizes, unit,  count, size, i, set, of, ours, theirs) {
-  head(unit == "byte" ? columns("Bytes", "a byte") : columns("Intervals", "an interval"))
+  if (unit == "byte") head(columns("Bytes", "a byte"))
+  else head(unit == "interval" ? columns("Intervals", "an interval") : columns("Stretches", "a stretch"))
   count = split(sizes, size, " ")
   for (i = 1; i <= count; i++) {
     set = kind "-" size[i]
@@ -147,6 +148,8 @@ function glances() {
   glance("compare", "intervals", "pass", "expat", "expat, strcmp, strtod")
   glance("compare", "names", "name-1000", "expat", "expat, strcmp, strtod")
   glance("compare", "names", "name-16000", "expat", "expat, strcmp, strtod")
+  glance("print", "1 stretch", "open-1", "glibc", "gmtime_r, snprintf")
+  glance("print", "32 stretches", "open-32", "glibc", "gmtime_r, snprintf")
 }
 
 function growths(  lengths) {
@@ -163,6 +166,8 @@ function growths(  lengths) {
   growth("compare", "name", "expat", lengths, "byte")
   title("Listing a union of intervals, beside expat and Boost.ICL:")
   growth("list", "flat", "expat+icl", "1 2 4 8 16 32", "interval")
+  title("Printing a list, beside glibc's `gmtime_r` and `snprintf`:")
+  growth("print", "open", "glibc", "1 2 4 8 16 32", "stretch")
 }
 
 function cuts(  texts) {
@@ -202,6 +207,7 @@ function all_shares() {
   share("check")
   share("list")
   share("compare")
+  share("print")
 }
 
 END {
@@ -212,4 +218,5 @@ END {
   else if (part == "tick") by_set("tick", "glibc", "desk all")
   else if (part == "list") lists()
   else if (part == "compare") compares()
+  else if (part == "print") by_set("print", "glibc", "open-1 open-32")
 }

@@ -1,7 +1,7 @@
 //! What is asked of a trial of the services.
 
 pub struct Options {
-    /// How many texts, records or pairs are made; for listing, how many calls, two for each record.
+    /// How many texts, records, pairs or lists are made; for listing, how many calls, two for each record.
     pub cases: u64,
     /// What they are made from.
     pub seed: u64,

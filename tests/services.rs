@@ -3,10 +3,11 @@
 //!
 //!     services [--cases N] [--seed S] [--only-made] [--service NAME]
 //!
-//! N is how many texts, records or pairs are tried with each service (500000), made from the seed S (1); a record to list is tried with two
-//! lists, and half as many are made. The same N and S make the same ones. Besides, every text of some kinds is tried, as every short one
-//! and every day, unless --only-made is given. NAME is the one service to try. A table says how often each answer occurred. The exit
-//! status is 1 where a service and the other implementation differ, or where some answer hardly occurred, and 2 for bad usage.
+//! N is how many texts, records, pairs or lists are tried with each service (500000), made from the seed S (1); a record to list is tried
+//! with two lists, and half as many are made. The same N and S make the same ones. Besides, every text and list of some kinds is tried, as
+//! every short one and every day, unless --only-made is given. NAME is the one service to try. A table says how often each answer
+//! occurred. The exit status is 1 where a service and the other implementation differ, or where some answer hardly occurred, and 2 for bad
+//! usage.
 
 mod check;
 mod compare;
@@ -15,14 +16,19 @@ mod faults;
 mod lent;
 mod likeness;
 mod list;
+mod lists;
 mod markup;
 mod options;
 mod pairs;
 mod places;
+mod print;
+mod printed;
 mod random;
 mod records;
+mod series;
 mod sets;
 mod table;
+mod tally;
 mod tick;
 
 use std::process::ExitCode;
@@ -30,8 +36,14 @@ use std::process::ExitCode;
 use options::Options;
 
 /// What tries each service, and says whether it agrees with the other implementation.
-const SERVICES: [(&str, fn(&Options) -> bool); 5] =
-    [("cut", cut::run), ("tick", tick::run), ("check", check::run), ("list", list::run), ("compare", compare::run)];
+const SERVICES: [(&str, fn(&Options) -> bool); 6] = [
+    ("cut", cut::run),
+    ("tick", tick::run),
+    ("check", check::run),
+    ("list", list::run),
+    ("compare", compare::run),
+    ("print", print::run),
+];
 
 fn options() -> Option<Options> {
     let mut options = Options { cases: 500_000, seed: 1, only_made: false, service: None };

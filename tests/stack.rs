@@ -16,14 +16,19 @@ mod faults;
 mod lent;
 mod likeness;
 mod list;
+mod lists;
 mod markup;
 mod options;
 mod pairs;
 mod places;
+mod print;
+mod printed;
 mod random;
 mod records;
+mod series;
 mod sets;
 mod table;
+mod tally;
 mod tick;
 
 use std::ffi::c_void;
@@ -40,6 +45,7 @@ extern "C" {
     fn rigcactus_check(record: *const u8, record_len: usize, offset: i64) -> u64;
     fn rigcactus_list(record: *const u8, record_len: usize, offset: i64, list: *mut u8, list_len: usize) -> u64;
     fn rigcactus_compare(first: *const u8, first_len: usize, second: *const u8, second_len: usize, offset: i64) -> u64;
+    fn rigcactus_print(list: *const u8, list_len: usize, record: *mut u8, record_len: usize) -> u64;
 
     /// Calls a service with five words on the stack that ends at `top`.
     fn call_on_stack(top: *mut u64, service: *const c_void, words: *const u64) -> u64;
@@ -73,12 +79,19 @@ enum Service {
     Check,
     List,
     Compare,
+    Print,
 }
 use Service::*;
 
 /// The services, and the most bytes of stack that each is said to take.
-const SERVICES: [(Service, &str, usize); 5] =
-    [(Cut, "cut", 256), (Tick, "tick", 1024), (Check, "check", 8192), (List, "list", 49152), (Compare, "compare", 8192)];
+const SERVICES: [(Service, &str, usize); 6] = [
+    (Cut, "cut", 256),
+    (Tick, "tick", 1024),
+    (Check, "check", 8192),
+    (List, "list", 49152),
+    (Compare, "compare", 8192),
+    (Print, "print", 8192),
+];
 
 // ---- The stack -----------------------------------------------------------------------------------------------------
 
@@ -111,6 +124,7 @@ impl Stack {
         let (first, second) = (&input.first, &input.second);
         let mut tick = 0_i64;
         let mut list = [0_u8; 1024];
+        let mut record = [0_u8; 8192];
         let (at, length, number) = (first.as_ptr() as u64, first.len() as u64, input.number as u64);
         let (function, words): (*const c_void, [u64; 5]) = match service {
             Cut => (rigcactus_cut as *const c_void, [at, length, number, 0, 0]),
@@ -118,6 +132,7 @@ impl Stack {
             Check => (rigcactus_check as *const c_void, [at, length, number, 0, 0]),
             List => (rigcactus_list as *const c_void, [at, length, number, list.as_mut_ptr() as u64, 1024]),
             Compare => (rigcactus_compare as *const c_void, [at, length, second.as_ptr() as u64, second.len() as u64, number]),
+            Print => (rigcactus_print as *const c_void, [at, length, record.as_mut_ptr() as u64, 8192, 0]),
         };
         // SAFETY: the words are the service's arguments, with pointers to memory of the lengths beside them, and the stack is free.
         unsafe { call_on_stack(self.words.as_mut_ptr().add(WORDS), function, words.as_ptr()) };
@@ -129,7 +144,7 @@ impl Stack {
 
 // ---- Inputs --------------------------------------------------------------------------------------------------------
 
-/// A text, a record or two; and the room or the agreed offset.
+/// A text, a list, a record or two; and the room or the agreed offset.
 struct Input {
     what: String,
     first: Vec<u8>,
@@ -239,7 +254,14 @@ fn long_texts() -> Vec<Input> {
     inputs
 }
 
-/// The records of tests/records, and the pairs.
+/// Lists with and without stretches, and one of more than there may be.
+fn short_and_long_lists() -> Vec<Input> {
+    let mut inputs: Vec<Input> = series::some_lists().iter().map(|stretches| input("a list", lists::bytes(stretches))).collect();
+    inputs.push(input("too many stretches", lists::bytes(&[[0; 4]; 512])));
+    inputs
+}
+
+/// The records of tests/records, the pairs and the lists.
 fn stored() -> Vec<Input> {
     let mut inputs = Vec::new();
     for (table, count) in [(include_str!("records/check.txt"), 3), (include_str!("records/list.txt"), 5)] {
@@ -257,6 +279,9 @@ fn stored() -> Vec<Input> {
         (input.second, input.number) = (table::bytes(second), words[1].parse().unwrap());
         inputs.push(input);
     }
+    for (number, line) in table::lines(include_str!("records/print.txt")) {
+        inputs.push(input(&format!("a stored list, line {number}"), table::list(line.split(' ').nth(2).unwrap())));
+    }
     inputs
 }
 
@@ -270,6 +295,7 @@ fn made(service: Service, random: &mut Random, calendar: &Calendar) -> Input {
         Check => (maker.record(), Vec::new()),
         List => (maker.record_to_list(), Vec::new()),
         Compare => maker.pair(),
+        Print => (lists::list(maker.random), Vec::new()),
     };
     Input { what: "a made input".to_string(), first, second, number: offset }
 }
@@ -303,7 +329,7 @@ fn main() -> ExitCode {
     let calendar = Calendar::new();
     let mut random = Random::new(options.seed);
     let mut stack = Stack::new();
-    let inputs: Vec<Input> = [nested_sets(), long_records(), long_texts(), stored()].into_iter().flatten().collect();
+    let inputs: Vec<Input> = [nested_sets(), long_records(), long_texts(), short_and_long_lists(), stored()].into_iter().flatten().collect();
     let mut within = true;
     for (service, name, bound) in SERVICES {
         let (bytes, deepest) = most(&mut stack, service, inputs.iter());

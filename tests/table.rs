@@ -1,4 +1,4 @@
-//! The tables of tests/records: lines of words and texts, as the head of tests/records/check.txt says.
+//! The tables of tests/records: lines of words and texts, as the head of tests/records/check.txt says, and lists, as that of print.txt.
 
 /// The lines that say something, with their numbers from 1 on.
 pub fn lines(table: &'static str) -> impl Iterator<Item = (usize, &'static str)> {
@@ -38,6 +38,15 @@ pub fn bytes(text: &str) -> Vec<u8> {
     }
     bytes.extend(rest.bytes());
     bytes
+}
+
+/// The bytes of the list that a text of print.txt writes: its numbers, and so many bytes more, each 0.
+pub fn list(text: &str) -> Vec<u8> {
+    let (numbers, more) = text.split_once('+').unwrap_or((text, "0"));
+    let numbers = numbers.split(',').filter(|number| *number != "-");
+    let mut list: Vec<u8> = numbers.flat_map(|number| number.parse::<i64>().unwrap().to_le_bytes()).collect();
+    list.resize(list.len() + more.parse::<usize>().unwrap(), 0);
+    list
 }
 
 /// The interval that `NAME LOW,HIGH]` or `NAME LOW,HIGH)` writes.

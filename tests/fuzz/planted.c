@@ -11,12 +11,14 @@ uint64_t __real_rigcactus_tick(const uint8_t *text, size_t text_len, int64_t off
 uint64_t __real_rigcactus_check(const uint8_t *record, size_t record_len, int64_t offset);
 uint64_t __real_rigcactus_list(const uint8_t *record, size_t record_len, int64_t offset, uint8_t *list, size_t list_len);
 uint64_t __real_rigcactus_compare(const uint8_t *first, size_t first_len, const uint8_t *second, size_t second_len, int64_t offset);
+uint64_t __real_rigcactus_print(const uint8_t *list, size_t list_len, uint8_t *record, size_t record_len);
 
 uint64_t __wrap_rigcactus_cut(const uint8_t *text, size_t text_len, uint64_t room);
 uint64_t __wrap_rigcactus_tick(const uint8_t *text, size_t text_len, int64_t offset, int64_t *tick);
 uint64_t __wrap_rigcactus_check(const uint8_t *record, size_t record_len, int64_t offset);
 uint64_t __wrap_rigcactus_list(const uint8_t *record, size_t record_len, int64_t offset, uint8_t *list, size_t list_len);
 uint64_t __wrap_rigcactus_compare(const uint8_t *first, size_t first_len, const uint8_t *second, size_t second_len, int64_t offset);
+uint64_t __wrap_rigcactus_print(const uint8_t *list, size_t list_len, uint8_t *record, size_t record_len);
 
 static volatile uint8_t last_read;
 
@@ -91,6 +93,21 @@ uint64_t __wrap_rigcactus_compare(const uint8_t *first, size_t first_len, const 
     case 17: return answer == RIGCACTUS_UNKNOWN << 16 ? RIGCACTUS_YES << 16 : answer;
     case 18: return rigcactus_refused_record(answer) == 2 ? answer - 256 : answer;      /* the first is named for the second */
     case 19: return answer == RIGCACTUS_NO << 16 && first_len > second_len ? RIGCACTUS_UNKNOWN << 16 : answer;
+    }
+    return answer;
+}
+
+uint64_t __wrap_rigcactus_print(const uint8_t *list, size_t list_len, uint8_t *record, size_t record_len)
+{
+    uint64_t answer = __real_rigcactus_print(list, list_len, record, record_len);
+    size_t length = rigcactus_length(answer);
+
+    switch (planted()) {
+    case 20: if (answer == RIGCACTUS_NO_ROOM && record_len > 0) record[0] = '<'; break;        /* written though it is refused */
+    case 21: if (length > 0 && length < record_len) record[length] ^= 1; break;                /* written past the record */
+    case 22: return answer == RIGCACTUS_NOT_WRITABLE && record_len == 0 ? RIGCACTUS_NO_ROOM : answer;
+    case 23: if (length > 0 && list_len == 0) record[115] = record[155] = '1'; break;          /* another time for no stretch */
+    case 24: last_read = list[list_len]; break;                                                /* a byte after the list is read */
     }
     return answer;
 }

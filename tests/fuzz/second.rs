@@ -1,4 +1,4 @@
-//! The second implementations of the five services behind a C interface, for tests/fuzz/services.c: each function takes what the service
+//! The second implementations of the six services behind a C interface, for tests/fuzz/services.c: each function takes what the service
 //! takes, and answers and writes what is due.
 
 // Only what says what is due is used of the files here, and not what makes texts and counts answers.
@@ -18,6 +18,8 @@ mod markup;
 mod options;
 #[path = "../places.rs"]
 mod places;
+#[path = "../printed.rs"]
+mod printed;
 #[path = "../random.rs"]
 mod random;
 #[path = "../tick.rs"]
@@ -27,11 +29,17 @@ use std::slice;
 use std::sync::OnceLock;
 
 use options::Options;
+use printed::Dates;
 use tick::Calendar;
 
 fn calendar() -> &'static Calendar {
     static CALENDAR: OnceLock<Calendar> = OnceLock::new();
     CALENDAR.get_or_init(Calendar::new)
+}
+
+fn dates() -> &'static Dates {
+    static DATES: OnceLock<Dates> = OnceLock::new();
+    DATES.get_or_init(Dates::new)
 }
 
 /// # Safety
@@ -73,4 +81,14 @@ pub unsafe extern "C" fn second_list(record: *const u8, record_len: usize, offse
 pub unsafe extern "C" fn second_compare(first: *const u8, first_len: usize, second: *const u8, second_len: usize, offset: i64) -> u64 {
     let (first, second) = (slice::from_raw_parts(first, first_len), slice::from_raw_parts(second, second_len));
     likeness::compare(first, second, offset, calendar()).due.packed()
+}
+
+/// # Safety
+/// The pointers lead to so many bytes, of which nobody else changes any during the call, and which do not overlap.
+#[no_mangle]
+pub unsafe extern "C" fn second_print(list: *const u8, list_len: usize, record: *mut u8, record_len: usize) -> u64 {
+    let lent = slice::from_raw_parts_mut(record, record_len);
+    let printed = printed::print(slice::from_raw_parts(list, list_len), dates());
+    lent.copy_from_slice(&printed.after(lent));
+    printed.answer(record_len)
 }

@@ -2,8 +2,8 @@
 //!
 //!     seeds FOLDER
 //!
-//! They are the records of tests/records and of examples/records, the names of examples/names, and some timestamps, in the form that
-//! tests/fuzz/services.c reads.
+//! They are the records and lists of tests/records, the records of examples/records, the names of examples/names, and some timestamps, in
+//! the form that tests/fuzz/services.c reads.
 
 #[path = "../table.rs"]
 mod table;
@@ -17,6 +17,7 @@ const TICK: u8 = 1;
 const CHECK: u8 = 2;
 const LIST: u8 = 3;
 const COMPARE: u8 = 4;
+const PRINT: u8 = 5;
 
 /// What parts two records in an input.
 const PART: u8 = 0xFF;
@@ -45,7 +46,7 @@ impl Writer {
         fs::write(self.folder.join(format!("{:05}", self.count)), input).unwrap();
     }
 
-    /// The stored records: each checked and listed; those of list.txt with their lists, and the pairs.
+    /// The stored records: each checked and listed; those of list.txt with their lists, which are printed too; the pairs, and the lists.
     fn tables(&mut self) {
         for (_, line) in table::lines(include_str!("../records/check.txt")) {
             let words: Vec<&str> = line.splitn(3, ' ').collect();
@@ -56,12 +57,19 @@ impl Writer {
         for (_, line) in table::lines(include_str!("../records/list.txt")) {
             let words: Vec<&str> = line.splitn(5, ' ').collect();
             self.write(LIST, words[1].parse().unwrap(), words[2].parse().unwrap(), &table::bytes(words[4]));
+            if words[3] != "-" {
+                self.write(PRINT, words[1].parse().unwrap(), 8191, &table::list(words[3]));
+            }
         }
         for (_, line) in table::lines(include_str!("../records/compare.txt")) {
             let words: Vec<&str> = line.splitn(3, ' ').collect();
             let (first, second) = words[2].split_once(" ~ ").unwrap();
             let pair = [table::bytes(first), table::bytes(second)].join(&PART);
             self.write(COMPARE, words[1].parse().unwrap(), 0, &pair);
+        }
+        for (_, line) in table::lines(include_str!("../records/print.txt")) {
+            let words: Vec<&str> = line.splitn(4, ' ').collect();
+            self.write(PRINT, 0, words[1].parse().unwrap(), &table::list(words[2]));
         }
     }
 

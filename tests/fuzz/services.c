@@ -1,17 +1,18 @@
 /*
- * Fuzzes the five services through the C interface. An input chooses a service and its arguments; the answer is held to what the header
+ * Fuzzes the six services through the C interface. An input chooses a service and its arguments; the answer is held to what the header
  * says of it, to the other services, to the same call with other arguments, and to the second implementations of second.rs. All that is
  * lent stands beside a page that nobody may touch, so a read or a write past its end stops the run, though the services are compiled
  * without any check of their own. tests/fuzz/run says how this is built and run.
  *
  * An input is:
  *
- *     byte 0           the service: 0 cut, 1 tick, 2 check, 3 list, 4 compare, by the remainder of 5
- *     bytes 1 and 2    the agreed offset, signed, lowest first
- *     bytes 3 and 4    the room of a cut, or the length of the lent list
- *     byte 5           what the lent list and the lent tick are filled with; and, if its lowest bit is set, offset and room are moved to
- *                      the top of their 64 bits
- *     the rest         the text or the record; for compare two records, parted by a byte FF, or one that is compared with itself
+ *     byte 0           the service: 0 cut, 1 tick, 2 check, 3 list, 4 compare, 5 print, by the remainder of 6
+ *     bytes 1 and 2    the agreed offset, signed, lowest first; for print, the one that the record is read back under, if it may be
+ *     bytes 3 and 4    the room of a cut, or the length of the lent list or the lent record
+ *     byte 5           what the lent list, record or tick is filled with; and, if its lowest bit is set, offset and room are moved to the
+ *                      top of their 64 bits
+ *     the rest         the text, the record or the list to print; for compare two records, parted by a byte FF, or one that is compared
+ *                      with itself
  */
 #define _DEFAULT_SOURCE
 #include "rigcactus.h"
@@ -27,11 +28,12 @@ uint64_t second_tick(const uint8_t *text, size_t text_len, int64_t offset, int64
 uint64_t second_check(const uint8_t *record, size_t record_len, int64_t offset);
 uint64_t second_list(const uint8_t *record, size_t record_len, int64_t offset, uint8_t *list, size_t list_len);
 uint64_t second_compare(const uint8_t *first, size_t first_len, const uint8_t *second, size_t second_len, int64_t offset);
+uint64_t second_print(const uint8_t *list, size_t list_len, uint8_t *record, size_t record_len);
 
-enum { PAGE = 4096, ROOM = 32768, HEAD = 6, MOST_LIST = 2047, SPACES = 2 };
+enum { PAGE = 4096, ROOM = 32768, HEAD = 6, MOST_LIST = 2047, MOST_RECORD = 8191, SPACES = 2 };
 
-/* The first and the last tick that a timestamp can have. */
-static const int64_t FIRST_TICK = -504000000, LAST_TICK = 3155379479999999;
+/* The first and the last tick that a timestamp can have, and the last of those in years 0001 to 9999, of which the first is 0. */
+static const int64_t FIRST_TICK = -504000000, LAST_TICK = 3155379479999999, LAST_IN_YEARS = 3155378975999999;
 
 /* Ends the run, so that the fuzzer keeps the input. */
 #define CLAIM(holds) \
@@ -46,7 +48,7 @@ static const int64_t FIRST_TICK = -504000000, LAST_TICK = 3155379479999999;
  * One byte for each kind of answer: a fuzzer that knows this section counts the first of each kind as something new, beside what the
  * instrumented code shows.
  */
-static uint8_t seen[5][12][64] __attribute__((section("__libfuzzer_extra_counters"), used));
+static uint8_t seen[6][13][64] __attribute__((section("__libfuzzer_extra_counters"), used));
 
 static void see(int service, uint64_t answer, uint64_t result)
 {
@@ -81,7 +83,7 @@ static struct lent place(struct fenced fenced, const uint8_t *bytes, size_t leng
     return (struct lent){at, length};
 }
 
-static struct fenced one, two, list_room, tick_room;
+static struct fenced one, two, list_room, tick_room, record_room;
 
 static void set_up(void)
 {
@@ -91,6 +93,7 @@ static void set_up(void)
     two = new_fenced();
     list_room = new_fenced();
     tick_room = new_fenced();
+    record_room = new_fenced();
 }
 
 /* Whether bytes are all of one value. */
@@ -327,6 +330,25 @@ static void claim_stretches(const uint8_t *list, size_t count)
     }
 }
 
+static int is_in_years(int kind, int64_t tick)
+{
+    return kind == RIGCACTUS_UNBOUNDED || (0 <= tick && tick <= LAST_IN_YEARS);
+}
+
+/* A list can be printed, unless it has a tick outside years 0001 to 9999. */
+static void claim_printed(const uint8_t *list, size_t count)
+{
+    static uint8_t record[MOST_RECORD];
+    int in_years = 1;
+
+    for (size_t i = 0; i < count; i++) {
+        struct rigcactus_stretch stretch = rigcactus_stretch_at(list, i);
+        in_years &= is_in_years(stretch.low_kind, stretch.low_tick) && is_in_years(stretch.high_kind, stretch.high_tick);
+    }
+    uint64_t answer = rigcactus_print(list, count * RIGCACTUS_STRETCH_BYTES, record, sizeof record);
+    CLAIM(rigcactus_refusal(answer) == (in_years ? RIGCACTUS_ACCEPTED : RIGCACTUS_NOT_WRITABLE));
+}
+
 /* What checking says of a record that is listed. */
 static void claim_checked(struct lent record, int64_t offset, int refusal)
 {
@@ -379,6 +401,8 @@ static void try_list(const uint8_t *bytes, size_t length, int64_t offset, size_t
     CLAIM(count <= RIGCACTUS_MOST_INTERVALS && written <= list.length);
     CLAIM(is_all(list.bytes + written, list.length - written, fill) && is_all(list.bytes - 64, 64, 0x69));
     claim_stretches(list.bytes, count);
+    if (refusal == RIGCACTUS_ACCEPTED)
+        claim_printed(list.bytes, count);
     claim_checked(record, offset, refusal);
     claim_with_room(record, offset, list, answer);
     CLAIM(length == 0 || memcmp(record.bytes, bytes, length) == 0);
@@ -454,6 +478,76 @@ static void try_compare(const uint8_t *bytes, size_t length, int64_t offset)
     CLAIM(compare(place(one, bytes, first_length, 0), place(two, second_bytes, second_length, 0), offset) == answer);
 }
 
+/* ---- Print -------------------------------------------------------------------------------------------------------- */
+
+/* A printed record is accepted, and listing it gives the list back, under any agreed offset. */
+static void claim_read_back(struct lent list, struct lent record, int64_t offset)
+{
+    uint8_t again[RIGCACTUS_MOST_LIST_BYTES];
+
+    CLAIM(check(record, offset) == RIGCACTUS_ACCEPTED);
+    uint64_t listed = rigcactus_list(record.bytes, record.length, offset, again, list.length);
+    CLAIM(listed == (uint64_t)(list.length / RIGCACTUS_STRETCH_BYTES) << 8);
+    CLAIM(list.length == 0 || memcmp(again, list.bytes, list.length) == 0);
+}
+
+/* A list that can be printed is one as listing writes it, and its record fits into just its length and not into less. */
+static void claim_room(struct lent list, size_t length)
+{
+    static uint8_t record[MOST_RECORD];
+
+    CLAIM(list.length % RIGCACTUS_STRETCH_BYTES == 0 && list.length <= RIGCACTUS_MOST_LIST_BYTES);
+    claim_stretches(list.bytes, list.length / RIGCACTUS_STRETCH_BYTES);
+    CLAIM(rigcactus_print(list.bytes, list.length, record, length) == (uint64_t)length << 8);
+    CLAIM(rigcactus_print(list.bytes, list.length, record, length - 1) == RIGCACTUS_NO_ROOM);
+    CLAIM(rigcactus_print(list.bytes, list.length, NULL, 0) == RIGCACTUS_NO_ROOM);
+}
+
+/* Whether a list can be printed does not go by the room: with room enough NO ROOM becomes a length that had no room. */
+static void claim_with_enough(struct lent list, size_t record_length, uint64_t answer)
+{
+    static uint8_t record[MOST_RECORD];
+    uint64_t enough = rigcactus_print(list.bytes, list.length, record, sizeof record);
+
+    if (answer == RIGCACTUS_NO_ROOM)
+        CLAIM(rigcactus_refusal(enough) == RIGCACTUS_ACCEPTED && rigcactus_length(enough) > record_length);
+    else
+        CLAIM(enough == answer);
+    if (list.length == 0)
+        CLAIM(rigcactus_print(NULL, 0, record, sizeof record) == enough);
+    if (rigcactus_refusal(enough) == RIGCACTUS_ACCEPTED)
+        claim_room(list, rigcactus_length(enough));
+}
+
+static void try_print(const uint8_t *bytes, size_t length, int64_t offset, size_t record_length, uint8_t fill)
+{
+    static uint8_t before[MOST_RECORD], due[MOST_RECORD];
+    memset(before, fill, record_length);
+    memset(due, fill, record_length);
+    struct lent list = place(one, bytes, length, 1), record = place(record_room, before, record_length, 1);
+    /* Bytes before the record, which are to stay too; behind it is the fence. */
+    memset(record.bytes - 64, 0x69, 64);
+    uint64_t answer = rigcactus_print(list.bytes, list.length, record.bytes, record.length);
+    size_t written = rigcactus_length(answer);
+
+    see(5, answer, length / RIGCACTUS_STRETCH_BYTES);
+    CLAIM(answer == second_print(list.bytes, list.length, due, record_length));
+    CLAIM(memcmp(record.bytes, due, record_length) == 0);
+    CLAIM(answer == RIGCACTUS_NOT_WRITABLE || answer == RIGCACTUS_NO_ROOM || answer == (uint64_t)written << 8);
+    CLAIM(written <= record.length);
+    CLAIM(is_all(record.bytes + written, record.length - written, fill) && is_all(record.bytes - 64, 64, 0x69));
+    claim_with_enough(list, record_length, answer);
+    if (rigcactus_refusal(answer) == RIGCACTUS_ACCEPTED) {
+        claim_read_back(list, (struct lent){record.bytes, written}, is_offset(offset) ? offset : 0);
+        claim_read_back(list, (struct lent){record.bytes, written}, other_offset(offset));
+    }
+    CLAIM(length == 0 || memcmp(list.bytes, bytes, length) == 0);
+    list = place(one, bytes, length, 0);
+    record = place(record_room, before, record_length, 0);
+    CLAIM(rigcactus_print(list.bytes, list.length, record.bytes, record.length) == answer);
+    CLAIM(memcmp(record.bytes, due, record_length) == 0);
+}
+
 /* ---- Inputs ------------------------------------------------------------------------------------------------------- */
 
 int LLVMFuzzerTestOneInput(const uint8_t *input, size_t input_len);
@@ -471,12 +565,13 @@ int LLVMFuzzerTestOneInput(const uint8_t *input, size_t input_len)
     const uint8_t *bytes = input + HEAD;
     size_t length = input_len - HEAD;
 
-    switch (input[0] % 5) {
+    switch (input[0] % 6) {
     case 0: try_cut(bytes, length, cut_room); break;
     case 1: try_tick(bytes, length, offset, fill); break;
     case 2: try_check(bytes, length, offset); break;
     case 3: try_list(bytes, length, offset, room & MOST_LIST, fill); break;
-    default: try_compare(bytes, length, offset); break;
+    case 4: try_compare(bytes, length, offset); break;
+    default: try_print(bytes, length, offset, room & MOST_RECORD, fill); break;
     }
     return 0;
 }
