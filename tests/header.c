@@ -321,7 +321,7 @@ static void check_list_refusals(void)
     CHECK(rigcactus_list((const uint8_t *)many, sizeof many, 0, lent, 1024) == RIGCACTUS_TOO_LONG && is_kept(0));
 }
 
-/* A list to print, at an odd address; a record, with bytes before it and after it; and what every byte of these is before each call. */
+/* A list to print, at an odd address, and a record, with bytes before it and after it. */
 static uint8_t to_print[1 + RIGCACTUS_MOST_LIST_BYTES + RIGCACTUS_STRETCH_BYTES];
 static uint8_t lent_record[BESIDE + RIGCACTUS_MOST_PRINTED_BYTES + BESIDE];
 
@@ -345,7 +345,7 @@ static uint64_t print_of(size_t list_len, size_t record_len)
     return rigcactus_print(to_print + 1, list_len, lent_record + BESIDE, record_len);
 }
 
-/* Whether all bytes around the record are as before, and in it so many at its start are this text, the others as before. */
+/* Whether the record begins with this text, and all other bytes are as before. */
 static int is_record(const char *text)
 {
     size_t length = strlen(text);
