@@ -285,7 +285,7 @@ uint64_t rigcactus_list(const uint8_t *record, size_t record_len, int64_t offset
 
 /*
  * Prints a list of stretches as a record that can be sent: a QSU_TS named stay, with a term of type IVL_TS for each stretch, in
- * order. rigcactus_check accepts it, and rigcactus_list gives the same list for it, both with any agreed offset.
+ * order. rigcactus_check accepts it, and rigcactus_list gives the same list for it, whichever allowed offset is agreed.
  * rigcactus_length of the answer is its length in bytes, at most RIGCACTUS_MOST_PRINTED_BYTES.
  *
  * list, list_len        the stretches, as rigcactus_list writes them: RIGCACTUS_STRETCH_BYTES times as many bytes as its count
