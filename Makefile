@@ -1,8 +1,8 @@
 # Rigcactus: the library, the program over it, and what tries them. All that is built lies below target/.
 #
 #     make          the library (proved first) and the program, target/host/rigcactus
-#     make run      prints receipts, cuts names in several scripts, reads timestamps, checks and compares records, lists the times of passes,
-#                   for a reader to look at
+#     make run      prints receipts, cuts names in several scripts, reads timestamps, checks and compares records, lists the times of passes
+#                   and prints them back as records, for a reader to look at
 #     make install PREFIX=..    installs the archive, the header, a file for pkg-config, the program and manual pages; DESTDIR=.. goes before
 #                   PREFIX where they are only to be put, and make uninstall takes them away
 #     make test     tries the library, the header and the program
@@ -40,7 +40,7 @@ records = $(wildcard tests/records/*.txt)
 proved = $(shell find crates \( -name '*.rt' -o -name '*.antt' \) -not -path '*/must-fail/*') crates.txt
 # The services that the archive has. Adding one here has tests/services.rs try it.
 services = rigcactus_cut rigcactus_tick rigcactus_check rigcactus_list rigcactus_compare rigcactus_print
-c_api = $(patsubst %,target/tests/c_api_%,1 2 3 4 5)
+c_api = $(patsubst %,target/tests/c_api_%,1 2 3 4 5 6)
 tests = target/tests/header_c $(c_api) target/tests/documents target/tests/services target/tests/stack target/tests/replay target/tests/planted target/tests/seeds \
 	target/tests/markup_stack target/tests/markup_reader target/tests/moment target/tests/damage
 places = 0 16 32 48
@@ -81,6 +81,8 @@ run: $(program)
 	@examples/check.sh
 	@echo
 	@examples/list.sh
+	@echo
+	@examples/print.sh
 	@echo
 	@examples/compare.sh
 

@@ -7,6 +7,7 @@
 #include "moment.h"
 #include "receipt.h"
 #include "text.h"
+#include "words.h"
 
 #include <inttypes.h>
 #include <string.h>
@@ -164,22 +165,54 @@ static void write_stretch(struct rigcactus_stretch stretch, const struct options
     putchar('\n');
 }
 
-static int run_list(int argument_count, char **arguments, const struct options *options)
+/* Lists the set of a file, in a list that is long enough for every set. Gives the count of its stretches if it is accepted. */
+static int list_file(const char *name, int64_t offset, uint8_t list[RIGCACTUS_MOST_LIST_BYTES], size_t *count)
 {
-    (void)argument_count;
     struct input input;
-    int status = read_file(arguments[0], &input);
+    int status = read_file(name, &input);
     if (status != ACCEPTED)
         return status;
 
-    uint8_t list[RIGCACTUS_MOST_LIST_BYTES];
-    uint64_t answer = rigcactus_list(input.bytes, input.length, options->offset, list, sizeof list);
+    uint64_t answer = rigcactus_list(input.bytes, input.length, offset, list, RIGCACTUS_MOST_LIST_BYTES);
     if (rigcactus_refusal(answer) != RIGCACTUS_ACCEPTED)
         return say_refused(answer);
-    for (size_t i = 0; i < rigcactus_count(answer); i++)
+    *count = rigcactus_count(answer);
+    return ACCEPTED;
+}
+
+static int run_list(int argument_count, char **arguments, const struct options *options)
+{
+    (void)argument_count;
+    uint8_t list[RIGCACTUS_MOST_LIST_BYTES];
+    size_t count;
+    int status = list_file(arguments[0], options->offset, list, &count);
+    if (status != ACCEPTED)
+        return status;
+
+    for (size_t i = 0; i < count; i++)
         write_stretch(rigcactus_stretch_at(list, i), options);
-    if (rigcactus_count(answer) == 0 && !options->raw)
+    if (count == 0 && !options->raw)
         puts("no times");
+    return finish_output();
+}
+
+/* The line feed after the record is white space there: what is written can be read again. */
+static int run_print(int argument_count, char **arguments, const struct options *options)
+{
+    (void)argument_count;
+    uint8_t list[RIGCACTUS_MOST_LIST_BYTES];
+    size_t count;
+    int status = list_file(arguments[0], options->offset, list, &count);
+    if (status != ACCEPTED)
+        return status;
+
+    uint8_t record[RIGCACTUS_MOST_PRINTED_BYTES];
+    uint64_t answer = rigcactus_print(list, count * RIGCACTUS_STRETCH_BYTES, record, sizeof record);
+    int refusal = rigcactus_refusal(answer);
+    if (refusal != RIGCACTUS_ACCEPTED)
+        return say(REFUSED, "refused: %s (%d). Tell the clinic: %s", rigcactus_refusal_name(refusal), refusal, refusal_advice(refusal));
+    fwrite(record, 1, rigcactus_length(answer), stdout);
+    putchar('\n');
     return finish_output();
 }
 
@@ -241,6 +274,8 @@ static const struct command commands[] = {
      TAKES_OFFSET, run_check},
     {"list", "FILE [--offset MINUTES] [--raw]", "print the times that the set in FILE means, a line for each stretch", 1, false,
      TAKES_OFFSET | TAKES_RAW, run_list},
+    {"print", "FILE [--offset MINUTES]", "print the times that the set in FILE means as a record that a clinic can read", 1, false, TAKES_OFFSET,
+     run_print},
     {"compare", "FILE FILE [--offset MINUTES]", "print whether the records in both FILEs have the same value: yes, no or unknown", 2, false,
      TAKES_OFFSET, run_compare},
 };
@@ -265,6 +300,7 @@ static void write_usage(FILE *to)
             "writes times as clocks at the agreed offset show them. For a refused record it says what to tell the clinic.\n"
             "list writes times as clocks at that offset show them; with --raw as four numbers: low kind, low tick, high kind, high\n"
             "tick. Kinds are 0 unbounded, 1 not included, 2 included.\n"
+            "print writes times in UTC, as one line: a set of type QSU_TS, with a term for each stretch. list reads the same times in it.\n"
             "What is refused is named, with its number: by check in the line of its FILE, by receipt in its place, else on standard\n"
             "error. All of yes, no and unknown count as accepted.\n"
             "\n"

@@ -57,6 +57,8 @@ const char *refusal_advice(int refusal)
         return "it is not said when the pass starts or ends. Please send each start and each end, or NINF and PINF where there is none.";
     case RIGCACTUS_TOO_MANY:
         return "the pass is written with more than 32 intervals. Please write it with fewer, or as two passes.";
+    case RIGCACTUS_NOT_WRITABLE: /* a list that was just written is never improper */
+        return "a time lies outside years 0001 to 9999 in UTC. Please send times within them.";
     case RIGCACTUS_NO_ROOM:
         return "nothing. This desk has no room for so many stretches of time. Lend a longer list and read the record again.";
     default:

@@ -25,9 +25,10 @@
  * - Threads. There is no state, no allocation, no lock and no errno: any number of threads may call at the same time, and
  *   the same arguments always give the same answer.
  * - Lengths. A length is a size_t of 64 bits and at most PTRDIFF_MAX, as of any memory. A longer input than
- *   RIGCACTUS_MOST_BYTES is refused unread; a longer list than RIGCACTUS_MOST_LIST_BYTES is no use.
- * - Time. A call ends, after work that grows with the length of the input and stops at RIGCACTUS_MOST_BYTES. One start tag
- *   with many attributes takes work that grows with their square: docs/BENCH.md has the worst case.
+ *   RIGCACTUS_MOST_BYTES is refused unread, and a longer list than RIGCACTUS_MOST_LIST_BYTES is refused by rigcactus_print. For
+ *   what a service writes, RIGCACTUS_MOST_LIST_BYTES or RIGCACTUS_MOST_PRINTED_BYTES is enough, and more is no use.
+ * - Time. A call ends, after work that grows with the length of the input and stops at these limits. One start tag with many
+ *   attributes takes work that grows with their square: docs/BENCH.md has the worst case.
  * - Stack. docs/C-API.md says how much a service takes. There is no recursion beyond the 8 levels of a record.
  *
  * Link with librigcactus.a (Linux, x86-64). The header is C11 and C++. docs/C-API.md has a complete program.
@@ -59,6 +60,9 @@ extern "C" {
 /* The length of a list, in bytes, that no answer needs more of: a set has never more stretches than intervals. */
 #define RIGCACTUS_MOST_LIST_BYTES (RIGCACTUS_MOST_INTERVALS * RIGCACTUS_STRETCH_BYTES)
 
+/* The length of a record, in bytes, that no list needs more of to be printed: 32 stretches, open on both sides, need them all. */
+#define RIGCACTUS_MOST_PRINTED_BYTES 4735
+
 /* ---- Ticks -------------------------------------------------------------------------------------------------------- */
 
 /*
@@ -72,8 +76,8 @@ extern "C" {
 
 /*
  * The refusals of all services, and their numbers. Where several apply, a service gives the one that comes first in this
- * list. The list is the order, and the numbers are only names: a refusal that is added later may stand between two of
- * these with a larger number than both. So ask whether a number equals one of these, and not whether it is smaller.
+ * list. The list is the order, and the numbers are only names: 12 stands before 11, and a refusal that is added later may
+ * stand anywhere. So ask whether a number equals one of these, and not whether it is smaller.
  */
 enum rigcactus_refusals {
     RIGCACTUS_ACCEPTED = 0,       /* no refusal */
@@ -87,7 +91,8 @@ enum rigcactus_refusals {
     RIGCACTUS_RULE = 8,           /* an invariant of the data types is broken */
     RIGCACTUS_UNKNOWN_BOUND = 9,  /* a listed set or interval is null, or has a bound that is not known */
     RIGCACTUS_TOO_MANY = 10,      /* a listed set has over 32 intervals */
-    RIGCACTUS_NO_ROOM = 11        /* the lent list has room for fewer stretches than there are */
+    RIGCACTUS_NOT_WRITABLE = 12,  /* a list to print is improper, or has a tick outside years 0001 to 9999 */
+    RIGCACTUS_NO_ROOM = 11        /* the lent list is too short for the stretches, or the lent record for the bytes */
 };
 
 /*
@@ -108,6 +113,7 @@ static inline const char *rigcactus_refusal_name(int refusal)
     case RIGCACTUS_RULE: return "RULE";
     case RIGCACTUS_UNKNOWN_BOUND: return "UNKNOWN BOUND";
     case RIGCACTUS_TOO_MANY: return "TOO MANY";
+    case RIGCACTUS_NOT_WRITABLE: return "NOT WRITABLE";
     case RIGCACTUS_NO_ROOM: return "NO ROOM";
     default: return "UNLISTED";
     }
@@ -121,7 +127,7 @@ static inline int rigcactus_refusal(uint64_t answer)
     return answer & 0xFF;
 }
 
-/* The length that an answer of rigcactus_cut holds, in bytes; 0 after a refusal. */
+/* The length that an answer of rigcactus_cut or rigcactus_print holds, in bytes; 0 after a refusal. */
 static inline size_t rigcactus_length(uint64_t answer)
 {
     return answer >> 8;
@@ -276,6 +282,45 @@ uint64_t rigcactus_check(const uint8_t *record, size_t record_len, int64_t offse
  * 638502480000000, 1, 638502480000000, 1, 638503776000000.
  */
 uint64_t rigcactus_list(const uint8_t *record, size_t record_len, int64_t offset, uint8_t *list, size_t list_len);
+
+/*
+ * Prints a list of stretches as a record that can be sent: a QSU_TS named stay, with a term of type IVL_TS for each stretch, in
+ * order. rigcactus_check accepts it, and rigcactus_list gives the same list for it, whichever allowed offset is agreed.
+ * rigcactus_length of the answer is its length in bytes, at most RIGCACTUS_MOST_PRINTED_BYTES.
+ *
+ * list, list_len        the stretches, as rigcactus_list writes them: RIGCACTUS_STRETCH_BYTES times as many bytes as its count
+ *                       says. It may start at any address, and may be null with length 0, which is a set without a time.
+ * record, record_len    where the record goes, and its length in bytes; RIGCACTUS_MOST_PRINTED_BYTES is always enough. It may be
+ *                       null with length 0, and must not overlap the list. No zero byte is put after the record. What lies
+ *                       beyond it is unchanged, and after a refusal all bytes are.
+ *
+ * A bound is written as a timestamp in UTC of 18 digits, with its offset: 20240501000000.0000+0000. lowClosed and highClosed, after
+ * the type, say whether it belongs to the stretch. An unbounded end has no flag: it is <low nullFlavor="NINF"/> or <high
+ * nullFlavor="PINF"/>. A space stands before each attribute, and no other white space in the record. A list without a stretch is
+ * written as one term that means no time, open on both sides at 00010101000000.0000+0000.
+ *
+ * A list is improper, whoever made it, if
+ *
+ * - its length is not four numbers a stretch: no multiple of RIGCACTUS_STRETCH_BYTES;
+ * - it has over 32 stretches: more than RIGCACTUS_MOST_LIST_BYTES;
+ * - a kind is none of enum rigcactus_bounds;
+ * - an unbounded end has a tick that is not 0, or is neither the first stretch's low nor the last one's high;
+ * - a stretch means no time: its low is after its high, or they are at one tick and not both closed;
+ * - a stretch is not later than the one before it, overlaps it, or leaves no time between: [1,3) and (3,5] leave the tick 3,
+ *   [1,3] and [4,5] what is between two ticks, [1,3] and (3,5] nothing.
+ *
+ * A list that rigcactus_list wrote is none of these, but an offset can give it a tick that no timestamp at +0000 has: years 0001
+ * to 9999 are the ticks 0 to 3155378975999999.
+ *
+ * Refusals: RIGCACTUS_NOT_WRITABLE for an improper list, or a tick outside years 0001 to 9999; then RIGCACTUS_NO_ROOM exactly if
+ * record_len is less than the record's length.
+ *
+ * The numbers 2, 638501184000000, 1, 638502480000000 are printed in 177 bytes, without the line breaks:
+ *
+ *     <stay xsi:type="QSU_TS"><term xsi:type="IVL_TS" lowClosed="true" highClosed="false">
+ *     <low value="20240501000000.0000+0000"/><high value="20240502120000.0000+0000"/></term></stay>
+ */
+uint64_t rigcactus_print(const uint8_t *list, size_t list_len, uint8_t *record, size_t record_len);
 
 /*
  * Compares two records of one type: TS, IVL_TS, MO, II, CD or EN. rigcactus_comparison of the answer is RIGCACTUS_YES, RIGCACTUS_NO

@@ -40,7 +40,8 @@ static void check_refusals(void)
     CHECK(RIGCACTUS_UNKNOWN_BOUND == 9 && is_name(9, "UNKNOWN BOUND"));
     CHECK(RIGCACTUS_TOO_MANY == 10 && is_name(10, "TOO MANY"));
     CHECK(RIGCACTUS_NO_ROOM == 11 && is_name(11, "NO ROOM"));
-    CHECK(is_name(12, "UNLISTED") && is_name(255, "UNLISTED") && is_name(-1, "UNLISTED"));
+    CHECK(RIGCACTUS_NOT_WRITABLE == 12 && is_name(12, "NOT WRITABLE"));
+    CHECK(is_name(13, "UNLISTED") && is_name(255, "UNLISTED") && is_name(-1, "UNLISTED"));
 }
 
 /*
@@ -320,6 +321,170 @@ static void check_list_refusals(void)
     CHECK(rigcactus_list((const uint8_t *)many, sizeof many, 0, lent, 1024) == RIGCACTUS_TOO_LONG && is_kept(0));
 }
 
+/* A list to print, at an odd address, and a record, with bytes before it and after it. */
+static uint8_t to_print[1 + RIGCACTUS_MOST_LIST_BYTES + RIGCACTUS_STRETCH_BYTES];
+static uint8_t lent_record[BESIDE + RIGCACTUS_MOST_PRINTED_BYTES + BESIDE];
+
+static void put_number(size_t index, int64_t number)
+{
+    for (size_t i = 0; i < 8; i++)
+        to_print[1 + 8 * index + i] = (uint8_t)((uint64_t)number >> 8 * i);
+}
+
+static void put_stretch(size_t index, int64_t low_kind, int64_t low_tick, int64_t high_kind, int64_t high_tick)
+{
+    put_number(4 * index, low_kind);
+    put_number(4 * index + 1, low_tick);
+    put_number(4 * index + 2, high_kind);
+    put_number(4 * index + 3, high_tick);
+}
+
+static uint64_t print_of(size_t list_len, size_t record_len)
+{
+    memset(lent_record, FILL, sizeof lent_record);
+    return rigcactus_print(to_print + 1, list_len, lent_record + BESIDE, record_len);
+}
+
+/* Whether the record begins with this text, and all other bytes are as before. */
+static int is_record(const char *text)
+{
+    size_t length = strlen(text);
+    for (size_t i = 0; i < sizeof lent_record; i++)
+        if ((i < BESIDE || i >= BESIDE + length) && lent_record[i] != FILL)
+            return 0;
+    return memcmp(lent_record + BESIDE, text, length) == 0;
+}
+
+/* Whether a list of so many bytes is printed so: in a record that is long enough or longer, and in no shorter one. */
+static int is_printed(size_t list_len, const char *text)
+{
+    uint64_t answer = (uint64_t)strlen(text) << 8;
+    int fits = print_of(list_len, strlen(text)) == answer && is_record(text) && rigcactus_length(answer) == strlen(text);
+    int fits_again = print_of(list_len, RIGCACTUS_MOST_PRINTED_BYTES) == answer && is_record(text);
+    int has_no_room = print_of(list_len, strlen(text) - 1) == RIGCACTUS_NO_ROOM && is_record("");
+    return fits && fits_again && has_no_room && print_of(list_len, 0) == RIGCACTUS_NO_ROOM && is_record("");
+}
+
+/* Whether a list of so many bytes is NOT WRITABLE, with room and without, and nothing is written. */
+static int is_not_writable(size_t list_len)
+{
+    return print_of(list_len, RIGCACTUS_MOST_PRINTED_BYTES) == RIGCACTUS_NOT_WRITABLE && is_record("")
+        && print_of(list_len, 0) == RIGCACTUS_NOT_WRITABLE && is_record("");
+}
+
+#define FLAGS(low, high) "<term xsi:type=\"IVL_TS\" lowClosed=\"" low "\" highClosed=\"" high "\">"
+#define LOW(value) "<low value=\"" value "+0000\"/>"
+#define HIGH(value) "<high value=\"" value "+0000\"/></term>"
+#define PRINTED(terms) "<stay xsi:type=\"QSU_TS\">" terms "</stay>"
+#define FIRST_TICK "00010101000000.0000"
+#define LAST_TICK "99991231235959.9999"
+
+/* The whole example of the rules page; no stretch, also with no list and no record; unbounded ends; the first tick and the last. */
+static void check_print(void)
+{
+    put_stretch(0, 2, INT64_C(638501184000000), 1, INT64_C(638502480000000));
+    put_stretch(1, 1, INT64_C(638502480000000), 1, INT64_C(638503776000000));
+    CHECK(is_printed(64, PRINTED(FLAGS("true", "false") LOW("20240501000000.0000") HIGH("20240502120000.0000")
+                                 FLAGS("false", "false") LOW("20240502120000.0000") HIGH("20240504000000.0000"))));
+    CHECK(rigcactus_length(print_of(64, RIGCACTUS_MOST_PRINTED_BYTES)) == 324);
+    static const char none[] = PRINTED(FLAGS("false", "false") LOW(FIRST_TICK) HIGH(FIRST_TICK));
+    CHECK(is_printed(0, none) && strlen(none) == 178);
+    CHECK(rigcactus_print(NULL, 0, lent_record, 178) == 178 << 8 && memcmp(lent_record, none, 178) == 0);
+    CHECK(rigcactus_print(NULL, 0, NULL, 0) == RIGCACTUS_NO_ROOM);
+    put_stretch(0, 0, 0, 0, 0);
+    CHECK(is_printed(32, PRINTED("<term xsi:type=\"IVL_TS\"><low nullFlavor=\"NINF\"/><high nullFlavor=\"PINF\"/></term>")));
+    put_stretch(0, 0, 0, 2, 0);
+    put_stretch(1, 1, INT64_C(3155378975999999), 0, 0);
+    CHECK(is_printed(64, PRINTED("<term xsi:type=\"IVL_TS\" highClosed=\"true\"><low nullFlavor=\"NINF\"/>" HIGH(FIRST_TICK)
+                                 "<term xsi:type=\"IVL_TS\" lowClosed=\"false\">" LOW(LAST_TICK) "<high nullFlavor=\"PINF\"/></term>")));
+}
+
+/* The refusal of a list, which is the same without room; -1 if it is not. */
+static int refusal_of(size_t list_len)
+{
+    if (rigcactus_refusal(print_of(list_len, RIGCACTUS_MOST_PRINTED_BYTES)) == RIGCACTUS_ACCEPTED)
+        return RIGCACTUS_ACCEPTED;
+    return is_not_writable(list_len) ? RIGCACTUS_NOT_WRITABLE : -1;
+}
+
+/* The refusal of a list of one stretch, and of two: the first from tick 1 on, the second up to tick 9. */
+static int one(int64_t low_kind, int64_t low_tick, int64_t high_kind, int64_t high_tick)
+{
+    put_stretch(0, low_kind, low_tick, high_kind, high_tick);
+    return refusal_of(32);
+}
+
+static int two(int64_t high_kind, int64_t high_tick, int64_t low_kind, int64_t low_tick)
+{
+    put_stretch(0, 2, 1, high_kind, high_tick);
+    put_stretch(1, low_kind, low_tick, 2, 9);
+    return refusal_of(64);
+}
+
+/* Clause by clause, with what is just proper beside what is not. */
+static void check_improper(void)
+{
+    enum { GOOD = RIGCACTUS_ACCEPTED, BAD = RIGCACTUS_NOT_WRITABLE };
+    CHECK(two(2, 3, 2, 5) == GOOD);
+    for (size_t length = 0; length <= 64; length++)
+        CHECK(refusal_of(length) == (length % 32 == 0 ? GOOD : BAD));
+    CHECK(one(2, 1, 2, 1) == GOOD && one(3, 1, 2, 1) == BAD && one(2, 1, 3, 1) == BAD && one(-1, 1, 2, 1) == BAD && one(2, 1, INT64_MIN, 1) == BAD);
+    CHECK(one(2 + (INT64_C(1) << 32), 1, 2, 1) == BAD && one(2, 1, 2 + (INT64_C(1) << 8), 1) == BAD);
+    CHECK(one(0, 0, 2, 1) == GOOD && one(0, 1, 2, 1) == BAD && one(0, -1, 2, 1) == BAD);
+    CHECK(one(2, 1, 0, 0) == GOOD && one(2, 1, 0, 1) == BAD && one(2, 1, 0, INT64_MIN) == BAD);
+    CHECK(two(0, 0, 2, 5) == BAD && two(2, 5, 0, 0) == BAD);
+    CHECK(one(1, 3, 1, 4) == GOOD && one(1, 3, 1, 3) == BAD && one(1, 3, 2, 3) == BAD && one(2, 3, 1, 3) == BAD && one(2, 4, 2, 3) == BAD);
+    CHECK(two(1, 3, 1, 3) == GOOD && two(2, 3, 2, 4) == GOOD && two(2, 3, 1, 4) == GOOD && two(1, 3, 2, 4) == GOOD);
+    CHECK(two(2, 3, 1, 3) == BAD && two(1, 3, 2, 3) == BAD);
+    CHECK(two(2, 3, 2, 3) == BAD && two(2, 4, 2, 3) == BAD && two(1, 4, 1, 3) == BAD);
+    put_stretch(0, 2, 5, 2, 6);
+    put_stretch(1, 2, 1, 2, 2);
+    CHECK(refusal_of(64) == BAD);
+}
+
+/* Years 0001 to 9999, from both sides, for bounds that belong to the stretch and for those that do not. */
+static void check_print_years(void)
+{
+    static const int64_t last = INT64_C(3155378975999999);
+    enum { GOOD = RIGCACTUS_ACCEPTED, BAD = RIGCACTUS_NOT_WRITABLE };
+    for (int kind = RIGCACTUS_OPEN; kind <= RIGCACTUS_CLOSED; kind++) {
+        CHECK(one(kind, 0, 2, 1) == GOOD && one(kind, -1, 2, 1) == BAD && one(kind, INT64_MIN, 2, 1) == BAD);
+        CHECK(one(2, 1, kind, last) == GOOD && one(2, 1, kind, last + 1) == BAD && one(2, 1, kind, INT64_MAX) == BAD);
+        CHECK(one(0, 0, kind, -1) == BAD && one(kind, last + 1, 0, 0) == BAD);
+    }
+}
+
+/* Both sides of the limits, the longest record, and that the list is left as it is. */
+static void check_print_limits(void)
+{
+    static uint8_t kept[sizeof to_print];
+    for (int i = 0; i <= RIGCACTUS_MOST_INTERVALS; i++)
+        put_stretch((size_t)i, 1, i, 1, i + 1);
+    memcpy(kept, to_print, sizeof kept);
+    CHECK(RIGCACTUS_MOST_PRINTED_BYTES == 4735);
+    CHECK(print_of(RIGCACTUS_MOST_LIST_BYTES, RIGCACTUS_MOST_PRINTED_BYTES) == (uint64_t)4735 << 8);
+    CHECK(lent_record[BESIDE] == '<' && lent_record[BESIDE + 4734] == '>' && lent_record[BESIDE + 4735] == FILL && lent_record[BESIDE - 1] == FILL);
+    CHECK(print_of(RIGCACTUS_MOST_LIST_BYTES, 4734) == RIGCACTUS_NO_ROOM && is_record(""));
+    CHECK(is_not_writable(RIGCACTUS_MOST_LIST_BYTES + RIGCACTUS_STRETCH_BYTES));
+    CHECK(memcmp(to_print, kept, sizeof kept) == 0);
+}
+
+/* What is printed is accepted, and lists as what was printed, whatever offset is agreed. */
+static void check_printed_again(void)
+{
+    static const int64_t offsets[] = {-840, 0, 1, 840};
+    static uint8_t listed[RIGCACTUS_MOST_LIST_BYTES];
+    uint64_t count = list_of(STAY, 120, RIGCACTUS_MOST_LIST_BYTES);
+    memcpy(to_print + 1, lent + BESIDE, 64);
+    size_t length = rigcactus_length(print_of(64, RIGCACTUS_MOST_PRINTED_BYTES));
+    CHECK(count == 0x200 && length == 324);
+    for (size_t i = 0; i < sizeof offsets / sizeof offsets[0]; i++) {
+        CHECK(rigcactus_check(lent_record + BESIDE, length, offsets[i]) == RIGCACTUS_ACCEPTED);
+        CHECK(rigcactus_list(lent_record + BESIDE, length, offsets[i], listed, sizeof listed) == count);
+        CHECK(memcmp(listed, to_print + 1, 64) == 0);
+    }
+}
+
 static uint64_t comparison_of(const char *first, const char *second, int64_t offset)
 {
     return rigcactus_compare((const uint8_t *)first, strlen(first), (const uint8_t *)second, strlen(second), offset);
@@ -389,6 +554,11 @@ int main(void)
     check_list_helpers();
     check_list();
     check_list_refusals();
+    check_print();
+    check_improper();
+    check_print_years();
+    check_print_limits();
+    check_printed_again();
     check_compare();
     check_compare_limits();
     return failures == 0 ? 0 : 1;

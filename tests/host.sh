@@ -122,7 +122,7 @@ expect 1 '' 'rigcactus: refused: OFFSET (1)' tick "$(head -c 16385 /dev/zero | t
 
 # Records: a line for each file, by its name as it was given.
 : > in
-for type in arrival badge deposit escorted guest guest-not-asked pass reason stay visits; do
+for type in arrival badge deposit escorted guest guest-not-asked pass reason reopened stay visits; do
   cp "$records/$type.xml" .
   expect 0 "$type.xml: ACCEPTED\n" '' check "$type.xml"
 done
@@ -161,6 +161,9 @@ expect 0 '2 638501184000000 1 638502480000000\n1 638502480000000 1 6385037760000
 expect 0 "from $midnight (included) to 2024-05-04 00:00:00 (not included)\\n" '' list pass.xml
 expect 0 'from 2024-05-01 09:00:00 (included) to 2024-05-01 12:00:00 (not included)\nfrom 2024-05-02 14:00:00 (included) to 2024-05-02 18:00:00 (not included)\n' '' list visits.xml
 expect 0 'from 2024-05-02 13:00:00 (included) to 2024-05-04 00:00:00 (not included)\n' '' list escorted.xml
+expect 0 "from $midnight (included) to 2024-05-02 12:00:00 (not included)
+from 2024-05-02 14:00:00 (included) to 2024-05-02 15:00:00 (included)
+from 2024-05-02 18:00:00 (included) to 2024-05-04 00:00:00 (not included)\\n" '' list reopened.xml
 cp "$records/never.xml" "$records/open-end.xml" .
 expect 0 'no times\n' '' list never.xml
 expect 0 '' '' list never.xml --raw
@@ -203,6 +206,123 @@ expect 1 '' 'rigcactus: refused: MARKUP (4)' list empty
 expect 1 '' 'rigcactus: refused: TOO LONG (2)' list /dev/zero
 expect 1 '' 'rigcactus: refused: OFFSET (1)' list pass.xml --offset 841
 expect 3 '' 'rigcactus: cannot read none: No such file or directory' list none
+
+# Times as a record, and a line feed: first the whole example of the rules page.
+expect 0 '<stay xsi:type="QSU_TS"><term xsi:type="IVL_TS" lowClosed="true" highClosed="false"><low value="20240501000000.0000+0000"/><high value="20240502120000.0000+0000"/></term><term xsi:type="IVL_TS" lowClosed="false" highClosed="false"><low value="20240502120000.0000+0000"/><high value="20240504000000.0000+0000"/></term></stay>\n' '' print stay.xml
+
+# record_of TERM..: the record of these terms. term LOW_CLOSED LOW HIGH HIGH_CLOSED: one of them, its bounds without the offset; one that is - is unbounded.
+record_of() { printf '<stay xsi:type="QSU_TS">'; printf %s "$@"; printf '</stay>'; }
+term() {
+  local low="<low value=\"$2+0000\"/>" high="<high value=\"$3+0000\"/>" low_flag=" lowClosed=\"$1\"" high_flag=" highClosed=\"$4\""
+  [ "$2" != - ] || { low='<low nullFlavor="NINF"/>'; low_flag=''; }
+  [ "$3" != - ] || { high='<high nullFlavor="PINF"/>'; high_flag=''; }
+  printf '<term xsi:type="IVL_TS"%s%s>%s%s</term>' "$low_flag" "$high_flag" "$low" "$high"
+}
+
+# expect_printed FILE OFFSET TERM..: the set is printed so. What is printed is a record that has the same times with every offset, and is printed as itself.
+expect_printed() {
+  local name=$1 offset=$2
+  shift 2
+  expect 0 "$(record_of "$@")\\n" '' print "$name" --offset "$offset"
+  cp out printed
+  expect 0 'printed: ACCEPTED\n' '' check printed
+  expect 0 "$(cat printed)\\n" '' print printed --offset 30
+  "$program" list "$name" --offset "$offset" --raw > raw
+  "$program" list "$name" --offset "$offset" > listed
+  for agreed in 0 "$offset" 840 -840; do
+    "$program" list printed --offset "$agreed" --raw | cmp -s raw - || fail "print $name --offset $offset wrote other times, read with offset $agreed"
+  done
+  "$program" list printed --offset "$offset" | cmp -s listed - || fail "print $name --offset $offset wrote times that are listed in other words"
+}
+
+day=20240501000000.0000
+expect_printed pass.xml 0 "$(term true $day 20240504000000.0000 false)"
+expect_printed pass.xml 120 "$(term true 20240430220000.0000 20240503220000.0000 false)"
+expect_printed pass.xml -210 "$(term true 20240501033000.0000 20240504033000.0000 false)"
+expect_printed stay.xml 840 "$(term true 20240430100000.0000 20240501220000.0000 false)" "$(term false 20240501220000.0000 20240503100000.0000 false)"
+expect_printed visits.xml 0 "$(term true 20240501090000.0000 20240501120000.0000 false)" "$(term true 20240502140000.0000 20240502180000.0000 false)"
+expect_printed escorted.xml 0 "$(term true 20240502130000.0000 20240504000000.0000 false)"
+expect_printed reopened.xml 0 "$(term true $day 20240502120000.0000 false)" "$(term true 20240502140000.0000 20240502150000.0000 true)" \
+  "$(term true 20240502180000.0000 20240504000000.0000 false)"
+expect_printed reopened.xml -840 "$(term true 20240501140000.0000 20240503020000.0000 false)" "$(term true 20240503040000.0000 20240503050000.0000 true)" \
+  "$(term true 20240503080000.0000 20240504140000.0000 false)"
+printf '<t xsi:type="IVL_TS" lowClosed="false" highClosed="true"><low value="20240501093000.25+0530"/><high value="20240501040000.2501"/></t>' > fractions
+expect_printed fractions 0 "$(term false 20240501040000.2500 20240501040000.2501 true)"
+
+# No time at all, with every offset the same, and unbounded ends, each without its flag.
+first=00010101000000.0000
+last=99991231235959.9999
+expect_printed never.xml 0 "$(term false $first $first false)"
+expect_printed never.xml 840 "$(term false $first $first false)"
+expect_printed all 0 "$(term - - - -)"
+expect_printed open-end.xml 0 "$(term true $day 20241225000000.0000 false)" "$(term true 20241226000000.0000 - -)"
+printf '<t xsi:type="IVL_TS" highClosed="true"><low nullFlavor="NINF"/><high value="20240501"/></t>' > until
+expect_printed until 0 "$(term - - $day true)"
+printf '<t xsi:type="QSD_TS"><minuend xsi:type="IVL_TS"><low nullFlavor="NINF"/><high nullFlavor="PINF"/></minuend><subtrahend xsi:type="IVL_TS" lowClosed="true" highClosed="true"><low value="20240501"/><high value="20240501"/></subtrahend></t>' > but-one
+expect_printed but-one 0 "$(term - - $day false)" "$(term false $day - -)"
+
+# Every month's end and leap days: the date is what is written.
+for date in 00011231 19000228 19000301 20000229 20000301 20001231 20230228 20240131 20240229 20240331 20240430 20240531 20240630 20240731 20240831 \
+  20240930 20241031 20241130 20241231 21000301 99991231; do
+  printf '<t xsi:type="IVL_TS" lowClosed="true"><low value="%s235958"/><high nullFlavor="PINF"/></t>' "$date" > dated
+  expect_printed dated 0 "$(term true "${date}235958.0000" - -)"
+done
+
+# 32 terms; and the longest record there is, 4,735 bytes before the line feed.
+terms=()
+for i in {01..32}; do terms+=("$(term true "202405010000$i.0000" "202405010000$i.0000" true)"); done
+expect_printed most 0 "${terms[@]}"
+{
+  printf '<t xsi:type="QSU_TS">'
+  for i in {01..32}; do
+    printf '<term xsi:type="IVL_TS" lowClosed="false" highClosed="false"><low value="202405010000%s"/><high value="202405010000%s.5"/></term>' "$i" "$i"
+  done
+  printf '</t>'
+} > most-open
+terms=()
+for i in {01..32}; do terms+=("$(term false "202405010000$i.0000" "202405010000$i.5000" false)"); done
+expect_printed most-open 0 "${terms[@]}"
+[ "$(wc -c < printed)" -eq 4736 ] || fail 'print most-open wrote another length than 4,735 bytes and a line feed'
+
+# Years 0001 to 9999 in UTC, from both sides: the first tick and the last are written, those beside them are not, whether or not they belong to the set.
+not_writable='rigcactus: refused: NOT WRITABLE (12). Tell the clinic: a time lies outside years 0001 to 9999 in UTC. Please send times within them.'
+printf '<t xsi:type="IVL_TS" lowClosed="true" highClosed="true"><low value="0001010101+01"/><high value="99991231225959.9999-01"/></t>' > edges
+expect_printed edges 0 "$(term true $first $last true)"
+expect_printed edges 840 "$(term true $first $last true)"
+for flag in true false; do
+  printf '<t xsi:type="IVL_TS" lowClosed="%s" highClosed="true"><low value="00010101005959.9999+01"/><high value="2024"/></t>' $flag > before
+  expect 1 '' "$not_writable" print before
+  printf '<t xsi:type="IVL_TS" lowClosed="true" highClosed="%s"><low value="2024"/><high value="99991231230000-01"/></t>' $flag > after
+  expect 1 '' "$not_writable" print after
+done
+expect 1 '' "$not_writable" print "$records/refused-not-writable.xml"
+printf '<t xsi:type="IVL_TS" lowClosed="true"><low value="00010101"/><high nullFlavor="PINF"/></t>' > first-day
+expect_printed first-day 0 "$(term true $first - -)"
+expect_printed first-day -60 "$(term true 00010101010000.0000 - -)"
+expect 1 '' "$not_writable" print first-day --offset 60
+expect 1 '' "$not_writable" print first-day --offset 1
+expect 0 '2 -36000000 0 0\n' '' list first-day --offset 60 --raw
+
+# Only the times that are left count, and a set that cannot be listed is refused for that.
+outside='<low value="0001010100+01"/><high value="2024"/>'
+printf '<t xsi:type="QSD_TS"><minuend xsi:type="IVL_TS" lowClosed="true" highClosed="true">%s</minuend><subtrahend xsi:type="IVL_TS" highClosed="false"><low nullFlavor="NINF"/><high value="2023"/></subtrahend></t>' "$outside" > inside
+expect_printed inside 0 "$(term true 20230101000000.0000 20240101000000.0000 true)"
+printf '<t xsi:type="QSU_TS"><term xsi:type="IVL_TS" lowClosed="true" highClosed="true">%s</term><term xsi:type="IVL_TS"/></t>' "$outside" > unknown
+expect 1 '' 'rigcactus: refused: UNKNOWN BOUND (9)' print unknown
+printf '<t xsi:type="IVL_TS" lowClosed="true" highClosed="true"><low value="19000229"/><high value="2024"/></t>' > no-date
+expect 1 '' 'rigcactus: refused: OFFSET (1)' print pass.xml --offset 841
+expect 1 '' 'rigcactus: refused: TOO LONG (2)' print /dev/zero
+expect 1 '' 'rigcactus: refused: NOT UTF-8 (3)' print not-utf-8
+expect 1 '' 'rigcactus: refused: MARKUP (4)' print empty
+expect 1 '' 'rigcactus: refused: TYPE (5)' print deposit.xml
+expect 1 '' 'rigcactus: refused: TYPE (5)' print value
+expect 1 '' 'rigcactus: refused: SHAPE (6)' print shape
+expect 1 '' 'rigcactus: refused: VALUE (7)' print no-date
+expect 1 '' 'rigcactus: refused: RULE (8)' print rule
+expect 1 '' 'rigcactus: refused: UNKNOWN BOUND (9)' print "$records/refused-unknown-bound.xml"
+expect 1 '' 'rigcactus: refused: TOO MANY (10)' print too-many
+expect 3 '' 'rigcactus: cannot read none: No such file or directory' print none
+expect 3 '' 'rigcactus: cannot read .: Is a directory' print .
 
 # Two records: one word, or which of them is refused.
 printf '<deposit xsi:type="MO" value="12.5" currency="EUR"/>' > same-deposit
@@ -274,6 +394,15 @@ expect 2 '' '*' list pass.xml --offset --raw
 expect 2 '' '*' list pass.xml --offset x
 expect 2 '' '*' tick 2024 --raw
 
+expect 2 '' '*' print
+expect 2 '' '*' print pass.xml stay.xml
+expect 2 '' '*' print --offset 0 pass.xml
+expect 2 '' '*' print pass.xml --offset
+expect 2 '' '*' print pass.xml --offset x
+expect 2 '' '*' print pass.xml --offset 0 --offset 0
+expect 2 '' '*' print pass.xml --raw
+expect 2 '' '*' print pass.xml --width 32
+
 expect 2 '' '*' compare
 expect 2 '' '*' compare pass.xml
 expect 2 '' '*' compare pass.xml pass.xml pass.xml
@@ -288,6 +417,7 @@ grep -q '^  cut ROOM < FILE$' out || fail '--help does not name the command cut'
 grep -q '^  tick TEXT \[--offset MINUTES\]$' out || fail '--help does not name the command tick'
 grep -q '^  check FILE.. \[--offset MINUTES\]$' out || fail '--help does not name the command check'
 grep -q '^  list FILE \[--offset MINUTES\] \[--raw\]$' out || fail '--help does not name the command list'
+grep -q '^  print FILE \[--offset MINUTES\]$' out || fail '--help does not name the command print'
 grep -q '^  compare FILE FILE \[--offset MINUTES\]$' out || fail '--help does not name the command compare'
 [ ! -s err ] || fail '--help wrote to standard error'
 
@@ -302,6 +432,8 @@ printf 'abc' | "$program" cut 3 > /dev/full 2> err
 [ $? -eq 3 ] || fail 'check pass.xml to a full device did not end with 3'
 "$program" list pass.xml > /dev/full 2> err
 [ $? -eq 3 ] || fail 'list pass.xml to a full device did not end with 3'
+"$program" print pass.xml > /dev/full 2> err
+[ $? -eq 3 ] || fail 'print pass.xml to a full device did not end with 3'
 "$program" compare pass.xml pass.xml > /dev/full 2> err
 [ $? -eq 3 ] || fail 'compare pass.xml pass.xml to a full device did not end with 3'
 

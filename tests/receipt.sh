@@ -224,7 +224,8 @@ expect_pass "$(union "${moments[@]}")" "${due}Clock: UTC"
 awk '/^```text$/ { inside = 1; next } /^```$/ { inside = 0 } inside' "$repository/docs/HOST.md" | cmp -s - "$receipts/french.txt" ||
   fail 'docs/HOST.md shows another receipt'
 
-# Refusals, from 1 to 10, with what to tell the clinic. The program lends a list that is long enough for every set, so 11 does not occur.
+# Refusals, from 1 to 10, with what to tell the clinic. 12 is for `rigcactus print` alone. The program lends a list that is long enough for every set, so 11
+# does not occur.
 offset='nothing. The offset that this desk was set to is not from -840 to 840 minutes. Set it right and read the record again.'
 too_long='the record is longer than 16,384 bytes. Please send a shorter one.'
 not_utf8='the record is not UTF-8. A text may have been cut inside a letter, or be in another encoding. Please send it whole and in UTF-8.'
@@ -236,7 +237,8 @@ value='the text of an attribute is not written as it must be, like 12,50 for the
 rule='what the record says does not go together, like a sum without its currency, a part of a name without a text, a time without its flag, or a start after its end. Please put it right.'
 unknown='it is not said when the pass starts or ends. Please send each start and each end, or NINF and PINF where there is none.'
 too_many='the pass is written with more than 32 intervals. Please write it with fewer, or as two passes.'
-for advice in "$offset" "$too_long" "$not_utf8" "$markup" "$type .." "$shape" "$value" "$rule" "$unknown" "$too_many"; do
+not_writable='a time lies outside years 0001 to 9999 in UTC. Please send times within them.'
+for advice in "$offset" "$too_long" "$not_utf8" "$markup" "$type .." "$shape" "$value" "$rule" "$unknown" "$too_many" "$not_writable"; do
   grep -qF ") | $advice |" "$repository/docs/HOST.md" || fail "docs/HOST.md does not say: $advice"
 done
 spaces=$(head -c 16385 /dev/zero | tr '\0' ' ')
