@@ -32,10 +32,18 @@ term-row-requires : tie.Need-term-row-requires Inv-loop μ-loop
 term-row-requires c κs = (proper-length (c .before .before .before .before .before .args .list .now) (is-proper (c .before .before .before .before .before .args .list .now) (c .before .before .before .before .before .pre .0)) .0, omega (arith, c .before .before .term-count .ensures, c .loop-test .taken))
 
 put-term-requires : tie.Need-put-term-requires Inv-loop μ-loop
-put-term-requires c κs = 
+put-term-requires c κs =
     let k = row-kinds (c .before .before .before .before .before .before .before .args .list .now) (is-proper (c .before .before .before .before .before .before .before .args .list .now) (c .before .before .before .before .before .before .before .pre .0)) (c .before .before .before .loop .k) (omega (arith, c .before .before .before .before .term-count .ensures, c .before .before .loop-test .taken)) in
-    rw (c .before .term-row .ensures) (k .0, (k .1, (writable-here (c .before .before .before .before .before .before .before .args .list .now) (c .before .before .before .loop .k) (c .before .before .before .before .term-count .result) (c .before .before .loop-test .taken) (c .before .before .before .loop .inv .2) .0,
-    omega (arith, c .before .before .before .loop .inv .1, c .before .before .before .loop .inv .3, left-length (c .before .before .before .before .before .before .before .args .list .now) (c .before .before .before .loop .k) (c .before .before .before .before .term-count .result) (c .before .before .loop-test .taken), ap length (left-all (c .before .before .before .before .before .before .before .args .list .now) (c .before .before .before .before .term-count .result) (c .before .before .before .before .term-count .ensures)), c .before .before .before .before .before .before .before .pre .1))))
+    rw (c .before .term-row .ensures) (
+      k .0,
+      (
+        k .1,
+        (
+          writable-here (c .before .before .before .before .before .before .before .args .list .now) (c .before .before .before .loop .k) (c .before .before .before .before .term-count .result) (c .before .before .loop-test .taken) (c .before .before .before .loop .inv .2) .0,
+          omega (arith, c .before .before .before .loop .inv .1, c .before .before .before .loop .inv .3, left-length (c .before .before .before .before .before .before .before .args .list .now) (c .before .before .before .loop .k) (c .before .before .before .before .term-count .result) (c .before .before .loop-test .taken), ap length (left-all (c .before .before .before .before .before .before .before .args .list .now) (c .before .before .before .before .term-count .result) (c .before .before .before .before .term-count .ensures)), c .before .before .before .before .before .before .before .pre .1),
+        ),
+      ),
+    )
 
 add-k : tie.Need-add-k Inv-loop μ-loop
 add-k c = omega (arith, c .before .before .before .before .before .loop-test .taken, c .before .before .before .before .before .before .before .term-count .ensures, count-most (c .before .before .before .before .before .before .before .before .before .before .args .list .now) (is-proper (c .before .before .before .before .before .before .before .before .before .before .args .list .now) (c .before .before .before .before .before .before .before .before .before .before .pre .0)))
@@ -44,7 +52,7 @@ loop-less : tie.Need-loop-less Inv-loop μ-loop
 loop-less c = omega (arith, c .before .before .before .before .before .loop-test .taken)
 
 loop-again : tie.Need-loop-again Inv-loop μ-loop
-loop-again c = 
+loop-again c =
     let p = rw (c .before .before .before .before .term-row .ensures) at (c .before .before .put-term .ensures) in
     let l = c .before .before .before .before .before .before .loop in
     let t = c .before .before .before .before .before .loop-test .taken in (
@@ -59,7 +67,7 @@ same-length : tie.Need-same-length Inv-loop μ-loop
 same-length c = c .before .loop .inv .1
 
 returns : tie.Need-returns Inv-loop μ-loop
-returns c = 
+returns c =
     let l = c .before .loop in
     let all = left-all (c .before .before .before .before .before .args .list .now) (c .before .before .term-count .result) (c .before .before .term-count .ensures) in
     let none = left-none (c .before .before .before .before .before .args .list .now) (l .k) (c .before .before .term-count .result) (omega arith) in

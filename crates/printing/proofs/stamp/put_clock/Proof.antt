@@ -45,7 +45,7 @@ returns : tie.Need-returns
 returns c = (
   search needs,
   rw (clock-pieces (c .before .before .before .before .before .before .before .before .before .before .before .before .before .before .before .before .before .before .before .before .before .before .before .before .before .before .before .before .before .before .args .ticks))
-  (put-both (put-both (put-both (put-both (put-both (c .before .before .before .before .before .before .before .before .before .before .before .before .before .before .before .before .before .before .before .before .before .before .before .before .before .before .put-pair .ensures .1) (c .before .before .before .before .before .before .before .before .before .before .before .before .before .before .before .before .before .before .before .before .before .put-pair2 .ensures .1)) (c .before .before .before .before .before .before .before .before .before .before .before .before .before .before .before .before .put-pair3 .ensures .1)) (c .before .before .before .before .before .before .before .before .before .before .before .put .ensures)) (c .before .before .before .before .before .before .put-pair4 .ensures .1)) (c .before .before .put-pair5 .ensures .1)),
+      (put-both (put-both (put-both (put-both (put-both (c .before .before .before .before .before .before .before .before .before .before .before .before .before .before .before .before .before .before .before .before .before .before .before .before .before .before .put-pair .ensures .1) (c .before .before .before .before .before .before .before .before .before .before .before .before .before .before .before .before .before .before .before .before .before .put-pair2 .ensures .1)) (c .before .before .before .before .before .before .before .before .before .before .before .before .before .before .before .before .put-pair3 .ensures .1)) (c .before .before .before .before .before .before .before .before .before .before .before .put .ensures)) (c .before .before .before .before .before .before .put-pair4 .ensures .1)) (c .before .before .put-pair5 .ensures .1)),
 )
 
 pub put-clock-spec : {M : Type 1} → statement M

@@ -28,7 +28,7 @@ returns : tie.Need-returns
 returns c = (
   search needs,
   rw (date-pieces (c .before .before .before .before .before .before .before .before .before .before .before .before .before .before .before .before .before .before .before .before .args .days) (c .before .before .before .before .before .before .before .before .before .before .before .before .before .before .before .before .before .before .date-of .result) (c .before .before .before .before .before .before .before .before .before .before .before .before .before .before .before .before .before .before .date-of .ensures))
-  (put-both (put-both (put-both (c .before .before .before .before .before .before .before .before .before .before .before .before .before .before .before .put-pair .ensures .1) (c .before .before .before .before .before .before .before .before .before .before .put-pair2 .ensures .1)) (c .before .before .before .before .before .before .put-pair3 .ensures .1)) (c .before .before .put-pair4 .ensures .1)),
+      (put-both (put-both (put-both (c .before .before .before .before .before .before .before .before .before .before .before .before .before .before .before .put-pair .ensures .1) (c .before .before .before .before .before .before .before .before .before .before .put-pair2 .ensures .1)) (c .before .before .before .before .before .before .put-pair3 .ensures .1)) (c .before .before .put-pair4 .ensures .1)),
 )
 
 pub put-date-spec : {M : Type 1} → statement M
