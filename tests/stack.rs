@@ -90,7 +90,7 @@ const SERVICES: [(Service, &str, usize); 6] = [
     (Check, "check", 8192),
     (List, "list", 49152),
     (Compare, "compare", 8192),
-    (Print, "print", 8192),
+    (Print, "print", 1024),
 ];
 
 // ---- The stack -----------------------------------------------------------------------------------------------------
