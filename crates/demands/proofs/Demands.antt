@@ -184,6 +184,7 @@ module _ (text : List ℕ) (room : ℕ) where
 pub demands-met : Demands services
 demands-met = record {
   one = record {
+    order = refl;
     numbers = refl;
     one-number = number-injective;
     check-answers = check-answers;

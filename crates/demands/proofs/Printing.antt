@@ -1,34 +1,36 @@
 -- The services keep what request A1 asks of printing.
-use Prim.Native.Nat.{ℕ, zero, suc, _+_, _*_, _^_, _≤_, _<_}
+use Prim.Native.Nat.{ℕ, zero, suc, _+_, _*_, _/_, _%_, _^_, _≤_, _<_}
 use mathlib.Core.Path.{_≡_, refl, _∙_, ap, subst}
 use mathlib.Core.Logic.{_⊎_, inl, inr, _↔_}
 use mathlib.Core.Bool.{true, false}
-use mathlib.Core.List.{List, [], _∷_, flatMap}
+use mathlib.Core.List.{List, [], _∷_, _++_, flatMap}
 use native.Mathlib.Omega.{arith}
-use borrow.Author.Tests.{ltb-true, le-ltb}
+use borrow.Author.Tests.{ltb-true, lt-ltb, le-ltb}
 use lib.Dec.{ltb}
-use lib.ListN.{length, take, drop, replicate}
-use lib.Seq.{take-at}
+use lib.ListN.{length, take, drop, replicate, length-append}
+use lib.Seq.{take-at, drop-at}
 use lib.IntN.{ℤ, pos, negsuc}
-use Rattle.rules.specs.Basics.{exists, every}
+use Rattle.rules.specs.Basics.{exists, every, bytes}
 use Rattle.rules.specs.Refusal.{Refusal, NOT-WRITABLE, NO-ROOM, number, Outcome, answered, refused}
 use Rattle.rules.specs.Timestamp.{beforeStart}
 use Rattle.rules.specs.Check.{isOffset}
-use Rattle.rules.specs.Sets.{openAt, Interval, _upto_}
+use Rattle.rules.specs.Sets.{Bound, unbounded, openAt, closedAt, Interval, _upto_}
 use Rattle.rules.specs.LentLists.{isImproperList, listed}
 use Rattle.rules.specs.Listing.{listNumbers}
 use Rattle.rules.specs.Services.{eightBytes, roomOf, listing, listAnswer, listAfter, tickAnswer, tickAfter}
-use Rattle.rules.specs.Dates.{yearsEnd, timestampText}
-use Rattle.rules.specs.Printing.{recordText, isWritableTick, isWritableStretch, isUnwritable, printing, printAnswer, printAfter}
+use Rattle.rules.specs.Dates.{yearsEnd, dateText, clockText, timestampText}
+use Rattle.rules.specs.Calendar.{day}
+use Rattle.rules.proofs.Dates.{years-end}
+use Rattle.rules.specs.Printing.{recordText, isWritableTick, isWritableBound, isWritableStretch, isUnwritable, printing, printAnswer, printAfter}
 use Rattle.rules.specs.ListingPromise.{numberIn}
 use Rattle.rules.proofs.Opened.{opened}
-use Rattle.rules.proofs.Tests.{clash}
-use Rattle.rules.proofs.Pieces.{record-short}
+use Rattle.rules.proofs.Tests.{clash, both-true}
+use Rattle.rules.proofs.Pieces.{record-short, date-length, clock-length}
 use Rattle.rules.proofs.Printing.{record-accepted}
 use Rattle.rules.proofs.PrintingCases.{is-printable, list-bytes, listed-length, listed-back, timing-of-tick, listing-proper, written-bytes, unwritable, full, fitting, printing-case, unwritable-is, printing-unwritable, printing-no-room, printing-answered}
 use Rattle.rules.proofs.ListingPromise.{low-bits, count-bits, list-length, overwrite-begins, overwrite-rest}
 use Rattle.demands.specs.Services.{services, resultIn, isAmong, Answers, accepts, refuses}
-use Rattle.demands.specs.Printing.{emptyStay, Prints, ReadsBack, IsProperList, PrintPromise}
+use Rattle.demands.specs.Printing.{InYears, emptyStay, Prints, ReadsBack, IsProperList, PrintPromise}
 use Rattle.demands.proofs.Answers.{packed-refused, packed-accepted}
 use Rattle.demands.proofs.RecordLayout.{layout}
 
@@ -92,9 +94,6 @@ module _ (list record′ : List ℕ) where
     | fitting w l ↦ (w, l)
   ]
 
-  at-most : resultIn (printAnswer list record′) ≤ 4_735
-  at-most = elim print-answers [ accepts e h ↦ h | refuses r may e h kept ↦ omega (arith, h) ]
-
 -- the record of a list, read back
 module _ (list : List ℕ) (w : isUnwritable list ≡ false) (offset : ℤ) (o : isOffset offset ≡ true) (lent : List ℕ) (l : length list ≤ length lent) where
   reads-back : ReadsBack services offset (recordText (listed list)) list lent
@@ -155,22 +154,45 @@ no-stretch record′ l =
 -- a tick as a full timestamp
 full-timestamp : (offset tick before : ℤ) → isOffset offset ≡ true → isWritableTick tick ≡ true
     → (tickAnswer offset (timestampText tick) ≡ 18 * 2 ^ 8) × (tickAfter offset (timestampText tick) before ≡ tick)
+    × (drop 19 (timestampText tick) ≡ bytes "+0000")
 full-timestamp offset (pos t) before o h =
     let e = timing-of-tick offset t o (ltb-true t yearsEnd h) in
     let l : ltb (t + beforeStart) beforeStart ≡ false = le-ltb (t + beforeStart) beforeStart (omega arith) in
-    (rw e refl, rw (e, l) (ap pos (omega arith)))
+    (rw e refl, rw (e, l) (ap pos (omega arith)), ends (dateText (t / day)) (clockText (t % day)) (date-length _) (clock-length _))
+  where
+    ends : (d c : List ℕ) → length d ≡ 8 → length c ≡ 11 → drop 19 (d ++ c ++ bytes "+0000") ≡ bytes "+0000"
+    ends d c e f = drop-at (d ++ c) (bytes "+0000") 19 (length-append d c ∙ omega (arith, e, f))
 full-timestamp offset (negsuc t) before o h = clash (cc)
+
+tick-in-years : (tick : ℤ) → isWritableTick tick ≡ true ↔ (n : ℕ) × (tick ≡ pos n) × (n < 3_155_378_976_000_000)
+tick-in-years (pos t) = (
+  λ h. (t, refl, omega (arith, ltb-true t yearsEnd h, years-end)),
+  λ (u, e, l). let z : t ≡ u = cc in lt-ltb t yearsEnd (omega (arith, years-end, z, l)),
+)
+tick-in-years (negsuc t) = (λ h. clash (cc), λ (u, e, l). clash (cc))
+
+bound-in-years : (b : Bound) → isWritableBound b ≡ true ↔ InYears b
+bound-in-years unbounded = (λ h. tt, λ h. refl)
+bound-in-years (openAt t) = tick-in-years t
+bound-in-years (closedAt t) = tick-in-years t
+
+outside-years : (v : Interval) → isWritableStretch v ≡ true ↔ InYears (v .low) × InYears (v .high)
+outside-years v = (
+  λ h. let (l, r) = both-true (isWritableBound (v .low)) (isWritableBound (v .high)) h in (bound-in-years (v .low) .0 l, bound-in-years (v .high) .0 r),
+  λ (l, r). rw (bound-in-years (v .low) .1 l, bound-in-years (v .high) .1 r) refl,
+)
 
 pub print-promise : PrintPromise services
 print-promise = record {
   listed-proper = listed-proper;
   layout = layout;
+  in-order = list-bytes;
   full-timestamp = full-timestamp;
+  outside-years = outside-years;
   no-stretch = no-stretch;
   read-back = read-back;
   printed = prints;
   not-writable = not-writable;
   no-room = no-room;
-  at-most = at-most;
   reached = (longest, replicate 4_735 0, reached);
 }

@@ -4,7 +4,7 @@ use mathlib.Core.List.{List, [], _∷_, _++_, flatMap}
 use Rattle.rules.specs.Basics.{bytes}
 use Rattle.rules.specs.Invariants.{low, high}
 use Rattle.rules.specs.Sets.{Bound, unbounded, openAt, closedAt, Interval}
-use Rattle.rules.specs.Printing.{written, recordText}
+use Rattle.rules.specs.Printing.{recordText}
 use Rattle.rules.proofs.Pieces.{flagText as flagPiece, boundText as boundPiece, openingText, tagText, termText as termPiece, bound-valued, record-text}
 use Rattle.demands.specs.Printing.{flagText, boundText, termText, stayText}
 
@@ -29,5 +29,5 @@ unfolding flatMap
 terms-layout [] = refl
 terms-layout (v ∷ ss) = ap₂ _++_ (term-layout v) (terms-layout ss)
 
-pub layout : (ss : List Interval) → recordText ss ≡ stayText (written ss)
-layout ss = record-text ss ∙ ap (λ terms. bytes "<stay xsi:type=\"QSU_TS\">" ++ terms ++ bytes "</stay>") (terms-layout (written ss))
+pub layout : (v : Interval) (ss : List Interval) → recordText (v ∷ ss) ≡ stayText (v ∷ ss)
+layout v ss = record-text (v ∷ ss) ∙ ap (λ terms. bytes "<stay xsi:type=\"QSU_TS\">" ++ terms ++ bytes "</stay>") (terms-layout (v ∷ ss))

@@ -34,6 +34,7 @@ listRefusals = OFFSET ∷ TOO-LONG ∷ NOT-UTF-8 ∷ MARKUP ∷ TYPE ∷ SHAPE �
 -- OFFSET to NO ROOM, and asks nothing of its caller. A refusal hands back that number (in a comparison, also which record it was) and no
 -- result, and every lent buffer keeps its bytes."
 pub record Demand1 (s : Services) : Type 0 where
+  pub order : precedence ≡ OFFSET ∷ TOO-LONG ∷ NOT-UTF-8 ∷ MARKUP ∷ TYPE ∷ SHAPE ∷ VALUE ∷ RULE ∷ UNKNOWN-BOUND ∷ TOO-MANY ∷ NOT-WRITABLE ∷ NO-ROOM ∷ []
   pub numbers : map number precedence ≡ 1 ∷ 2 ∷ 3 ∷ 4 ∷ 5 ∷ 6 ∷ 7 ∷ 8 ∷ 9 ∷ 10 ∷ 12 ∷ 11 ∷ []
   pub one-number : (r q : Refusal) → number r ≡ number q → r ≡ q
   pub check-answers : (offset : ℤ) (record′ : List ℕ) → Answers recordRefusals (λ n. n ≡ 0) (Unit {0}) (s .check-says offset record′)

@@ -4,16 +4,18 @@ use Prim.Native.String.{String}
 use mathlib.Core.Path.{_≡_}
 use mathlib.Core.Logic.{_⊎_, _↔_}
 use mathlib.Core.Bool.{true, false}
-use mathlib.Core.List.{List, [], _++_, flatMap}
+use mathlib.Core.List.{List, [], _∷_, _++_, flatMap}
 use lib.ListN.{length, take, drop}
-use lib.IntN.{ℤ}
+use lib.IntN.{ℤ, pos}
 use Rattle.rules.specs.Basics.{every, bytes}
 use Rattle.rules.specs.Refusal.{NOT-WRITABLE, NO-ROOM, number}
 use Rattle.rules.specs.Check.{isOffset}
 use Rattle.rules.specs.Sets.{Bound, unbounded, openAt, closedAt, Interval}
+use Rattle.rules.specs.Listing.{listNumbers}
+use Rattle.rules.specs.Services.{eightBytes}
 use Rattle.rules.specs.LentLists.{isByte, isImproperList, listed}
 use Rattle.rules.specs.Dates.{timestampText}
-use Rattle.rules.specs.Printing.{written, recordText, isWritableTick, isWritableStretch, isUnwritable}
+use Rattle.rules.specs.Printing.{recordText, isWritableTick, isWritableStretch, isUnwritable}
 use Rattle.rules.specs.ListingPromise.{numberIn}
 use Rattle.demands.specs.Services.{Services, resultIn}
 
@@ -44,6 +46,12 @@ emptyStay =
     bytes "<stay xsi:type=\"QSU_TS\"><term xsi:type=\"IVL_TS\" lowClosed=\"false\" highClosed=\"false\">"
     ++ bytes "<low value=\"00010101000000.0000+0000\"/><high value=\"00010101000000.0000+0000\"/></term></stay>"
 
+-- no tick, or one of years 0001 to 9999
+abbrev pub InYears : Bound → Type 0
+InYears unbounded = Unit {0}
+InYears (openAt t) = (n : ℕ) × (t ≡ pos n) × (n < 3_155_378_976_000_000)
+InYears (closedAt t) = (n : ℕ) × (t ≡ pos n) × (n < 3_155_378_976_000_000)
+
 -- a list that can be printed but for its ticks: it is proper and of bytes, and NOT WRITABLE exactly if a tick lies outside years 0001 to 9999
 pub record IsProperList (s : Services) (list : List ℕ) : Type 0 where
   pub proper : isImproperList list ≡ false
@@ -72,11 +80,15 @@ pub record PrintPromise (s : Services) : Type 0 where
       → IsProperList s (take (32 * resultIn (s .list-says offset record′ list)) (s .list-leaves offset record′ list))
   -- "as a QSU_TS named `stay`, one IVL_TS `term` a stretch in order, .. unbounded ends as NINF and PINF with no flag. Layout follows
   -- document 01's example: type, then flags, one space before each attribute, no other white space, `/>` where childless."
-  -- `written` is the stretches, or one empty term for none
-  pub layout : (ss : List Interval) → recordText ss ≡ stayText (written ss)
+  pub layout : (v : Interval) (ss : List Interval) → recordText (v ∷ ss) ≡ stayText (v ∷ ss)
+  -- `listed` is the stretches whose numbers the list is, in its order
+  pub in-order : (list : List ℕ) → isUnwritable list ≡ false → every isByte list ≡ true → flatMap eightBytes (listNumbers (listed list)) ≡ list
   -- "each bound as a full timestamp with four fraction digits and `+0000`": of 18 digits, and the tick whatever offset is agreed
   pub full-timestamp : (offset tick before : ℤ) → isOffset offset ≡ true → isWritableTick tick ≡ true
       → (s .tick-says offset (timestampText tick) ≡ 18 * 2 ^ 8) × (s .tick-leaves offset (timestampText tick) before ≡ tick)
+      × (drop 19 (timestampText tick) ≡ bytes "+0000")
+  -- "a tick outside years 0001 to 9999"
+  pub outside-years : (v : Interval) → isWritableStretch v ≡ true ↔ InYears (v .low) × InYears (v .high)
   -- "No stretch is written as one term with both bounds open at 00010101000000.0000+0000."
   pub no-stretch : (record′ : List ℕ) → length emptyStay ≤ length record′ → Prints emptyStay (s .print-says [] record′) record′ (s .print-leaves [] record′)
   -- "Reading the record back lists the same stretches.", whatever offset is agreed
@@ -91,6 +103,5 @@ pub record PrintPromise (s : Services) : Type 0 where
   -- "then 11 exactly if the bytes don't fit"
   pub no-room : (list record′ : List ℕ)
       → numberIn (s .print-says list record′) ≡ number NO-ROOM ↔ (isUnwritable list ≡ false) × (length record′ < length (recordText (listed list)))
-  -- a record has at most 4,735 bytes, and one has as many
-  pub at-most : (list record′ : List ℕ) → resultIn (s .print-says list record′) ≤ 4_735
+  -- no sentence says how long a record can be: demand 1 has that it is at most 4,735 bytes, and one has as many
   pub reached : (list : List ℕ) × (record′ : List ℕ) × (resultIn (s .print-says list record′) ≡ 4_735)

@@ -1,6 +1,6 @@
 -- Two bounds by their kinds and ticks: those of one stretch, and those between two.
 use Prim.Native.Nat.{ℕ, zero, suc, _^_, _<_}
-use mathlib.Core.Path.{_≡_, refl, sym, ap}
+use mathlib.Core.Path.{_≡_, refl, sym, _∙_, ap}
 use mathlib.Core.Bool.{Bool, true, false, not, _&&_, _||_, and-false, or-false, Bool·not-not}
 use native.Mathlib.Omega.{arith}
 use borrow.Author.Tests.{ltb-true}
@@ -8,7 +8,7 @@ use lib.Dec.{ltb, eqb}
 use lib.IntN.{ℤ, predℤ, suc-pred}
 use lib.Signed.{leZ, ltZ}
 use Rattle.rules.specs.Basics.{ifSome}
-use Rattle.rules.specs.Sets.{at, gapAfter, nextPlace, _isBefore_, firstPlace, lastPlace}
+use Rattle.rules.specs.Sets.{Place, at, gapAfter, nextPlace, _isBefore_, lastPlace, fromLow}
 use Rattle.rules.specs.LentLists.{Row as PageRow, isZero, boundIn, isUnbounded, signed}
 use Rattle.rules.proofs.Order.{before-next}
 use Rattle.lent.specs.Rows.{isBound, isInOrder, isFaulty}
@@ -42,9 +42,13 @@ good (suc (suc (suc k))) h = absurd (omega arith)
 abbrev rowWith : (k : ℕ) → ℤ → (h : ℕ) → ℤ → PageRow
 rowWith k t h u = record { lowKind = signed k; lowTick = t; highKind = signed h; highTick = u }
 
+-- a place is before the one after another exactly if the other is not before it
+not-past : (x y : Place) → x isBefore nextPlace y ≡ not (not (not (y isBefore x)))
+not-past x y = before-next x y ∙ sym (Bool·not-not (not (y isBefore x)))
+
 -- the last place up to an open high is not before the first exactly if the low's tick is less
-open-high : (t u : ℤ) → ltZ t u ≡ not (ltZ (predℤ u) t)
-open-high t u = rw suc-pred at (before-next (gapAfter t) (gapAfter (predℤ u)))
+open-high : (t u : ℤ) → ltZ t u ≡ not (not (not (ltZ (predℤ u) t)))
+open-high t u = rw suc-pred at (not-past (gapAfter t) (gapAfter (predℤ u)))
 
 -- both ticks are 0, or it is not asked of them
 zeros : (x y : Bool) → not (not x) && not (not y) && true ≡ not (not x || not y || false)
@@ -63,10 +67,10 @@ stretch-good noEnd isOpen t u = zeros (isZero t) true
 stretch-good noEnd isClosed t u = zeros (isZero t) true
 stretch-good isOpen noEnd t u = zeros true (isZero u)
 stretch-good isOpen isOpen t u = open-high t u
-stretch-good isOpen isClosed t u = before-next (gapAfter t) (at u)
+stretch-good isOpen isClosed t u = not-past (gapAfter t) (at u)
 stretch-good isClosed noEnd t u = zeros true (isZero u)
 stretch-good isClosed isOpen t u = open-high t u
-stretch-good isClosed isClosed t u = before-next (at t) (at u)
+stretch-good isClosed isClosed t u = not-past (at t) (at u)
 
 -- a bad kind is no bound's
 pub stretch-is : (k h : ℕ) (t u : ℤ) → IsStretch k t h u
@@ -82,7 +86,7 @@ stretch-is k h t u = go (ltb k 3) refl (ltb h 3) refl
 abbrev IsParted : (h : ℕ) → ℤ → (l : ℕ) → ℤ → Type 0
 IsParted h t l u = (not (eqb h 0) && not (eqb l 0)) && isInOrder t u (eqb h 1 && eqb l 1)
     ≡ not (isUnbounded (boundIn (signed h) t) || isUnbounded (boundIn (signed l) u)
-    || ifSome (lastPlace (boundIn (signed h) t)) (λ z. ifSome (firstPlace (boundIn (signed l) u)) (λ f. not (nextPlace z isBefore f)) false) false)
+    || ifSome (lastPlace (boundIn (signed h) t)) (λ z. fromLow (boundIn (signed l) u) (nextPlace z)) false)
 
 parted-good : {h l : ℕ} → Kind h → Kind l → (t u : ℤ) → IsParted h t l u
 parted-good noEnd noEnd t u = refl

@@ -9,7 +9,7 @@ use lib.Dec.{ltb, eqb}
 use lib.ListN.{length}
 use lib.IntN.{ℤ}
 use Rattle.rules.specs.Basics.{exists}
-use Rattle.rules.specs.LentLists.{Row as PageRow, rowsOf, isKind, stretchIn, stretchesIn, hasPartStretch, hasTooMany, hasBadKind, hasEndTick, hasInnerEnd, hasNoPlace, isUnparted, anyTwo, isImproper, numbersIn, isImproperList}
+use Rattle.rules.specs.LentLists.{Row as PageRow, rowsOf, isKind, stretchIn, stretchesIn, hasPartStretch, hasTooMany, hasBadKind, hasEndTick, hasInnerEnd, hasNoPlace, isUnparted, anyNeighbours, isImproper, numbersIn, isImproperList}
 use Rattle.rules.proofs.Tests.{both-true, neither, clash}
 use Rattle.rules.proofs.LentLists.{numbersFrom-length}
 use Rattle.lent.specs.declared.Row.{Row}
@@ -32,7 +32,7 @@ faulty (r ∷ rs) = isFaulty r || follows r rs
 -- the same, clause by clause
 abbrev clauses : List PageRow → Bool
 clauses rows =
-    exists hasBadKind rows || exists hasEndTick rows || anyTwo hasInnerEnd (stretchesIn rows) || exists hasNoPlace (stretchesIn rows) || anyTwo isUnparted (stretchesIn rows)
+    exists hasBadKind rows || exists hasEndTick rows || anyNeighbours hasInnerEnd (stretchesIn rows) || exists hasNoPlace (stretchesIn rows) || anyNeighbours isUnparted (stretchesIn rows)
 
 medial : (a b c d : Bool) → (a || b) || (c || d) ≡ (a || c) || (b || d)
 medial true b c d = refl
@@ -53,13 +53,13 @@ regroup k ks e es i is p ps u us =
     (place-first (k || e) i p u (ks || es || is || ps || us))
 
 rows-faulty : (rows : List PageRow) → clauses rows ≡ faulty rows
-unfolding exists anyTwo stretchesIn follows
+unfolding exists anyNeighbours stretchesIn follows
 rows-faulty [] = refl
 rows-faulty (r ∷ []) = simp or-false
 rows-faulty (r ∷ q ∷ rs) =
     let ss = stretchesIn (q ∷ rs) in
-    regroup (hasBadKind r) (exists hasBadKind (q ∷ rs)) (hasEndTick r) (exists hasEndTick (q ∷ rs)) (hasInnerEnd (stretchIn r) (stretchIn q)) (anyTwo hasInnerEnd ss)
-    (hasNoPlace (stretchIn r)) (exists hasNoPlace ss) (isUnparted (stretchIn r) (stretchIn q)) (anyTwo isUnparted ss)
+    regroup (hasBadKind r) (exists hasBadKind (q ∷ rs)) (hasEndTick r) (exists hasEndTick (q ∷ rs)) (hasInnerEnd (stretchIn r) (stretchIn q)) (anyNeighbours hasInnerEnd ss)
+    (hasNoPlace (stretchIn r)) (exists hasNoPlace ss) (isUnparted (stretchIn r) (stretchIn q)) (anyNeighbours isUnparted ss)
     ∙ ap (λ b. isFaulty r || (isClash r q || b)) (rows-faulty (q ∷ rs))
 
 -- ---- the list

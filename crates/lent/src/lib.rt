@@ -87,7 +87,7 @@ pub fn are_parted(row: Row, next: Row) -> bool
     bounded & in_order(row.high_tick, next.low_tick, open)
 }
 
-// Whether a list is proper.
+// Whether a list is proper: of at most 32 stretches, 32 bytes each, and so on.
 pub fn is_proper(list: &[u8]) -> bool
     ensures { λ r. ⌜ r ≡ not (isImproperList (now (list .entry))) ⌝ }
 {

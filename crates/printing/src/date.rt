@@ -12,7 +12,7 @@ pub struct Date {
     pub day: u64,
 }
 
-// The year that a day lies in, counted from 0001-01-01: 400 years have 146,097 days, and the quotient is that year or the one before.
+// The year of a day, counted from 0001-01-01: 400 years have 146,097 days, and one more than the quotient is that year or the one before.
 fn year_of(days: u64) -> u64
     requires { ⌜ days < 3_652_059 ⌝ }
     ensures { λ r. ⌜ InYear days r ⌝ }
@@ -24,7 +24,7 @@ fn year_of(days: u64) -> u64
     year
 }
 
-// The month that a day of a year lies in, counted from 0: no month has over 31 days, and the quotient is that month or the one before.
+// The month of a day of a year, counted from 0: no month has over 31 days, and one more than the quotient is that month or the one before.
 fn month_of(year: u64, day: u64) -> u64
     requires { ⌜ day < yearLength year ⌝ }
     ensures { λ r. ⌜ InMonth year day r ⌝ }

@@ -90,7 +90,7 @@ pub fn is_writable(list: &[u8]) -> bool
     are_writable(list)
 }
 
-// The length of the record of a list that can be written, in bytes.
+// The length of the record of a list that can be written, in bytes: 31 around the terms, and the terms.
 pub fn record_length(list: &[u8]) -> usize
     requires { ⌜ isUnwritable (now list) ≡ false ⌝ }
     ensures { λ r. ⌜ (r ≡ length (recordText (listed (now (list .entry))))) × (r ≤ 4_735) ⌝ }

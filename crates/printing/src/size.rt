@@ -32,7 +32,7 @@ fn high_size(kind: u64) -> usize
     }
 }
 
-// The length of a term.
+// The length of a term: 31 bytes, and its bounds with their flags.
 pub fn term_size(row: Row) -> usize
     requires { ⌜ row .«low_kind» < 3 ⌝ ∗ ⌜ row .«high_kind» < 3 ⌝ ∗ ⌜ isWritableStretch (stretchOf row) ≡ true ⌝ }
     ensures { λ r. ⌜ r ≡ length (termText (stretchOf row)) ⌝ }

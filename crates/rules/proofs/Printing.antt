@@ -15,7 +15,7 @@ use Rattle.rules.specs.Markup.{Attribute, lookup, isDistinct, Nodes, end
 use Rattle.rules.specs.Timestamp.{Moment, beforeStart, tickOf, readTimestamp}
 use Rattle.rules.specs.Forms.{isFlavor, isFlag, formFaults}
 use Rattle.rules.specs.Invariants.{isNull, breaksInterval, childNamed, Side, low, high, endpointOf}
-use Rattle.rules.specs.Types.{TS, IVL-TS, QSU-TS, always, typed as byType, lineOf}
+use Rattle.rules.specs.Types.{TS, IVL-TS, QSU-TS, always, typed, lineOf}
 use Rattle.rules.specs.Judge.{member, inside, attributeFaults, elementFaults, childFaults, topFaults}
 use Rattle.rules.specs.Sets.{Place, at, gapAfter, _isBefore_, Bound, unbounded, openAt, closedAt, Interval, _upto_, firstPlace, holds, isIn, Op, union, Expression, interval, combine, meant, intervals}
 use Rattle.rules.specs.Stretches.{stretches}
@@ -211,7 +211,7 @@ module _ (shift : ℕ) where
   not-null (closedAt s) (closedAt t) = refl
 
   -- a term is an IVL_TS without fault
-  term-faultless : (l h : Bound) → Says shift l → Says shift h → Ordered l h → faultsAs shift (termAttributes (l upto h)) (boundNodes (l upto h)) byType ≡ []
+  term-faultless : (l h : Bound) → Says shift l → Says shift h → Ordered l h → faultsAs shift (termAttributes (l upto h)) (boundNodes (l upto h)) typed ≡ []
   unfolding elementFaults lineOf find same exists lookup
   term-faultless l h a b o = rw (flags-faultless l h, bounds-faultless _ l h a b, unbroken l h a b o, not-null l h)
 

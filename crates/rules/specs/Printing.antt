@@ -22,8 +22,8 @@ infix 70 _is_
 abbrev pub _is_ : List ℕ → List ℕ → Attribute
 n is v = record { name = n; value = v }
 
-abbrev pub typed : Kind → Attribute
-typed k = bytes "xsi:type" is nameOf k
+abbrev pub ofType : Kind → Attribute
+ofType k = bytes "xsi:type" is nameOf k
 
 -- the flag of a bound; an unbounded end has none
 abbrev pub flagOf : Side → Bound → List Attribute
@@ -42,7 +42,7 @@ boundNode side b rest = node (side .child) (saidOf side b ∷ []) end rest
 
 -- type, then flags
 abbrev pub termAttributes : Interval → List Attribute
-termAttributes s = typed IVL-TS ∷ (flagOf low (s .low) ++ flagOf high (s .high))
+termAttributes s = ofType IVL-TS ∷ (flagOf low (s .low) ++ flagOf high (s .high))
 
 abbrev pub boundNodes : Interval → Nodes
 boundNodes s = boundNode low (s .low) (boundNode high (s .high) end)
@@ -57,7 +57,7 @@ written [] = openAt (pos 0) upto openAt (pos 0) ∷ []
 written (s ∷ ss) = s ∷ ss
 
 abbrev pub stayOf : List Interval → Element
-stayOf ss = record { name = bytes "stay"; attrs = typed QSU-TS ∷ []; kids = termNodes (written ss) }
+stayOf ss = record { name = bytes "stay"; attrs = ofType QSU-TS ∷ []; kids = termNodes (written ss) }
 
 unfoldable pub recordText : List Interval → List ℕ
 recordText ss = write (stayOf ss)

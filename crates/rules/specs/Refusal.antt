@@ -1,4 +1,4 @@
--- 01-scope.md, "The refusal ladder": the refusals, their numbers and their order.
+-- 01-scope.md, "The refusal ladder", and request A1: the refusals, their numbers and their order.
 use Prim.Native.Nat.{ℕ, suc}
 use mathlib.Core.Bool.{Bool, true, false, cond}
 use mathlib.Core.List.{List, [], _∷_, _++_}

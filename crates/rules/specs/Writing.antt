@@ -1,5 +1,6 @@
 -- 02-change-requests.md, A1, "Layout follows document 01's example": a tree as markup, in one way: one space before each attribute, no
--- other white space, `/>` where childless. The law `document-of-write` says that it is read back as the tree.
+-- other white space, `/>` where childless. Values stand as they are: the law `document-of-write` says of good names, values that need no
+-- reference and at most 8 levels that the tree is read back.
 use Prim.Native.Nat.{ℕ}
 use mathlib.Core.List.{List, [], _∷_, _++_, flatMap}
 use Rattle.rules.specs.Basics.{bytes}
