@@ -29,6 +29,7 @@ pub mod ListingCases
 pub mod Fitting
 pub mod Meaning
 pub mod ListingPromise
+pub mod Stay
 pub mod Pieces
 pub mod Printing
 pub mod LentLists

@@ -4,7 +4,6 @@ use Rattle.rules.specs.Basics
 use Rattle.rules.specs.Refusal
 use Rattle.rules.specs.Parsers
 use Rattle.rules.specs.Markup
-use Rattle.rules.specs.Writing
 use Rattle.rules.specs.Calendar
 use Rattle.rules.specs.Dates
 use Rattle.rules.specs.Timestamp
@@ -25,5 +24,5 @@ use Rattle.rules.specs.ListingPromise
 use Rattle.rules.specs.ComparisonPromise
 
 unfoldable pub opened : Unit {0}
-unfolding flatMap Basics.find Basics.exists Basics.every Basics.same Basics.begins Basics.split Basics.oneOf Basics.decimalFrom Basics.digitsOf Refusal.rankIn Refusal.firstOf Parsers.front Parsers.after Parsers.one Parsers.many Parsers.times Parsers.upTo Parsers.literal Parsers.finish Markup.someSpace Markup.name Markup.reference Markup.noncharacter Markup.char Markup.text Markup.value Markup.attribute Markup.attributes Markup.lookup Markup.isDistinct Markup.tagAttributes Markup.endTag Markup.document Markup.element Writing.nodesText Calendar.monthLength Calendar.daysOfYears Calendar.daysOfMonths Timestamp.digits Timestamp.twoDigits Timestamp.point Timestamp.hours Timestamp.zone Timestamp.timestamp Timestamp.writtenFaults Timestamp.startOf Timestamp.unitLength Timestamp.readTimestamp Forms.amountText Forms.isPlainNumber Forms.isOid Forms.isRoot Forms.formFaults Invariants.childNamed Invariants.endpointOf Types.lineOf Judge.attributeFaults Judge.elementFaults Judge.childFaults Utf8.leadOf Utf8.follows Utf8.longest Check.recordFaults Check.check Sets.meant Sets.intervals Stretches.insert Stretches.sorted Stretches.drawn Stretches.stretches Listing.setFrom Listing.intervalCount Listing.listElement Listing.membersOf Comparison.compareMoments Comparison.compareAllParts Comparison.comparerOf Comparison.comparerFor Services.comparison Services.listing Services.lowBytes Services.timing Services.cutting Dates.reached Dates.yearsEnd Dates.yearAt Dates.monthAt Dates.dateText Dates.clockText Printing.termNodes Printing.recordText LentLists.rowsOf LentLists.stretchesIn LentLists.anyNeighbours LentLists.isImproper LentLists.unsigned LentLists.numbersFrom Printing.printing ListingPromise.hasUnclear ListingPromise.meanPlace ComparisonPromise.hasNullPart
+unfolding flatMap Basics.find Basics.exists Basics.every Basics.same Basics.begins Basics.split Basics.oneOf Basics.decimalFrom Basics.digitsOf Refusal.rankIn Refusal.firstOf Parsers.front Parsers.after Parsers.one Parsers.many Parsers.times Parsers.upTo Parsers.literal Parsers.finish Markup.someSpace Markup.name Markup.reference Markup.noncharacter Markup.char Markup.text Markup.value Markup.attribute Markup.attributes Markup.lookup Markup.isDistinct Markup.tagAttributes Markup.endTag Markup.document Markup.element Calendar.monthLength Calendar.daysOfYears Calendar.daysOfMonths Timestamp.digits Timestamp.twoDigits Timestamp.point Timestamp.hours Timestamp.zone Timestamp.timestamp Timestamp.writtenFaults Timestamp.startOf Timestamp.unitLength Timestamp.readTimestamp Forms.amountText Forms.isPlainNumber Forms.isOid Forms.isRoot Forms.formFaults Invariants.childNamed Invariants.endpointOf Types.lineOf Judge.attributeFaults Judge.elementFaults Judge.childFaults Utf8.leadOf Utf8.follows Utf8.longest Check.recordFaults Check.check Sets.meant Sets.intervals Stretches.insert Stretches.sorted Stretches.drawn Stretches.stretches Listing.setFrom Listing.intervalCount Listing.listElement Listing.membersOf Comparison.compareMoments Comparison.compareAllParts Comparison.comparerOf Comparison.comparerFor Services.comparison Services.listing Services.lowBytes Services.timing Services.cutting Dates.reached Dates.yearsEnd Dates.yearAt Dates.monthAt Dates.dateText Dates.clockText Printing.flagText Printing.boundText Printing.termText Printing.recordText LentLists.rowsOf LentLists.stretchesIn LentLists.anyNeighbours LentLists.isImproper LentLists.unsigned LentLists.numbersFrom Printing.printing ListingPromise.hasUnclear ListingPromise.meanPlace ComparisonPromise.hasNullPart
 opened = tt

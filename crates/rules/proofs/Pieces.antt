@@ -1,4 +1,4 @@
--- The record of stretches piece by piece, as it is written: what stands around the terms, and of a term its flags and its bounds.
+-- The length of a record: 31 bytes around the terms and 31 of each term, and the bytes of each bound with its flag.
 use Prim.Native.Nat.{ℕ, _+_, _*_, _≤_}
 use mathlib.Core.Path.{_≡_, refl, _∙_, ap, ap₂}
 use mathlib.Core.Bool.{true}
@@ -9,87 +9,13 @@ use lib.Dec.{ltb}
 use lib.ListN.{length, length-append}
 use lib.IntN.{ℤ, pos, negsuc}
 use Rattle.rules.specs.Basics.{every, bytes}
-use Rattle.rules.specs.Markup.{Attribute, end}
-use Rattle.rules.specs.Writing.{attributeText, elementText, nodesText}
 use Rattle.rules.specs.Invariants.{Side, low, high}
 use Rattle.rules.specs.Sets.{Bound, unbounded, openAt, closedAt, Interval}
 use Rattle.rules.specs.Dates.{yearsEnd, dateText, clockText, timestampText}
-use Rattle.rules.specs.Printing.{_is_, flagOf, saidOf, termAttributes, boundNodes, termNodes, written, recordText, isWritableBound, isWritableStretch}
+use Rattle.rules.specs.Printing.{flagText, boundText, termText, written, recordText, isWritableBound, isWritableStretch}
 use Rattle.rules.proofs.Tests.{clash, both-true, every-true}
 use Rattle.rules.proofs.Digits.{digitsOf-length}
 use Rattle.rules.proofs.Dates.{years-end}
-
--- ` lowClosed="true"`, or nothing at an unbounded end
-unfoldable pub flagText : Side → Bound → List ℕ
-flagText side b = flatMap attributeText (flagOf side b)
-
--- `<low value=".."/>`
-unfoldable pub boundText : Side → Bound → List ℕ
-boundText side b = elementText (side .child) (saidOf side b ∷ []) end []
-
--- `<term xsi:type="IVL_TS" .. >`
-unfoldable pub tagText : Interval → List ℕ
-tagText s = bytes "<term xsi:type=\"IVL_TS\"" ++ flagText low (s .low) ++ flagText high (s .high) ++ bytes ">"
-
-unfoldable pub termText : Interval → List ℕ
-termText s = tagText s ++ boundText low (s .low) ++ boundText high (s .high) ++ bytes "</term>"
-
--- `<low value="`
-unfoldable pub openingText : Side → List ℕ
-openingText side = 60 ∷ side .child ++ bytes " value=\""
-
--- that, a timestamp and `"/>`, whether the bound is open or closed
-abbrev pub valueText : Side → (value : List ℕ) → List ℕ
-valueText side v = openingText side ++ v ++ bytes "\"/>"
-
-value-text : (side : Side) (v : List ℕ) → elementText (side .child) ((bytes "value" is v) ∷ []) end [] ≡ valueText side v
-unfolding openingText flatMap
-value-text side v = go (60 ∷ side .child) (bytes " value=\"") v (bytes "\"") (bytes "/>")
-  where
-    go : (m p v q r : List ℕ) → m ++ (p ++ v ++ q ++ []) ++ r ≡ (m ++ p) ++ v ++ (q ++ r)
-    go m p v q r = simp (append-assoc, append-nil)
-
-pub bound-valued : (side : Side) (t : ℤ) → (boundText side (openAt t) ≡ valueText side (timestampText t)) × (boundText side (closedAt t) ≡ valueText side (timestampText t))
-unfolding boundText
-bound-valued side t = (value-text side (timestampText t), value-text side (timestampText t))
-
-bounds-text : (s : Interval) → nodesText (boundNodes s) ≡ boundText low (s .low) ++ boundText high (s .high)
-unfolding nodesText boundText
-bounds-text s = rw append-nil
-
-low-flag : (b : Bound) (more : List Attribute) → flatMap attributeText (flagOf low b ++ more) ≡ flagText low b ++ flatMap attributeText more
-unfolding flatMap flagText
-low-flag unbounded more = refl
-low-flag (openAt t) more = refl
-low-flag (closedAt t) more = refl
-
-flags-text : (s : Interval) → flatMap attributeText (termAttributes s) ≡ bytes " xsi:type=\"IVL_TS\"" ++ (flagText low (s .low) ++ flagText high (s .high))
-unfolding flatMap flagText
-flags-text s = ap (bytes " xsi:type=\"IVL_TS\"" ++_) (low-flag (s .low) (flagOf high (s .high)))
-
-assembled : (a b c d : List ℕ) → 60 ∷ bytes "term" ++ (bytes " xsi:type=\"IVL_TS\"" ++ (a ++ b)) ++ (62 ∷ (c ++ d) ++ bytes "</" ++ bytes "term" ++ 62 ∷ [])
-    ≡ bytes "<term xsi:type=\"IVL_TS\"" ++ a ++ b ++ bytes ">" ++ c ++ d ++ bytes "</term>"
-assembled a b c d = simp append-assoc
-
-term-text : (s : Interval) → elementText (bytes "term") (termAttributes s) (boundNodes s) (nodesText (boundNodes s)) ≡ termText s
-unfolding termText tagText
-term-text s = rw (bounds-text s, flags-text s) (assembled (flagText low (s .low)) (flagText high (s .high)) (boundText low (s .low)) (boundText high (s .high)))
-
-terms-text : (ss : List Interval) → nodesText (termNodes ss) ≡ flatMap termText ss
-unfolding nodesText termNodes flatMap
-terms-text [] = refl
-terms-text (s ∷ ss) = ap₂ _++_ (term-text s) (terms-text ss)
-
-around : (inner : List ℕ) → 60 ∷ bytes "stay" ++ bytes " xsi:type=\"QSU_TS\"" ++ (62 ∷ inner ++ bytes "</" ++ bytes "stay" ++ 62 ∷ [])
-    ≡ bytes "<stay xsi:type=\"QSU_TS\">" ++ inner ++ bytes "</stay>"
-around inner = simp append-assoc
-
-pub record-text : (ss : List Interval) → recordText ss ≡ bytes "<stay xsi:type=\"QSU_TS\">" ++ flatMap termText (written ss) ++ bytes "</stay>"
-unfolding recordText termNodes flatMap
-record-text [] = around (nodesText (termNodes (written []))) ∙ ap (λ inner. bytes "<stay xsi:type=\"QSU_TS\">" ++ inner ++ bytes "</stay>") (terms-text (written []))
-record-text (s ∷ ss) = around (nodesText (termNodes (s ∷ ss))) ∙ ap (λ inner. bytes "<stay xsi:type=\"QSU_TS\">" ++ inner ++ bytes "</stay>") (terms-text (s ∷ ss))
-
--- Its length: 31 bytes around the terms and 31 of each term, and the bytes of each bound with its flag.
 
 pub date-length : (days : ℕ) → length (dateText days) ≡ 8
 unfolding dateText
@@ -112,31 +38,32 @@ highSize unbounded = 25
 highSize (openAt t) = 59
 highSize (closedAt t) = 58
 
-valued-length : (side : Side) (t : ℕ) → length (valueText side (timestampText (pos t))) ≡ 36 + length (side .child)
-unfolding openingText
-valued-length side t = sum (side .child) (timestampText (pos t)) (timestamp-length t)
+-- a bound at a tick, open or closed
+valued-length : (side : Side) (t : ℕ) → (length (boundText side (openAt (pos t))) ≡ 36 + length (side .child)) × (length (boundText side (closedAt (pos t))) ≡ 36 + length (side .child))
+unfolding boundText
+valued-length side t = let e = sum (side .child) (timestampText (pos t)) (timestamp-length t) in (e, e)
   where
-    sum : (n v : List ℕ) → length v ≡ 24 → length (60 ∷ n ++ bytes " value=\"" ++ v ++ bytes "\"/>") ≡ 36 + length n
+    sum : (n v : List ℕ) → length v ≡ 24 → length (bytes "<" ++ n ++ bytes " value=\"" ++ v ++ bytes "\"/>") ≡ 36 + length n
     sum n v e = simp length-append (omega arith)
 
 pub low-length : (b : Bound) → isWritableBound b ≡ true → length (flagText low b) + length (boundText low b) ≡ lowSize b
-unfolding flagText flatMap
+unfolding flagText
 low-length unbounded h = unfold boundText in refl
-low-length (openAt (pos t)) h = omega (arith, ap length (bound-valued low (pos t) .0), valued-length low t)
+low-length (openAt (pos t)) h = omega (arith, valued-length low t)
 low-length (openAt (negsuc t)) h = clash (cc)
-low-length (closedAt (pos t)) h = omega (arith, ap length (bound-valued low (pos t) .1), valued-length low t)
+low-length (closedAt (pos t)) h = omega (arith, valued-length low t)
 low-length (closedAt (negsuc t)) h = clash (cc)
 
 pub high-length : (b : Bound) → isWritableBound b ≡ true → length (flagText high b) + length (boundText high b) ≡ highSize b
-unfolding flagText flatMap
+unfolding flagText
 high-length unbounded h = unfold boundText in refl
-high-length (openAt (pos t)) h = omega (arith, ap length (bound-valued high (pos t) .0), valued-length high t)
+high-length (openAt (pos t)) h = omega (arith, valued-length high t)
 high-length (openAt (negsuc t)) h = clash (cc)
-high-length (closedAt (pos t)) h = omega (arith, ap length (bound-valued high (pos t) .1), valued-length high t)
+high-length (closedAt (pos t)) h = omega (arith, valued-length high t)
 high-length (closedAt (negsuc t)) h = clash (cc)
 
 pub term-length : (s : Interval) → isWritableStretch s ≡ true → length (termText s) ≡ 31 + lowSize (s .low) + highSize (s .high)
-unfolding termText tagText
+unfolding termText
 term-length s h =
     let (a, b) = both-true (isWritableBound (s .low)) (isWritableBound (s .high)) h in
     omega (arith, sum (flagText low (s .low)) (flagText high (s .high)) (boundText low (s .low)) (boundText high (s .high)), low-length (s .low) a, high-length (s .high) b)
@@ -175,7 +102,8 @@ written-writable [] h = let z : ltb 0 yearsEnd ≡ true = lt-ltb 0 yearsEnd (ome
 written-writable (s ∷ ss) h = h
 
 pub record-length : (ss : List Interval) → length (recordText ss) ≡ 31 + length (flatMap termText (written ss))
-record-length ss = ap length (record-text ss) ∙ sum (flatMap termText (written ss))
+unfolding recordText
+record-length ss = sum (flatMap termText (written ss))
   where
     sum : (inner : List ℕ) → length (bytes "<stay xsi:type=\"QSU_TS\">" ++ inner ++ bytes "</stay>") ≡ 31 + length inner
     sum inner = simp length-append (omega arith)

@@ -25,10 +25,11 @@ use Rattle.rules.specs.Services.{listing}
 use Rattle.rules.specs.ListingPromise.{isListed}
 use Rattle.rules.specs.Listing.{setFrom, membersOf, joined, setOf}
 use Rattle.rules.specs.Dates.{yearsEnd, dateText, clockText, timestampText}
-use Rattle.rules.specs.Printing.{saidOf, termAttributes, boundNodes, termNodes, written, stayOf, recordText, isWritableBound, isWritableStretch}
+use Rattle.rules.specs.Printing.{written, recordText, isWritableBound, isWritableStretch}
 use Rattle.rules.proofs.Tests.{clash, both-true, isFrom-true, every-true, every-append, every-map}
 use Rattle.rules.proofs.Depth.{openIn}
 use Rattle.rules.proofs.Writing.{isName, isBare, isBareTag, areBare, isBareTree, document-of-write, write-utf8}
+use Rattle.rules.proofs.Stay.{saidOf, termAttributes, boundNodes, termNodes, stayOf, record-written}
 use Rattle.rules.proofs.Digits.{digitsOf-digits}
 use Rattle.rules.proofs.Pieces.{written-length, record-short}
 use Rattle.rules.proofs.Dates.{years-end, timestamp-of-tick}
@@ -105,8 +106,7 @@ stay-bare ss = rw (terms-bare (written ss))
 
 -- the record is read back as the tree
 pub record-read : (ss : List Interval) → document (recordText ss) ≡ some (stayOf ss)
-unfolding recordText
-record-read ss = document-of-write (stayOf ss) (stay-bare ss) (omega (arith, terms-depth (written ss)))
+record-read ss = ap document (sym (record-written ss)) ∙ document-of-write (stayOf ss) (stay-bare ss) (omega (arith, terms-depth (written ss)))
 
 -- the moment of a tick
 abbrev momentAt : ℕ → Moment
@@ -352,8 +352,7 @@ union-intervals [] = refl
 union-intervals (s ∷ ss) = omega (arith, unionFrom-intervals (interval s) ss)
 
 record-utf8 : (ss : List Interval) → isUtf8 (recordText ss) ≡ true
-unfolding recordText
-record-utf8 ss = write-utf8 (stayOf ss) (stay-bare ss)
+record-utf8 ss = ap isUtf8 (sym (record-written ss)) ∙ write-utf8 (stayOf ss) (stay-bare ss)
 
 module _ (ss : List Interval) (h : IsPrintable ss) where
   record-faultless : (shift : ℕ) → topFaults shift (stayOf ss) ≡ []

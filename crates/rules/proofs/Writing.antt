@@ -1,4 +1,4 @@
--- A tree written in the one way is read back as that tree.
+-- A tree that is written in one way is read back as that tree.
 use Prim.Native.Nat.{ℕ, zero, suc, _+_, _≤_, _<_}
 use mathlib.Core.Path.{_≡_, refl, sym, _∙_, ap}
 use mathlib.Core.Bool.{Bool, true, false, not, _&&_, _||_}
@@ -12,10 +12,31 @@ use Rattle.rules.specs.Basics.{find, every, bytes, isFrom, isDigit}
 use Rattle.rules.specs.Parsers.{bad, ok, front, after, one, many, literal, finish}
 use Rattle.rules.specs.Markup.{isSpace, space, someSpace, isNameStart, isNameByte, name, noncharacter, char, text, value, Attribute, attribute, attributes, isDistinct, tagAttributes, Nodes, end, node, Element, endTag, body, element, content, document}
 use Rattle.rules.specs.Utf8.{leadOf, follows, isUtf8}
-use Rattle.rules.specs.Writing.{attributeText, bodyText, elementText, nodesText, write}
 use Rattle.rules.proofs.Tests.{clash, both-true, isFrom-true, every-true, every-append, every-map}
 use Rattle.rules.proofs.Depth.{openIn, depthOf}
 use Rattle.rules.proofs.Beginnings.{Stops, many-read, literal-read}
+
+-- A tree as markup in one way: one space before each attribute, no other white space, `/>` where childless; values stand as they are.
+
+-- ` name="value"`
+abbrev pub attributeText : Attribute → List ℕ
+attributeText a = 32 ∷ a .name ++ 61 ∷ 34 ∷ a .value ++ 34 ∷ []
+
+-- what follows the attributes of an element named n, whose children are written as `inner`
+abbrev pub bodyText : List ℕ → Nodes → (inner : List ℕ) → List ℕ
+bodyText n end inner = bytes "/>"
+bodyText n (node m attrs kids rest) inner = 62 ∷ inner ++ bytes "</" ++ n ++ 62 ∷ []
+
+abbrev pub elementText : List ℕ → List Attribute → Nodes → (inner : List ℕ) → List ℕ
+elementText n attrs kids inner = 60 ∷ n ++ flatMap attributeText attrs ++ bodyText n kids inner
+
+-- elements side by side
+unfoldable pub nodesText : Nodes → List ℕ
+nodesText end = []
+nodesText (node n attrs kids rest) = elementText n attrs kids (nodesText kids) ++ nodesText rest
+
+abbrev pub write : Element → List ℕ
+write e = elementText (e .name) (e .attrs) (e .kids) (nodesText (e .kids))
 
 -- What can be written so: names by the markup rules, each attribute once per element, and values of ASCII with no byte that has to be
 -- referred to.

@@ -2,7 +2,6 @@ pub mod Basics
 pub mod Refusal
 pub mod Parsers
 pub mod Markup
-pub mod Writing
 pub mod Calendar
 pub mod Dates
 pub mod Timestamp
