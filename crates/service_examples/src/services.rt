@@ -1,5 +1,5 @@
 // What each service gives, as a list of numbers: the refusal's number, the results, and what it wrote to lent memory. Lent memory that is as it
-// was counts as 0, so that a change of it shows.
+// was counts as 0, so that a change of it shows. A lent record is held to the text that is due, and counts as the place where it is otherwise.
 ghost use mathlib.Core.Path.{_≡_};
 ghost use Prim.Native.Nat.{_≤_};
 ghost use lib.ListN.{length};
@@ -118,7 +118,7 @@ fn record_before() -> [u8; 5000]
     [BYTE; 5000]
 }
 
-// The length of the record, and where this is not as due.
+// The length of the record that is printed, and where the lent record is not as due.
 fn printed(list: &[u8], room: usize, due: &[u8]) -> [u64; 136]
     requires { ⌜ room ≤ 5000 ⌝ }
 {
@@ -129,7 +129,7 @@ fn printed(list: &[u8], room: usize, due: &[u8]) -> [u64; 136]
     given
 }
 
-// The same of a list by its length in bytes, the record's, and its numbers.
+// The same of a list by its length in bytes, the length of the lent record, and the numbers.
 fn print(words: [u64; 136], due: &[u8]) -> [u64; 136] {
     let mut list = list_before();
     numbers::put_bytes(words, &mut list);
@@ -137,7 +137,7 @@ fn print(words: [u64; 136], due: &[u8]) -> [u64; 136] {
     printed(lines::between(&list, 0, length), room(words[1], 5000), due)
 }
 
-// A length of lent memory, with the most that there is.
+// A length of lent memory, or all that there is, if that is less.
 fn room(length: u64, most: usize) -> usize
     ensures { λ r. ⌜ r ≤ most ⌝ }
 {
