@@ -1,5 +1,6 @@
-// What the services do not show of the libraries below them: places and sets asked about, the outline of documents, and the membership of
-// places in the set that a record writes. What is printed is held to the file `stdout`, which is written by hand.
+// What the services do not show of the libraries below them: places and sets asked about, stretches at ticks that no timestamp has, the outline
+// of documents, and the membership of places in the set that a record writes. What is printed is held to the file `stdout`, which is written by hand.
+mod lists;
 mod membership;
 mod outline;
 mod sets;
@@ -19,6 +20,7 @@ fn put_answer(yes: bool) {
 
 fn main() {
     sets::show();
+    lists::show();
     outline::show_all();
     membership::show();
 }

@@ -1,4 +1,5 @@
 // Lists of numbers: in decimal, as rows have them, and in eight bytes each, as a lent list has them. A number below 0 is in two's complement.
+ghost use mathlib.Core.Path.{_≡_};
 ghost use Prim.Native.Nat.{_+_, _<_, _≤_};
 ghost use lib.ListN.{length};
 use crate::lines;
@@ -91,6 +92,24 @@ pub(crate) fn number_at(list: &[u8], at: usize) -> u64
         n = (n << 8) | wide(list[at + k]);
     }
     n
+}
+
+// A byte of a number, lowest first.
+fn number_byte(n: u64, k: usize) -> u8
+    requires { ⌜ k < 8 ⌝ }
+{
+    ((n >> (8 * k)) % 256) as u8
+}
+
+// Puts the numbers of a list from the third on in eight bytes each, lowest first.
+pub(crate) fn put_bytes(list: [u64; 136], out: &mut [u8])
+    ensures { λ _. ⌜ length (now (out .exit)) ≡ length (now (out .entry)) ⌝ }
+{
+    let mut i = 0;
+    while i < out.len() {
+        out[i] = number_byte(list[place(i / 8 + 2)], i % 8);
+        i += 1;
+    }
 }
 
 // Prints a number after a text.

@@ -1,8 +1,9 @@
 // What each service gives, as a list of numbers: the refusal's number, the results, and what it wrote to lent memory. Lent memory that is as it
-// was counts as 0, so that a change of it shows.
+// was counts as 0, so that a change of it shows. A lent record is held to the text that is due, and counts as the place where it is otherwise.
 ghost use mathlib.Core.Path.{_≡_};
 ghost use Prim.Native.Nat.{_≤_};
 ghost use lib.ListN.{length};
+use crate::lines;
 use crate::numbers;
 
 // What lent memory holds before: a byte, eight of them as a number, and these as a signed one.
@@ -93,11 +94,58 @@ fn list(record: &[u8], offset: i64, length: usize) -> [u64; 136]
     with_list(answered(answer), &list)
 }
 
-// The length of a lent list, which is 1,056 bytes at most.
-fn room(length: u64) -> usize
-    ensures { λ r. ⌜ r ≤ 1056 ⌝ }
+// The byte that is due of a lent record: one of the text that is due, and beyond it what was there before.
+fn byte_due(due: &[u8], at: usize) -> u8 {
+    if at < due.len() { due[at] } else { BYTE }
+}
+
+// Where a lent record is first not as due, counted from 1, and 0 if it is as due.
+fn difference(record: &[u8; 5000], due: &[u8]) -> u64 {
+    let mut i = 0;
+    while i < 5000 {
+        if record[i] != byte_due(due, i) {
+            return (i as u64) + 1;
+        }
+        i += 1;
+    }
+    0
+}
+
+// A record as it is before.
+fn record_before() -> [u8; 5000]
+    ensures { λ r. ⌜ 5000 ≡ length r ⌝ }
 {
-    if 1056 < length { 1056 } else { length as usize }
+    [BYTE; 5000]
+}
+
+// The length of the record that is printed, and where the lent record is not as due.
+fn printed(list: &[u8], room: usize, due: &[u8]) -> [u64; 136]
+    requires { ⌜ room ≤ 5000 ⌝ }
+{
+    let mut record = record_before();
+    let answer = rigcactus::rigcactus_print(list, &mut record[..room]);
+    let mut given = answered(answer);
+    given[2] = difference(&record, due);
+    given
+}
+
+// The same of a list by its length in bytes, the length of the lent record, and the numbers.
+fn print(words: [u64; 136], due: &[u8]) -> [u64; 136] {
+    let mut list = list_before();
+    numbers::put_bytes(words, &mut list);
+    let length = room(words[0], 1056);
+    printed(lines::between(&list, 0, length), room(words[1], 5000), due)
+}
+
+// A length of lent memory, or all that there is, if that is less.
+fn room(length: u64, most: usize) -> usize
+    ensures { λ r. ⌜ r ≤ most ⌝ }
+{
+    if (most as u64) < length {
+        most
+    } else {
+        length as usize
+    }
 }
 
 // What the service of a name gives for numbers and texts; 255, which is no refusal's number, for a name that no service has.
@@ -113,10 +161,13 @@ pub(crate) fn call(name: &[u8], given: [u64; 136], first: &[u8], second: &[u8]) 
         return check(first, offset);
     }
     if text::is_same(name, b"list") {
-        return list(first, offset, room(given[1]));
+        return list(first, offset, room(given[1], 1056));
     }
     if text::is_same(name, b"compare") {
         return compare(first, second, offset);
+    }
+    if text::is_same(name, b"print") {
+        return print(given, first);
     }
     answered(255)
 }
