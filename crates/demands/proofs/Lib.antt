@@ -1,5 +1,4 @@
 pub mod Answers
-pub mod RecordLayout
 pub mod Printing
 pub mod Demands
 pub mod Determined

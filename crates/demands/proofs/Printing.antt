@@ -32,7 +32,6 @@ use Rattle.rules.proofs.ListingPromise.{low-bits, count-bits, list-length, over
 use Rattle.demands.specs.Services.{services, resultIn, isAmong, Answers, accepts, refuses}
 use Rattle.demands.specs.Printing.{InYears, emptyStay, Prints, ReadsBack, IsProperList, PrintPromise}
 use Rattle.demands.proofs.Answers.{packed-refused, packed-accepted}
-use Rattle.demands.proofs.RecordLayout.{layout}
 
 -- answers of printing, case by case
 module _ (list record′ : List ℕ) where
@@ -185,7 +184,6 @@ outside-years v = (
 pub print-promise : PrintPromise services
 print-promise = record {
   listed-proper = listed-proper;
-  layout = layout;
   in-order = list-bytes;
   full-timestamp = full-timestamp;
   outside-years = outside-years;

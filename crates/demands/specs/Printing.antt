@@ -1,10 +1,9 @@
 -- 02-change-requests.md, A1, "Print the stretches back as a record", in its order and words, as statements about the services.
 use Prim.Native.Nat.{ℕ, _*_, _^_, _≤_, _<_}
-use Prim.Native.String.{String}
 use mathlib.Core.Path.{_≡_}
 use mathlib.Core.Logic.{_⊎_, _↔_}
 use mathlib.Core.Bool.{true, false}
-use mathlib.Core.List.{List, [], _∷_, _++_, flatMap}
+use mathlib.Core.List.{List, [], _++_, flatMap}
 use lib.ListN.{length, take, drop}
 use lib.IntN.{ℤ, pos}
 use Rattle.rules.specs.Basics.{every, bytes}
@@ -19,28 +18,7 @@ use Rattle.rules.specs.Printing.{recordText, isWritableTick, isWritableStretch,
 use Rattle.rules.specs.ListingPromise.{numberIn}
 use Rattle.demands.specs.Services.{Services, resultIn}
 
--- The record, byte for byte.
-
--- the flag of a bound; an unbounded end has none
-abbrev pub flagText : (name : String) → Bound → List ℕ
-flagText name unbounded = []
-flagText name (openAt t) = bytes " " ++ bytes name ++ bytes "=\"false\""
-flagText name (closedAt t) = bytes " " ++ bytes name ++ bytes "=\"true\""
-
-abbrev pub boundText : (name infinity : String) → Bound → List ℕ
-boundText name infinity unbounded = bytes "<" ++ bytes name ++ bytes " nullFlavor=\"" ++ bytes infinity ++ bytes "\"/>"
-boundText name infinity (openAt t) = bytes "<" ++ bytes name ++ bytes " value=\"" ++ timestampText t ++ bytes "\"/>"
-boundText name infinity (closedAt t) = bytes "<" ++ bytes name ++ bytes " value=\"" ++ timestampText t ++ bytes "\"/>"
-
-abbrev pub termText : Interval → List ℕ
-termText v =
-    bytes "<term xsi:type=\"IVL_TS\"" ++ flagText "lowClosed" (v .low) ++ flagText "highClosed" (v .high) ++ bytes ">"
-    ++ boundText "low" "NINF" (v .low) ++ boundText "high" "PINF" (v .high) ++ bytes "</term>"
-
-abbrev pub stayText : (terms : List Interval) → List ℕ
-stayText terms = bytes "<stay xsi:type=\"QSU_TS\">" ++ flatMap termText terms ++ bytes "</stay>"
-
--- that of no stretch
+-- the record of no stretch
 abbrev pub emptyStay : List ℕ
 emptyStay =
     bytes "<stay xsi:type=\"QSU_TS\"><term xsi:type=\"IVL_TS\" lowClosed=\"false\" highClosed=\"false\">"
@@ -78,10 +56,8 @@ pub record PrintPromise (s : Services) : Type 0 where
   -- "Write any listed set": what listing wrote can be printed but for its ticks
   pub listed-proper : (offset : ℤ) (record′ list : List ℕ) → numberIn (s .list-says offset record′ list) ≡ 0
       → IsProperList s (take (32 * resultIn (s .list-says offset record′ list)) (s .list-leaves offset record′ list))
-  -- "as a QSU_TS named `stay`, one IVL_TS `term` a stretch in order, .. unbounded ends as NINF and PINF with no flag. Layout follows
-  -- document 01's example: type, then flags, one space before each attribute, no other white space, `/>` where childless."
-  pub layout : (v : Interval) (ss : List Interval) → recordText (v ∷ ss) ≡ stayText (v ∷ ss)
-  -- `listed` is the stretches whose numbers the list is, in its order
+  -- "as a QSU_TS named `stay`, one IVL_TS `term` a stretch in order, .. Layout follows document 01's example ..": `recordText` of the
+  -- stretches whose numbers the list is, in its order
   pub in-order : (list : List ℕ) → isUnwritable list ≡ false → every isByte list ≡ true → flatMap eightBytes (listNumbers (listed list)) ≡ list
   -- "each bound as a full timestamp with four fraction digits and `+0000`": of 18 digits, and the tick whatever offset is agreed
   pub full-timestamp : (offset tick before : ℤ) → isOffset offset ≡ true → isWritableTick tick ≡ true

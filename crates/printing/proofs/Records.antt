@@ -10,9 +10,9 @@ use lib.ListN.{length, length-append}
 use Rattle.rules.specs.Basics.{every, bytes}
 use Rattle.rules.specs.Sets.{Interval}
 use Rattle.rules.specs.LentLists.{isImproperList, listed}
-use Rattle.rules.specs.Printing.{written, recordText, isWritableStretch, isUnwritable}
+use Rattle.rules.specs.Printing.{termText, written, recordText, isWritableStretch, isUnwritable}
 use Rattle.rules.proofs.Tests.{neither, every-true}
-use Rattle.rules.proofs.Pieces.{termText, written-writable, record-text, record-length, record-short}
+use Rattle.rules.proofs.Pieces.{written-writable, record-length, record-short}
 use Rattle.rules.proofs.PrintingCases.{is-printable}
 use Rattle.lent.specs.Rows.{rowAt, stretchesFrom}
 use Rattle.lent.proofs.Rows.{listed-rows}
@@ -136,7 +136,8 @@ module _ (list : List ℕ) (w : isUnwritable list ≡ false) where
   all-writable n e = writable-start list is-proper n e ∙ not-false _ (neither (isImproperList list) (not (every isWritableStretch (listed list))) w .1)
 
   pub record-pieces : recordText (listed list) ≡ bytes "<stay xsi:type=\"QSU_TS\">" ++ termsText list ++ bytes "</stay>"
-  record-pieces = rw (← (written-terms list is-proper)) (record-text (listed list))
+  unfolding recordText
+  record-pieces = rw (← (written-terms list is-proper)) refl
 
   pub record-size : 31 + length (termsText list) ≡ length (recordText (listed list))
   record-size = rw (← (written-terms list is-proper)) (sym (record-length (listed list)))

@@ -5,7 +5,7 @@ use mathlib.Core.List.{List, [], _∷_, flatMap}
 use lib.Dec.{eqb}
 use lib.ListN.{length}
 use Rattle.rules.specs.Sets.{Interval}
-use Rattle.rules.proofs.Pieces.{termText}
+use Rattle.rules.specs.Printing.{termText}
 use Rattle.lent.specs.declared.Row.{Row}
 use Rattle.lent.specs.Rows.{rowAt}
 use Rattle.printing.specs.Terms.{stretchOf}

@@ -3,15 +3,15 @@ ghost use mathlib.Core.Path.{_≡_};
 ghost use mathlib.Core.Bool.{true};
 ghost use Prim.Native.Nat.{_<_, _≤_};
 ghost use lib.ListN.{length};
-ghost use Rattle.rules.specs.Printing.{isWritableStretch};
-ghost use Rattle.rules.proofs.Pieces.{lowSize, highSize, termText};
-ghost use Rattle.printing.specs.Terms.{boundOf, stretchOf};
+ghost use Rattle.rules.specs.Invariants.{low, high};
+ghost use Rattle.rules.specs.Printing.{termText, isWritableStretch};
+ghost use Rattle.printing.specs.Terms.{boundOf, stretchOf, sizeOf};
 use lent::Row;
 
 // The bytes of a low bound of some kind and of its flag.
 fn low_size(kind: u64) -> usize
     requires { ⌜ kind < 3 ⌝ }
-    ensures { λ r. ⌜ (r ≡ lowSize (boundOf kind 0)) × (r ≤ 57) ⌝ }
+    ensures { λ r. ⌜ (r ≡ sizeOf low (boundOf kind 0)) × (r ≤ 57) ⌝ }
 {
     match kind {
         0 => 24,
@@ -23,7 +23,7 @@ fn low_size(kind: u64) -> usize
 // The bytes of a high bound of some kind and of its flag.
 fn high_size(kind: u64) -> usize
     requires { ⌜ kind < 3 ⌝ }
-    ensures { λ r. ⌜ (r ≡ highSize (boundOf kind 0)) × (r ≤ 59) ⌝ }
+    ensures { λ r. ⌜ (r ≡ sizeOf high (boundOf kind 0)) × (r ≤ 59) ⌝ }
 {
     match kind {
         0 => 25,

@@ -1,13 +1,13 @@
 -- The length of a record: 31 bytes around the terms and 31 of each term, and the bytes of each bound with its flag.
 use Prim.Native.Nat.{ℕ, _+_, _*_, _≤_}
-use mathlib.Core.Path.{_≡_, refl, _∙_, ap, ap₂}
+use mathlib.Core.Path.{_≡_, refl, ap}
 use mathlib.Core.Bool.{true}
-use mathlib.Core.List.{List, [], _∷_, _++_, flatMap, append-assoc, append-nil}
+use mathlib.Core.List.{List, [], _∷_, _++_, flatMap}
 use native.Mathlib.Omega.{arith}
 use borrow.Author.Tests.{lt-ltb}
 use lib.Dec.{ltb}
 use lib.ListN.{length, length-append}
-use lib.IntN.{ℤ, pos, negsuc}
+use lib.IntN.{pos, negsuc}
 use Rattle.rules.specs.Basics.{every, bytes}
 use Rattle.rules.specs.Invariants.{Side, low, high}
 use Rattle.rules.specs.Sets.{Bound, unbounded, openAt, closedAt, Interval}

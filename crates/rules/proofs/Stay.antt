@@ -1,6 +1,6 @@
 -- The tree that a printed record is read as; written out, it is the record.
 use Prim.Native.Nat.{ℕ}
-use mathlib.Core.Path.{_≡_, refl, sym, _∙_, ap, ap₂}
+use mathlib.Core.Path.{_≡_, refl, _∙_, ap, ap₂}
 use mathlib.Core.List.{List, [], _∷_, _++_, flatMap, append-assoc, append-nil}
 use Rattle.rules.specs.Basics.{bytes}
 use Rattle.rules.specs.Markup.{Attribute, Nodes, end, node, Element}

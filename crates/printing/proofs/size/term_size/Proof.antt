@@ -18,7 +18,7 @@ add-result-2 : tie.Need-add-result-2
 add-result-2 c = search needs
 
 returns : tie.Need-returns
-returns c = omega (arith, c .before .low-size .ensures .0, c .high-size .ensures .0, term-size (c .before .before .args .row .«low_kind») (c .before .before .args .row .«low_tick») (c .before .before .args .row .«high_kind») (c .before .before .args .row .«high_tick») (c .before .before .pre .1 .1))
+returns c = omega (arith, c .before .low-size .ensures .0, c .high-size .ensures .0, term-size (c .before .before .args .row .«low_kind») (c .before .before .args .row .«low_tick») (c .before .before .args .row .«high_kind») (c .before .before .args .row .«high_tick») (c .before .before .pre .1 .1) (c .before .before .pre .0) (c .before .before .pre .1 .0))
 
 pub term-size-spec : {M : Type 1} → statement M
 term-size-spec =

@@ -1,7 +1,7 @@
 -- `printing::term::put_flag` meets its contract.
 use native.Mathlib.Omega.{arith}
 use mathlib.Core.List.{flatMap}
-use Rattle.rules.proofs.Pieces.{flagText}
+use Rattle.rules.specs.Printing.{flagText}
 use Rattle.writer.proofs.Placing.{put-none}
 use Rattle.printing.proofs.Terms.{only-closed}
 use borrow.Author.Needs.{needs}

@@ -1,6 +1,6 @@
 -- `printing::term::put_infinite` meets its contract.
 use mathlib.Core.List.{flatMap}
-use Rattle.rules.proofs.Pieces.{boundText}
+use Rattle.rules.specs.Printing.{boundText}
 use borrow.Author.Needs.{needs}
 use Rattle.printing.proofs.term.put_infinite.Statement.{statement}
 use Rattle.printing.proofs.term.put_infinite.Tie as tie

@@ -1,5 +1,5 @@
 -- `printing::term::put_opening` meets its contract.
-use Rattle.rules.proofs.Pieces.{openingText}
+use Rattle.printing.specs.Terms.{openingText}
 use borrow.Author.Needs.{needs}
 use Rattle.printing.proofs.term.put_opening.Statement.{statement}
 use Rattle.printing.proofs.term.put_opening.Tie as tie

@@ -1,7 +1,7 @@
 -- `printing::term::put_tag` meets its contract.
 use native.Mathlib.Omega.{arith}
 use Rattle.rules.specs.Invariants.{low, high}
-use Rattle.rules.proofs.Pieces.{tagText}
+use Rattle.printing.specs.Terms.{tagText}
 use Rattle.writer.proofs.Placing.{put-both}
 use Rattle.printing.proofs.Terms.{flag-any, tag-length}
 use borrow.Author.Needs.{needs}

@@ -1,8 +1,8 @@
 -- `printing::term::put_term` meets its contract.
 use native.Mathlib.Omega.{arith}
-use Rattle.rules.proofs.Pieces.{termText}
+use Rattle.rules.specs.Printing.{termText}
 use Rattle.writer.proofs.Placing.{put-both}
-use Rattle.printing.specs.Terms.{stretchOf}
+use Rattle.printing.specs.Terms.{stretchOf, tagText}
 use Rattle.printing.proofs.Terms.{term-sizes, bounds-writable}
 use borrow.Author.Needs.{needs}
 use Rattle.printing.proofs.term.put_term.Statement.{statement}
@@ -27,7 +27,7 @@ same-length : tie.Need-same-length
 same-length c = search needs
 
 returns : tie.Need-returns
-unfolding termText
+unfolding termText tagText
 returns c = put-both (put-both (put-both (c .before .before .before .before .before .before .before .before .before .before .before .before .before .before .before .put-tag .ensures) (c .before .before .before .before .before .before .before .before .before .before .before .put-bound .ensures)) (c .before .before .before .before .before .before .before .put-bound2 .ensures)) (c .before .before .put .ensures)
 
 pub put-term-spec : {M : Type 1} → statement M
