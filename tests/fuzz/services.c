@@ -355,7 +355,8 @@ static void claim_checked(struct lent record, int64_t offset, int refusal)
     int checked = rigcactus_refusal(check(record, offset));
 
     if (checked == RIGCACTUS_ACCEPTED)
-        CLAIM(refusal == RIGCACTUS_ACCEPTED || refusal == RIGCACTUS_TYPE || refusal >= RIGCACTUS_UNKNOWN_BOUND);
+        CLAIM(refusal == RIGCACTUS_ACCEPTED || refusal == RIGCACTUS_TYPE || refusal == RIGCACTUS_UNKNOWN_BOUND ||
+              refusal == RIGCACTUS_TOO_MANY || refusal == RIGCACTUS_NO_ROOM);
     else if (checked <= RIGCACTUS_TYPE)
         CLAIM(refusal == checked);
     else
