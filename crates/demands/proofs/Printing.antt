@@ -21,7 +21,7 @@ use Rattle.rules.specs.Services.{eightBytes, roomOf, listing, listAnswer, listA
 use Rattle.rules.specs.Dates.{yearsEnd, dateText, clockText, timestampText}
 use Rattle.rules.specs.Calendar.{day}
 use Rattle.rules.proofs.Dates.{years-end}
-use Rattle.rules.specs.Printing.{recordText, isWritableTick, isWritableBound, isWritableStretch, isUnwritable, printing, printAnswer, printAfter}
+use Rattle.rules.specs.Printing.{termText, recordText, isWritableTick, isWritableBound, isWritableStretch, isUnwritable, printing, printAnswer, printAfter}
 use Rattle.rules.specs.ListingPromise.{numberIn}
 use Rattle.rules.proofs.Opened.{opened}
 use Rattle.rules.proofs.Tests.{clash, both-true}
@@ -181,9 +181,15 @@ outside-years v = (
   λ (l, r). rw (bound-in-years (v .low) .1 l, bound-in-years (v .high) .1 r) refl,
 )
 
+-- the terms stand in the order of the stretches
+layout : (v : Interval) (ss : List Interval) → recordText (v ∷ ss) ≡ bytes "<stay xsi:type=\"QSU_TS\">" ++ flatMap termText (v ∷ ss) ++ bytes "</stay>"
+unfolding recordText
+layout v ss = refl
+
 pub print-promise : PrintPromise services
 print-promise = record {
   listed-proper = listed-proper;
+  layout = layout;
   in-order = list-bytes;
   full-timestamp = full-timestamp;
   outside-years = outside-years;

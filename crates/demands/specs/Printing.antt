@@ -3,7 +3,7 @@ use Prim.Native.Nat.{ℕ, _*_, _^_, _≤_, _<_}
 use mathlib.Core.Path.{_≡_}
 use mathlib.Core.Logic.{_⊎_, _↔_}
 use mathlib.Core.Bool.{true, false}
-use mathlib.Core.List.{List, [], _++_, flatMap}
+use mathlib.Core.List.{List, [], _∷_, _++_, flatMap}
 use lib.ListN.{length, take, drop}
 use lib.IntN.{ℤ, pos}
 use Rattle.rules.specs.Basics.{every, bytes}
@@ -14,7 +14,7 @@ use Rattle.rules.specs.Listing.{listNumbers}
 use Rattle.rules.specs.Services.{eightBytes}
 use Rattle.rules.specs.LentLists.{isByte, isImproperList, listed}
 use Rattle.rules.specs.Dates.{timestampText}
-use Rattle.rules.specs.Printing.{recordText, isWritableTick, isWritableStretch, isUnwritable}
+use Rattle.rules.specs.Printing.{termText, recordText, isWritableTick, isWritableStretch, isUnwritable}
 use Rattle.rules.specs.ListingPromise.{numberIn}
 use Rattle.demands.specs.Services.{Services, resultIn}
 
@@ -56,8 +56,9 @@ pub record PrintPromise (s : Services) : Type 0 where
   -- "Write any listed set": what listing wrote can be printed but for its ticks
   pub listed-proper : (offset : ℤ) (record′ list : List ℕ) → numberIn (s .list-says offset record′ list) ≡ 0
       → IsProperList s (take (32 * resultIn (s .list-says offset record′ list)) (s .list-leaves offset record′ list))
-  -- "as a QSU_TS named `stay`, one IVL_TS `term` a stretch in order, .. Layout follows document 01's example ..": `recordText` of the
-  -- stretches whose numbers the list is, in its order
+  -- "as a QSU_TS named `stay`, one IVL_TS `term` a stretch in order": of the stretches whose numbers the list is, in its order
+  pub layout : (v : Interval) (ss : List Interval)
+      → recordText (v ∷ ss) ≡ bytes "<stay xsi:type=\"QSU_TS\">" ++ flatMap termText (v ∷ ss) ++ bytes "</stay>"
   pub in-order : (list : List ℕ) → isUnwritable list ≡ false → every isByte list ≡ true → flatMap eightBytes (listNumbers (listed list)) ≡ list
   -- "each bound as a full timestamp with four fraction digits and `+0000`": of 18 digits, and the tick whatever offset is agreed
   pub full-timestamp : (offset tick before : ℤ) → isOffset offset ≡ true → isWritableTick tick ≡ true
