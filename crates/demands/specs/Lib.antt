@@ -1,3 +1,4 @@
 pub mod Services
 pub mod Printing
+pub mod Years
 pub mod Demands

@@ -8,7 +8,7 @@ use native.Mathlib.Omega.{arith}
 use native.Mathlib.Decide.{decLe}
 use borrow.Author.Tests.{eqb-true, eqb-false, eq-eqb}
 use lib.Dec.{eqb}
-use Rattle.rules.specs.Calendar.{isLeap, yearLength, monthLength, daysOfYears, daysOfMonths, daysBeforeYear}
+use Rattle.rules.specs.Calendar.{isLeap, yearLength, monthLength, daysOfYears, daysOfMonths, daysBeforeYear, daysByDivision}
 
 -- a quotient goes up by one where the number reaches a multiple
 quotient-suc : (k n : ℕ) → 0 < k → suc n / k ≡ n / k + cond (eqb (suc n % k) 0) 1 0
@@ -48,6 +48,10 @@ days-of-years (suc n) =
 
 pub days-before-year : (y : ℕ) → daysBeforeYear y + (y - 1) / 100 ≡ 365 * (y - 1) + (y - 1) / 4 + (y - 1) / 400
 days-before-year y = days-of-years (y - 1)
+
+-- request A3: for every year, and so for 0001 to 10000
+pub days-by-division : (y : ℕ) → daysByDivision y ≡ daysBeforeYear y
+days-by-division y = omega (arith, days-before-year y)
 
 -- the days of years 1 to 9999, and those before the last of them
 pub days-of-years-most : (n : ℕ) → n ≤ 9999 → daysOfYears n ≤ 3_652_059

@@ -1,5 +1,5 @@
 -- 01-scope.md, "Ticks": the calendar, Gregorian throughout, and the units of time in ticks.
-use Prim.Native.Nat.{ℕ, zero, suc, _+_, _-_, _*_, _%_}
+use Prim.Native.Nat.{ℕ, zero, suc, _+_, _-_, _*_, _/_, _%_}
 use mathlib.Core.Bool.{Bool, not, _&&_, _||_, cond}
 use mathlib.Core.List.{List, [], _∷_}
 use lib.Dec.{eqb}
@@ -30,6 +30,11 @@ daysOfMonths y (suc n) = daysOfMonths y n + monthLength y (suc n)
 
 abbrev pub daysBeforeYear : ℕ → ℕ
 daysBeforeYear y = daysOfYears (y - 1)
+
+-- 02-change-requests.md, A3: the same by division. Of the years before, every fourth has a leap day, but every hundredth has none, and again
+-- every four hundredth has one. The law `days-by-division` says that it is the same.
+abbrev pub daysByDivision : ℕ → ℕ
+daysByDivision y = 365 * (y - 1) + (y - 1) / 4 + (y - 1) / 400 - (y - 1) / 100
 
 -- the days from 0001-01-01 up to a date
 abbrev pub daysBefore : (y month day : ℕ) → ℕ
