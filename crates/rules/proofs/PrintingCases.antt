@@ -110,7 +110,7 @@ listing-proper offset room input ss h =
     (list-fits (shiftBy offset) (shiftBy-most offset (check-offset offset input (k .accepted))) e known))
 
 -- and all of it are bytes
-low-bytes : (n k : ℕ) → every isByte (lowBytes n k) ≡ true
+pub low-bytes : (n k : ℕ) → every isByte (lowBytes n k) ≡ true
 unfolding lowBytes every
 low-bytes zero k = refl
 low-bytes (suc n) k = rw (lt-ltb (k % 256) 256 (omega arith), low-bytes n (k / 256))

@@ -1,10 +1,11 @@
 -- What tests that came out true say; and what follows from a contradiction.
-use Prim.Native.Nat.{ℕ, _≤_}
+use Prim.Native.Nat.{ℕ, zero, suc, _≤_, _<_}
 use mathlib.Core.Path.{_≡_, refl, sym}
 use mathlib.Core.Bool.{Bool, true, false, _&&_, _||_, cond, and-eq-true-iff}
 use mathlib.Core.List.{List, [], _∷_, _++_}
 use mathlib.Core.Option.{some}
 use native.Mathlib.Omega.{arith}
+use native.Mathlib.Decide.{decLe}
 use borrow.Author.Tests.{leb-true, eqb-true, eqb-false, eq-eqb, ne-eqb}
 use lib.Dec.{eqb}
 use Rattle.rules.specs.Basics.{find, every, same, isFrom}
@@ -36,6 +37,20 @@ pub every-map : {A : Type 0} (p q : A → Bool) → ((a : A) → p a ≡ true �
 unfolding every
 every-map p q f [] h = refl
 every-map p q f (a ∷ l) h = let (g, i) = every-true p a l h in rw (f a g, every-map p q f l i)
+
+-- a test that is computed at every number below n
+unfoldable pub passes : ℕ → (ℕ → Bool) → Bool
+passes zero test = true
+passes (suc n) test = test n && passes n test
+
+pub passed : (n : ℕ) (test : ℕ → Bool) (k : ℕ) → passes n test ≡ true → k < n → test k ≡ true
+unfolding passes
+passed zero test k e h = absurd (omega arith)
+passed (suc n) test k e h = go (decLe n k) (both-true (test n) (passes n test) e) (passed n test k)
+  where
+    go : Dec (n ≤ k) → (test n ≡ true) × (passes n test ≡ true) → (passes n test ≡ true → k < n → test k ≡ true) → test k ≡ true
+    go (yes l) p below = let z : k ≡ n = omega arith in rw z (p .0)
+    go (no l) p below = below (p .1) (omega arith)
 
 -- one that is found passes the test, and any that all of the list pass
 pub found : {A : Type 0} (p q : A → Bool) (l : List A) (a : A) → every q l ≡ true → find p l ≡ some a → (p a ≡ true) × (q a ≡ true)

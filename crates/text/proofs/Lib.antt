@@ -4,3 +4,5 @@ pub mod Cutting
 pub mod Numerals
 pub mod Reading
 pub mod Sameness
+pub mod Lanes
+pub mod EightDigits

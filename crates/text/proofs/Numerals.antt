@@ -17,7 +17,8 @@ use Rattle.rules.specs.Timestamp.{digits, point}
 use Rattle.rules.proofs.Tests.{clash, isFrom-true, every-true}
 use Rattle.rules.proofs.Parsers.{else-ok}
 use Rattle.rules.proofs.Digits.{decimalFrom-append, decimal-below}
-use Rattle.text.specs.Numbers.{Counted, FractionAt}
+use Rattle.text.specs.Numbers.{Counted, NumberAt, FractionAt}
+use Rattle.text.specs.declared.digits.Number.the-variants.{Is}
 
 -- no byte that passes the test stands at the end, nor at a byte that does not
 pub none-at-end : (p : ℕ → Bool) (s : List ℕ) (i : ℕ) → length s ≤ i → one p (drop i s) ≡ bad
@@ -52,6 +53,21 @@ times-stop p (suc k) zero s l h e stop = rw stop refl
 times-stop p (suc k) (suc n) [] l h e stop = absurd (omega arith)
 times-stop p (suc k) (suc n) (c ∷ s) l h e stop =
     rw (every-true p c (take n s) e .0, times-stop p k n s (omega arith) (omega arith) (every-true p c (take n s) e .1) stop) refl
+
+-- a text that is too short
+times-short : (p : ℕ → Bool) (n : ℕ) (s : List ℕ) → length s < n → times n p s ≡ bad
+unfolding times one
+times-short p zero s h = absurd (omega arith)
+times-short p (suc n) [] h = refl
+times-short p (suc n) (c ∷ s) h = go (p c) (times-short p n s (omega arith))
+  where
+    go : (b : Bool) → times n p s ≡ bad → next (cond b (ok c s) bad) (λ a. times n p >>= (λ cs. pure (a ∷ cs))) ≡ bad
+    go true e = rw e refl
+    go false e = refl
+
+pub digits-short : (s : List ℕ) (at n : ℕ) → length s < at + n → 0 < n → digits n (drop at s) ≡ bad
+unfolding digits
+digits-short s at n h k = rw (times-short isDigit n (drop at s) (rw length-drop (omega arith))) refl
 
 module _ (s : List ℕ) (at most n : ℕ) (c : Counted s at most n) where
   fits : n ≤ length (drop at s)
@@ -119,6 +135,25 @@ module _ (s : List ℕ) (at n : ℕ) (high : at + n ≤ length s) (e : every isD
   -- eighteen digits fit
   pub decimal-fits : (k : ℕ) → k < n → n ≤ 18 → decimal (take k (drop at s)) < 10 ^ 17
   decimal-fits k h l = lt-of-lt-of-le (decimal-first k (omega arith)) (pow-le-pow-right {n = 10} (omega arith) {i = k} {j = 17} (omega arith))
+
+-- the number of the digits that were passed, where a text has room for n: all of them, or a byte that is none after them
+module _ (s : List ℕ) (at n k : ℕ) (room : at + n ≤ length s) (few : k ≤ n) (e : every isDigit (take k (drop at s)) ≡ true) where
+  pub passed-fits : k < n → n ≤ 18 → decimal (take k (drop at s)) < 10 ^ 17
+  passed-fits h l =
+      lt-of-lt-of-le (decimal-first s at k (omega arith) e k (omega arith)) (pow-le-pow-right {n = 10} (omega arith) {i = k} {j = 17} (omega arith))
+
+  pub other-byte : k < n → isDigit (getD s (at + k) 0) ≡ false → digits n (drop at s) ≡ bad
+  other-byte h f =
+      counted-bad s at n k (record { few = few; high = omega arith; digits = e; stop = λ l. none-at isDigit s (at + k) (omega arith) f }) h
+
+  pub all-passed : n ≤ k → NumberAt s at n (Is (decimal (take k (drop at s))))
+  all-passed h =
+      let z : k ≡ n = omega arith in
+      let c : Counted s at n k = record { few = few; high = omega arith; digits = e; stop = λ l. absurd (omega arith) } in (
+        room,
+        subst (λ (m : ℕ). decimal (take k (drop at s)) < 10 ^ m) z (decimal-first s at k (omega arith) e k (omega arith)),
+        subst (λ (m : ℕ). digits n (drop at s) ≡ ok (decimal (take m (drop at s))) (drop (at + n) s)) (sym z) (counted-number s at n k c h),
+      )
 
 -- a byte at a position
 pub byte-at : (b : ℕ) (s : List ℕ) (i : ℕ) → i < length s → getD s i 0 ≡ b → byte b (drop i s) ≡ ok b (drop (i + 1) s)

@@ -56,10 +56,20 @@ pub fn read(s: &[u8], at: usize, n: usize) -> Number
     requires { ⌜ n ≤ 18 ⌝ ∗ ⌜ at ≤ length (now s) ⌝ }
     ensures { λ r. ⌜ NumberAt (now (s .entry)) at n r ⌝ }
 {
-    if count(s, at, n) < n {
+    if s.len() - at < n {
         return Number::Nothing;
     }
-    Number::Is(value(s, at, n))
+    let mut total: u64 = 0;
+    let mut k = 0;
+    while k < n {
+        let b = s[at + k];
+        if !is_digit(b) {
+            return Number::Nothing;
+        }
+        total = total * 10 + (b as u64) - 48;
+        k += 1;
+    }
+    Number::Is(total)
 }
 
 // The digits after a point: their number in ten-thousandths, and their count, 0 if there is no point with digits; `end` is past them.

@@ -9,6 +9,7 @@ ghost use Rattle.rules.specs.Utf8.{_to_, tail, inRange, isUtf8, cutLength};
 ghost use Rattle.text.specs.Characters.{followers, classFollowers, fill, charLength, isAscii, Skips};
 
 pub mod digits;
+pub mod words;
 
 // What a reader finds at a position: where what it reads ends, or that nothing of the kind stands there.
 pub enum Read {

@@ -1,0 +1,50 @@
+// Bytes taken together as one number, a word, so that eight of them are judged and read at once.
+ghost use mathlib.Core.Path.{_≡_};
+ghost use mathlib.Core.List.{List};
+ghost use Prim.Native.Nat.{ℕ, _+_, _^_, _≤_, _<_};
+ghost use lib.ListN.{length, take, drop};
+ghost use Rattle.rules.specs.LentLists.{unsigned};
+ghost use Rattle.text.specs.Words.{AreEight, PairsOf};
+
+// The word of two bytes at a position, the first the lowest.
+pub fn two(s: &[u8], at: usize) -> u64
+    requires { ⌜ at + 2 ≤ length (now s) ⌝ }
+    ensures { λ r. ⌜ (r ≡ unsigned (take 2 (drop at (now (s .entry))))) × (r < 2 ^ 16) ⌝ }
+{
+    (s[at] as u64) + 0x100 * (s[at + 1] as u64)
+}
+
+// The word of four bytes at a position.
+pub fn four(s: &[u8], at: usize) -> u64
+    requires { ⌜ at + 4 ≤ length (now s) ⌝ }
+    ensures { λ r. ⌜ (r ≡ unsigned (take 4 (drop at (now (s .entry))))) × (r < 2 ^ 32) ⌝ }
+{
+    two(s, at) + 0x1_0000 * two(s, at + 2)
+}
+
+// The numbers that four pairs of digits write, or that there is a byte that is no digit.
+pub enum Pairs {
+    Are(u64, u64, u64, u64),
+    Not,
+}
+
+// Reads a word of eight bytes. A digit's byte is 48 and the digit, 48 being 0x30: what is left of it by exclusive or is 9 at most, which is
+// seen by four bits that stay zero even when 6 is added. Then each byte, ten times, and the next make a pair; no sum leaves its byte.
+pub fn read_pairs(word: u64) -> Pairs
+    ensures { λ r. ⌜ ((l : List ℕ) → AreEight l → word ≡ unsigned l → PairsOf l r) ⌝ }
+{
+    let digits = word ^ 0x3030_3030_3030_3030;
+    if digits & 0xF0F0_F0F0_F0F0_F0F0 != 0 {
+        return Pairs::Not;
+    }
+    if (digits + 0x0606_0606_0606_0606) & 0xF0F0_F0F0_F0F0_F0F0 != 0 {
+        return Pairs::Not;
+    }
+    let pairs = 10 * digits + digits / 0x100;
+    Pairs::Are(
+        pairs % 0x100,
+        pairs / 0x1_0000 % 0x100,
+        pairs / 0x1_0000_0000 % 0x100,
+        pairs / 0x1_0000_0000_0000 % 0x100,
+    )
+}
