@@ -29,13 +29,19 @@ start-by-division : (shift : ℕ) (w : Written) → startOf shift w ≡ daysByDi
 unfolding startOf
 start-by-division shift w = omega (arith, days-by-division (w .year))
 
--- a date's year begins with its day or before it, and the next after it
-year-of : (days y m d : ℕ) → IsDateOf days y m d → (daysByDivision y ≤ days) × (days < daysByDivision (suc y))
-year-of days y m d q =
-    let z : daysBeforeYear (suc y) ≡ daysOfYears y = ap daysOfYears (omega arith) in (
-      omega (arith, q .days-are, days-by-division y),
-      omega (arith, q .days-are, q .day-low, q .day-high, month-ends y m (q .month-low), months-in-year y m (q .year-low) (q .month-high), days-by-division (suc y)),
-    )
+-- a tick lies from the start of day a up to that of day b where its day does
+within-days : (a b t : ℕ) → a ≤ t / day → t / day < b → (a * day ≤ t) × (t < b * day)
+within-days a b t h l = (omega arith, omega arith)
+
+-- the year of a tick's date begins at the tick or before it, and the next after it
+year-of : (t y m d : ℕ) → IsDateOf (t / day) y m d → IsYearOf y t
+year-of t y m d q =
+    let z : daysBeforeYear (suc y) ≡ daysOfYears y = ap daysOfYears (omega arith) in
+    let begun : daysByDivision y ≤ t / day = omega (arith, q .days-are, days-by-division y) in
+    let in-year = months-in-year y m (q .year-low) (q .month-high) in
+    let not-over : t / day < daysByDivision (suc y) = omega (arith, q .days-are, q .day-low, q .day-high, month-ends y m (q .month-low), in-year, days-by-division (suc y)) in
+    let (from, below) = within-days (daysByDivision y) (daysByDivision (suc y)) t begun not-over in
+    (q .year-low, q .year-high, from, below)
 
 -- a timestamp begins with its year
 year-first : (t : ℕ) → take 4 (timestampText (pos t)) ≡ digitsOf 4 (yearAt (t / day) .unit)
@@ -44,11 +50,10 @@ year-first t = let y = yearAt (t / day) .unit in simp append-assoc (take-at (dig
 
 year-printed : (t : ℕ) → isWritableTick (pos t) ≡ true → (y : ℕ) × IsYearOf y t × (take 4 (timestampText (pos t)) ≡ digitsOf 4 y)
 year-printed t h =
-    let days = t / day in
-    let q = date-of days (omega (arith, years-end, ltb-true t yearsEnd h)) in
-    let (low, high) = year-of days _ _ _ q in
-    (yearAt days .unit, (q .year-low, q .year-high, omega arith, omega arith), year-first t)
+    let q = date-of (t / day) (omega (arith, years-end, ltb-true t yearsEnd h)) in
+    (yearAt (t / day) .unit, year-of t _ _ _ q, year-first t)
 
+-- what is read has no fault, and its tick is that of what is written
 tick-by-division : (s : Services) → Demand2 s → (offset before : ℤ) (text : List ℕ) → numberIn (s .tick-says offset text) ≡ 0
     → TickByDivision offset text (s .tick-leaves offset text before)
 tick-by-division s p offset before text e =
