@@ -1,17 +1,22 @@
--- The number and the result of a packed answer.
+-- The number and the result of a packed answer, and what an answer without a number says of the faults.
 use Prim.Native.Nat.{ℕ}
 use mathlib.Core.Path.{_≡_, refl, sym, _∙_, ap, subst}
 use mathlib.Core.Logic.{_↔_}
 use mathlib.Core.Bool.{true}
-use mathlib.Core.List.{List}
+use mathlib.Core.List.{List, [], append-eq-nil-iff}
+use mathlib.Core.Option.{Option, none, some}
 use native.Mathlib.Omega.{arith}
-use Rattle.rules.specs.Refusal.{Refusal, number, Outcome, answered, refused}
+use lib.IntN.{ℤ}
+use Rattle.rules.specs.Refusal.{Refusal, number, firstOf, Outcome, answered, refused, faultsOf}
+use Rattle.rules.specs.Timestamp.{Moment, readTimestamp}
+use Rattle.rules.specs.Check.{shiftBy}
 use Rattle.rules.specs.Services.{packed}
 use Rattle.rules.specs.ListingPromise.{numberIn}
 use Rattle.rules.proofs.Tests.{clash}
-use Rattle.rules.proofs.Precedence.{number-injective}
+use Rattle.rules.proofs.Precedence.{number-injective, first-is, no-fault}
 use Rattle.rules.proofs.ListingPromise.{small, low-bits, count-bits}
 use Rattle.demands.specs.Services.{isAmong, Answers, accepts, refuses}
+use Rattle.demands.specs.Demands.{IsFirst, timeFaults}
 
 module _ {A : Type 0} (result : A → ℕ) where
   pub packed-refused : (o : Outcome A) (r : Refusal) → numberIn (packed result o) ≡ number r ↔ o ≡ refused r
@@ -26,3 +31,20 @@ module _ {A : Type 0} (result : A → ℕ) where
       → ((r : Refusal) → o ≡ refused r → (isAmong may r ≡ true) × Kept) → Answers may Result Kept (packed result o)
   packed-answers {Result = Result} (answered a) f g = accepts (count-bits (result a) .0) (subst Result (sym (count-bits (result a) .1)) (f a refl))
   packed-answers (refused r) f g = refuses r (g r refl .0) (low-bits r .0) (low-bits r .1) (g r refl .1)
+
+-- an answer that has the number of the first fault has a number if there is a fault
+module _ (faults : List Refusal) (answer : ℕ) (first : (r : Refusal) → numberIn answer ≡ number r ↔ IsFirst r faults) where
+  pub no-number : numberIn answer ≡ 0 → faults ≡ []
+  no-number e = no-fault faults .0 (go _ refl)
+    where
+      go : (o : Option Refusal) → firstOf faults ≡ o → o ≡ none
+      go none f = refl
+      go (some r) f = clash (omega (arith, small r, first r .1 (first-is faults r .0 f)))
+
+-- a text without fault is read
+pub faultless-read : (offset : ℤ) (text : List ℕ) → timeFaults offset text ≡ [] → (m : Moment) × (readTimestamp (shiftBy offset) text ≡ answered m)
+faultless-read offset text f = go (readTimestamp (shiftBy offset) text) refl (append-eq-nil-iff {p = faultsOf (readTimestamp (shiftBy offset) text)} .0 f .0)
+  where
+    go : (o : Outcome Moment) → readTimestamp (shiftBy offset) text ≡ o → faultsOf o ≡ [] → (m : Moment) × (readTimestamp (shiftBy offset) text ≡ answered m)
+    go (answered m) e g = (m, e)
+    go (refused r) e g = clash (cc)

@@ -29,9 +29,10 @@ use Rattle.rules.proofs.LentLists.{signed-eight}
 use Rattle.rules.proofs.ComparedRecords.{says as says-answer, comparison-of}
 use Rattle.rules.proofs.ComparisonPromise.{names-first, names-second, comparison-promise}
 use Rattle.demands.specs.Services.{services, resultIn, isAmong, Answers, accepts, refuses, Compares, says, names}
-use Rattle.demands.specs.Demands.{recordRefusals, listRefusals, IsFirst, timeFaults, cutFaults, IsCut, Demands}
+use Rattle.demands.specs.Demands.{recordRefusals, listRefusals, IsFirst, timeFaults, cutFaults, IsCut, Demand2, Demands}
 use Rattle.demands.proofs.Answers.{packed-refused, packed-accepted, packed-answers}
 use Rattle.demands.proofs.Printing.{print-answers, print-promise}
+use Rattle.demands.proofs.Years.{no-answer-changes}
 
 iff-trans : {A B C : Type 0} → (A ↔ B) → (B ↔ C) → A ↔ C
 iff-trans f g = (λ a. g .0 (f .0 a), λ c. f .1 (g .1 c))
@@ -181,6 +182,18 @@ module _ (text : List ℕ) (room : ℕ) where
   cut-first : (r : Refusal) → numberIn (cutAnswer text room) ≡ number r ↔ IsFirst r (cutFaults text)
   cut-first r = iff-trans (packed-refused (λ n. n) (cutting text room) r) (iff-trans (cutting-refused r) (first-is (cutFaults text) r))
 
+met-2 : Demand2 services
+met-2 = record {
+  accepted = check-accepted;
+  refused = check-first;
+  time = time;
+  time-refused = time-first;
+  comparison = λ offset first second a b c e f g. rw (comparison-of offset first second e f, g) (says-answer _);
+  comparison-promise = comparison-promise;
+  cut = cut;
+  cut-refused = cut-first;
+}
+
 pub demands-met : Demands services
 demands-met = record {
   one = record {
@@ -194,16 +207,8 @@ demands-met = record {
     cut-answers = cut-answers;
     print-answers = print-answers;
   };
-  two = record {
-    accepted = check-accepted;
-    refused = check-first;
-    time = time;
-    time-refused = time-first;
-    comparison = λ offset first second a b c e f g. rw (comparison-of offset first second e f, g) (says-answer _);
-    comparison-promise = comparison-promise;
-    cut = cut;
-    cut-refused = cut-first;
-  };
+  two = met-2;
   three = record { read-back = signed-eight; listing-promise = listing-promise };
   print = print-promise;
+  years = no-answer-changes services met-2;
 }

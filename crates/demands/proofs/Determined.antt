@@ -2,16 +2,15 @@
 use Prim.Native.Nat.{ℕ, _+_, _*_, _/_, _^_}
 use mathlib.Core.Logic.{_↔_}
 use mathlib.Core.Path.{_≡_, refl, sym, _∙_, ap, subst}
-use mathlib.Core.List.{List, [], append-eq-nil-iff}
+use mathlib.Core.List.{List, []}
 use mathlib.Core.Option.{Option, none, some}
 use native.Mathlib.Decide.{decLe}
 use native.Mathlib.Omega.{arith}
 use lib.ListN.{length, take-append-drop}
 use lib.IntN.{ℤ, pos}
-use Rattle.rules.specs.Refusal.{Refusal, NOT-WRITABLE, NO-ROOM, number, firstOf, Outcome, answered, refused, faultsOf}
+use Rattle.rules.specs.Refusal.{Refusal, NOT-WRITABLE, NO-ROOM, number, firstOf, Outcome, answered, refused}
 use Rattle.rules.specs.Markup.{Element}
-use Rattle.rules.specs.Timestamp.{Moment, readTimestamp}
-use Rattle.rules.specs.Check.{shiftBy, recordFaults, check}
+use Rattle.rules.specs.Check.{recordFaults, check}
 use Rattle.rules.specs.Comparison.{Answer, Comparer, comparerFor}
 use Rattle.rules.specs.Sets.{Interval, meant, AreStretches}
 use Rattle.rules.specs.Services.{roomOf}
@@ -26,6 +25,7 @@ use Rattle.rules.proofs.ComparisonPromise.{Pair, alike, unlike, pair}
 use Rattle.demands.specs.Services.{Services, services, resultIn, Answers, accepts, refuses, Same}
 use Rattle.demands.specs.Printing.{Prints}
 use Rattle.demands.specs.Demands.{IsFirst, timeFaults, cutFaults, IsCut, Demands}
+use Rattle.demands.proofs.Answers.{no-number, faultless-read}
 use Rattle.demands.proofs.Demands.{demands-met}
 
 same-answer : {a b : ℕ} → numberIn a ≡ numberIn b → resultIn a ≡ resultIn b → a ≡ b
@@ -37,12 +37,8 @@ data Given (faults : List Refusal) (Result : ℕ → Type 0) (Kept : Type 0) (an
   first-given : (r : Refusal) → firstOf faults ≡ some r → numberIn answer ≡ number r → resultIn answer ≡ 0 → Kept → Given faults Result Kept answer
 
 module _ (faults : List Refusal) (answer : ℕ) (first : (r : Refusal) → numberIn answer ≡ number r ↔ IsFirst r faults) where
-  no-number : numberIn answer ≡ 0 → (o : Option Refusal) → firstOf faults ≡ o → o ≡ none
-  no-number e none f = refl
-  no-number e (some r) f = clash (omega (arith, small r, first r .1 (first-is faults r .0 f)))
-
   given : {may : List Refusal} {Result : ℕ → Type 0} {Kept : Type 0} → Answers may Result Kept answer → Given faults Result Kept answer
-  given (accepts e h) = faultless (no-fault faults .0 (no-number e _ refl)) e h
+  given (accepts e h) = faultless (no-number faults answer first e) e h
   given (refuses r m e z k) = first-given r (first-is faults r .1 (first r .0 e)) e z k
 
 -- two answers by the same faults have the same number, and are the same if their results are where there is no fault
@@ -144,17 +140,9 @@ module _ {s t : Services} (p : Demands s) (q : Demands t) where
       → (s .list-says offset input list ≡ t .list-says offset input list) × (s .list-leaves offset input list ≡ t .list-leaves offset input list)
   same-list offset input list = same-promise offset input list (p .three .listing-promise offset input list) (q .three .listing-promise offset input list)
 
-  -- a text without fault is read
-  read : (offset : ℤ) (text : List ℕ) → timeFaults offset text ≡ [] → (m : Moment) × (readTimestamp (shiftBy offset) text ≡ answered m)
-  read offset text f = go (readTimestamp (shiftBy offset) text) refl (append-eq-nil-iff {p = faultsOf (readTimestamp (shiftBy offset) text)} .0 f .0)
-    where
-      go : (o : Outcome Moment) → readTimestamp (shiftBy offset) text ≡ o → faultsOf o ≡ [] → (m : Moment) × (readTimestamp (shiftBy offset) text ≡ answered m)
-      go (answered m) e g = (m, e)
-      go (refused r) e g = clash (cc)
-
   same-tick : (offset : ℤ) (text : List ℕ) (tick : ℤ) → s .tick-says offset text ≡ t .tick-says offset text
   same-tick offset text tick =
-      same-given (λ f h i. let (m, e) = read offset text f in p .two .time offset text tick m e f .1 ∙ sym (q .two .time offset text tick m e f .1))
+      same-given (λ f h i. let (m, e) = faultless-read offset text f in p .two .time offset text tick m e f .1 ∙ sym (q .two .time offset text tick m e f .1))
       (given (timeFaults offset text) _ (p .two .time-refused offset text) (p .one .tick-answers offset text tick))
       (given (timeFaults offset text) _ (q .two .time-refused offset text) (q .one .tick-answers offset text tick))
 
@@ -165,7 +153,7 @@ module _ {s t : Services} (p : Demands s) (q : Demands t) where
     where
       go : {R Q : ℕ → Type 0} {a b : ℕ} → Given (timeFaults offset text) R (s .tick-leaves offset text tick ≡ tick) a
           → Given (timeFaults offset text) Q (t .tick-leaves offset text tick ≡ tick) b → s .tick-leaves offset text tick ≡ t .tick-leaves offset text tick
-      go (faultless f n h) g = let (m, e) = read offset text f in p .two .time offset text tick m e f .2 ∙ sym (q .two .time offset text tick m e f .2)
+      go (faultless f n h) g = let (m, e) = faultless-read offset text f in p .two .time offset text tick m e f .2 ∙ sym (q .two .time offset text tick m e f .2)
       go (first-given r d m z k) (faultless f n h) = let i = no-fault (timeFaults offset text) .1 f in clash (cc)
       go (first-given r d m z k) (first-given u e n y l) = k ∙ sym l
 

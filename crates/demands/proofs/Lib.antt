@@ -1,5 +1,6 @@
 pub mod Answers
 pub mod Printing
+pub mod Years
 pub mod Demands
 pub mod Determined
 pub mod Impostors

@@ -21,6 +21,7 @@ use Rattle.rules.specs.ListingPromise.{numberIn, fits, ListingPromise}
 use Rattle.rules.specs.ComparisonPromise.{Says, ComparisonPromise}
 use Rattle.demands.specs.Services.{Services, resultIn, Answers, Compares}
 use Rattle.demands.specs.Printing.{PrintPromise}
+use Rattle.demands.specs.Years.{YearsPromise}
 
 -- what checking may give
 abbrev pub recordRefusals : List Refusal
@@ -98,3 +99,5 @@ pub record Demands (s : Services) : Type 0 where
   pub three : Demand3 s
   -- request A1
   pub print : PrintPromise s
+  -- request A3
+  pub years : YearsPromise s
