@@ -31,6 +31,11 @@ word-split (suc m) n (b ∷ l) h =
     let z : suc m + n ≡ suc (m + n) = omega arith in
     rw (z, pow-succ' 256 m, mul-assoc 256 (256 ^ m) (unsigned (take n (drop m l)))) (omega (arith, word-split m n l (omega arith)))
 
+pub word-append : (a b : List ℕ) → unsigned (a ++ b) ≡ unsigned a + 256 ^ length a * unsigned b
+unfolding unsigned
+word-append [] b = rw (pow-zero 256) (omega arith)
+word-append (c ∷ a) b = rw (pow-succ' 256 (length a), mul-assoc 256 (256 ^ length a) (unsigned b)) (omega (arith, word-append a b))
+
 pub word-two : (s : List ℕ) (at : ℕ) → at + 2 ≤ length s → unsigned (take 2 (drop at s)) ≡ getD s at 0 + 256 * getD s (at + 1) 0
 unfolding unsigned
 word-two s at h = rw (here s at (omega arith), here s (at + 1) (omega arith)) (omega arith)

@@ -7,8 +7,8 @@ use native.Mathlib.Omega.{arith}
 use borrow.Author.Tests.{le-leb, lt-leb}
 use lib.ListN.{length, drop}
 use Rattle.rules.specs.Basics.{decimalFrom}
-use Rattle.rules.specs.Parsers.{Parsed, bad, ok, next, else, pure, _or_, byte, finish, whole}
-use Rattle.rules.specs.Timestamp.{Zone, noZone, plus, minus, digits, twoDigits, hours, zone, timestamp}
+use Rattle.rules.specs.Parsers.{Parsed, bad, ok, next, else, pure, _or_, one, byte, finish, whole}
+use Rattle.rules.specs.Timestamp.{Zone, noZone, plus, minus, digits, twoDigits, point, hours, zone, timestamp}
 use Rattle.text.specs.Numbers.{NumberAt, FractionBy, FractionAt}
 use Rattle.text.specs.declared.digits.Fraction.{Fraction}
 use Rattle.text.specs.declared.digits.Number.{Number}
@@ -116,3 +116,12 @@ module _ (s t u v r : List ℕ) (y : ℕ) (ps f : List ℕ) (z : Zone) (a : digi
   pub form-more : (k : ℕ) (l : List ℕ) → r ≡ k ∷ l → whole timestamp s ≡ none
   unfolding timestamp finish
   form-more k l e = rw (a, b, c, d, e) refl
+
+-- nothing follows
+pub no-fraction : (s : List ℕ) (at : ℕ) → drop at s ≡ [] → fractionAfter 5 (drop at s) ≡ ok [] (drop at s)
+unfolding point one
+no-fraction s at e = rw e refl
+
+pub no-zone : (s : List ℕ) (at : ℕ) → drop at s ≡ [] → zoneAfter 5 (drop at s) ≡ ok noZone (drop at s)
+unfolding zone one
+no-zone s at e = rw e refl

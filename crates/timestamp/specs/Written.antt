@@ -1,11 +1,12 @@
 -- What is written in a timestamp, as code holds it, in the words of the rules.
 use Prim.Native.Nat.{ℕ, _+_, _*_, _^_, _≤_, _<_}
 use mathlib.Core.Path.{_≡_}
-use mathlib.Core.Bool.{Bool, cond}
+use mathlib.Core.Bool.{Bool, false, cond}
 use mathlib.Core.List.{List, [], _∷_}
 use mathlib.Core.Option.{Option, none, some}
 use lib.Dec.{leb}
 use lib.ListN.{length, getD, drop}
+use Rattle.rules.specs.Basics.{every, isDigit}
 use Rattle.rules.specs.Parsers.{Parser, bad, ok, pure, guard, _>>_, _or_, whole}
 use Rattle.rules.specs.Timestamp.{twoDigits, point, hours, zone as zoneParser, timestamp, tenThousandths}
 use Rattle.rules.specs.Timestamp.{Zone as RulesZone, noZone, plus, minus, Written as RulesWritten}
@@ -16,6 +17,9 @@ use Rattle.timestamp.specs.declared.form.Hours.{Hours}
 use Rattle.timestamp.specs.declared.form.Hours.the-variants.{Is, Nothing}
 use Rattle.timestamp.specs.declared.form.Zoned.{Zoned}
 use Rattle.timestamp.specs.declared.form.Written.{Written}
+use Rattle.timestamp.specs.declared.full.Numbers.{Numbers}
+use Rattle.timestamp.specs.declared.full.Full.{Full}
+use Rattle.timestamp.specs.declared.full.Full.the-variants.{Is as Full·Is, Not}
 use Rattle.timestamp.specs.declared.form.Form.{Form}
 use Rattle.timestamp.specs.declared.form.Form.the-variants.{Is as Form·Is, Bad}
 
@@ -80,3 +84,16 @@ pub record Writes (w : RulesWritten) (c : Written) : Type 0 where
 abbrev pub FormOf : List ℕ → Form → Type 0
 FormOf s (Form·Is c) = (w : RulesWritten) × (whole timestamp s ≡ some w) × Writes w c
 FormOf s Bad = whole timestamp s ≡ none
+
+-- fourteen digits, as what is written
+abbrev pub fullWritten : Numbers → Written
+fullWritten n = record {
+  year = n .year;
+  parts = record { count = 5; month = n .month; day = n .day; hour = n .hour; minute = n .minute; second = n .second; end = 14 };
+  fraction = record { value = 0; count = 0; end = 14 };
+  zone = Agreed;
+}
+
+abbrev pub FullOf : List ℕ → Full → Type 0
+FullOf s (Full·Is n) = FormOf s (Form·Is (fullWritten n))
+FullOf s Not = length s ≡ 14 → every isDigit s ≡ false

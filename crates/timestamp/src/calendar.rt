@@ -1,7 +1,10 @@
-// The calendar, Gregorian throughout: the lengths of years and months, and the days before a date.
+// The calendar, Gregorian throughout: the lengths of years and months, and the days before a date, by formulas with no table and no loop.
 ghost use mathlib.Core.Path.{_≡_};
-ghost use Prim.Native.Nat.{_-_, _≤_};
-ghost use Rattle.rules.specs.Calendar.{isLeap, yearLength, monthLength, daysOfMonths, daysBeforeYear, daysBefore};
+ghost use mathlib.Core.Bool.{cond};
+ghost use Prim.Native.Nat.{_+_, _-_, _≤_};
+ghost use lib.Dec.{leb};
+ghost use Rattle.rules.specs.Calendar.{isLeap, yearLength, monthLength, daysOfMonths, daysByDivision, daysBefore};
+ghost use Rattle.timestamp.specs.Moments.{InRange};
 
 // Whether a year has 366 days.
 pub fn is_leap(year: u64) -> bool
@@ -17,45 +20,60 @@ pub fn year_length(year: u64) -> u64
     if is_leap(year) { 366 } else { 365 }
 }
 
-const LENGTHS: [u64; 12] = [31, 28, 31, 30, 31, 30, 31, 31, 30, 31, 30, 31];
-
-const LENGTHS_LEAP: [u64; 12] = [31, 29, 31, 30, 31, 30, 31, 31, 30, 31, 30, 31];
-
-// The days of a month, counted from 1.
+// The days of a month, counted from 1: but for the second, 31 and 30 in turn, and so once more from the eighth on.
 pub fn month_length(year: u64, month: u64) -> u64
     requires { ⌜ 1 ≤ month ⌝ ∗ ⌜ month ≤ 12 ⌝ }
     ensures { λ r. ⌜ r ≡ monthLength year month ⌝ }
 {
-    let i = (month - 1) as usize;
-    if is_leap(year) {
-        LENGTHS_LEAP[i]
-    } else {
-        LENGTHS[i]
+    if month != 2 {
+        return 30 + (month + month / 8) % 2;
     }
+    if is_leap(year) { 29 } else { 28 }
 }
 
-const BEFORE: [u64; 12] = [0, 31, 59, 90, 120, 151, 181, 212, 243, 273, 304, 334];
-
-const BEFORE_LEAP: [u64; 12] = [0, 31, 60, 91, 121, 152, 182, 213, 244, 274, 305, 335];
-
-// The days of a year before a month.
+// The days of a year before a month: as if the second had 30, less those that it has not.
 pub fn days_before_month(year: u64, month: u64) -> u64
     requires { ⌜ 1 ≤ month ⌝ ∗ ⌜ month ≤ 12 ⌝ }
     ensures { λ r. ⌜ r ≡ daysOfMonths year (month - 1) ⌝ }
 {
-    let i = (month - 1) as usize;
-    if is_leap(year) {
-        BEFORE_LEAP[i]
-    } else {
-        BEFORE[i]
+    let days = (367 * month - 362) / 12;
+    if month <= 2 {
+        return days;
     }
+    if is_leap(year) { days - 1 } else { days - 2 }
 }
 
-// The days before a year, by division: a leap day every fourth year, but every hundredth, and again every four hundredth.
+// The days before a year, by division: a leap day for every fourth year, less every hundredth, and again for every four hundredth.
 pub fn days_before_year(year: u64) -> u64
     requires { ⌜ 1 ≤ year ⌝ ∗ ⌜ year ≤ 10_000 ⌝ }
-    ensures { λ r. ⌜ r ≡ daysBeforeYear year ⌝ }
+    ensures { λ r. ⌜ r ≡ daysByDivision year ⌝ }
 {
     let n = year - 1;
-    365 * n + n / 4 + n / 400 - n / 100
+    let hundreds = n / 100;
+    365 * n + n / 4 - hundreds + hundreds / 4
+}
+
+// The year of the last March.
+fn march_year(year: u64, month: u64) -> u64
+    requires { ⌜ 1 ≤ year ⌝ }
+    ensures { λ r. ⌜ r ≡ cond (leb month 2) (year - 1) year ⌝ }
+{
+    if month <= 2 { year - 1 } else { year }
+}
+
+// A month as counted in that year: January and February are its thirteenth and fourteenth.
+fn march_month(month: u64) -> u64
+    requires { ⌜ month ≤ 12 ⌝ }
+    ensures { λ r. ⌜ r ≡ cond (leb month 2) (month + 12) month ⌝ }
+{
+    if month <= 2 { month + 12 } else { month }
+}
+
+// The days before a date, counted from March on: then five months in a row have 153 days, and the leap day is the last. From a March to
+// the year's end there are 306 days.
+pub fn days_before(year: u64, month: u64, day: u64) -> u64
+    requires { ⌜ InRange year month day ⌝ }
+    ensures { λ r. ⌜ r ≡ daysBefore year month day ⌝ }
+{
+    days_before_year(march_year(year, month) + 1) + (153 * march_month(month) - 457) / 5 + day - 307
 }

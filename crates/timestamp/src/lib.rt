@@ -4,11 +4,12 @@ ghost use mathlib.Core.Bool.{true};
 ghost use Prim.Native.Nat.{_+_, _-_, _*_, _^_, _≤_, _<_};
 ghost use Rattle.rules.specs.Basics.{isFrom};
 ghost use Rattle.rules.specs.Timestamp.{isOffsetTime, isZone, shiftOf, readTimestamp};
-ghost use Rattle.timestamp.specs.Written.{zoneOf, SmallZone};
+ghost use Rattle.timestamp.specs.Written.{zoneOf, SmallZone, fullWritten};
 ghost use Rattle.timestamp.specs.Moments.{isDateOf, isClockOf, unitTicks, Possible, momentWritten, outcomeOf};
 
 pub mod calendar;
 mod form;
+mod full;
 pub mod tick;
 
 use refusal::Refusal;
@@ -45,7 +46,10 @@ fn is_date(year: u64, month: u64, day: u64) -> bool
     if !in_range(month, 1, 12) {
         return false;
     }
-    in_range(day, 1, calendar::month_length(year, month))
+    if in_range(day, 1, 28) {
+        return true;
+    }
+    in_range(day, 29, calendar::month_length(year, month))
 }
 
 // Whether numbers are a time of the day.
@@ -134,12 +138,36 @@ fn make_moment(w: form::Written, shift: u64) -> Moment
     }
 }
 
+// The moment of fourteen digits.
+fn full_moment(n: full::Numbers, shift: u64) -> Moment
+    requires { ⌜ Possible shift (fullWritten n) ⌝ }
+    ensures { λ r. ⌜ r ≡ momentWritten shift (fullWritten n) ⌝ }
+{
+    let date = Tick::of_date(n.year, n.month, n.day);
+    let clock = Tick::of_clock(n.hour, n.minute, n.second, 0);
+    let start = date.0 + clock.0 + shift * Tick::MINUTE.0;
+    Moment {
+        start,
+        precision: 14,
+        next: start + Tick::SECOND.0,
+    }
+}
+
 // Reads a text as a timestamp; `shift` is 840 less the agreed offset in minutes. A text of the wrong form, an impossible date, an
-// impossible clock and an impossible offset are VALUE.
+// impossible clock and an impossible offset are VALUE. Fourteen digits go a shorter way to the same answer.
 pub fn read(text: &[u8], shift: u64) -> Timestamp
     requires { ⌜ shift ≤ 1680 ⌝ }
     ensures { λ r. ⌜ outcomeOf r ≡ readTimestamp shift (now (text .entry)) ⌝ }
 {
+    if let full::Full::Is(n) = full::read(text) {
+        if !is_date(n.year, n.month, n.day) {
+            return Timestamp::Refused(Refusal::Value);
+        }
+        if !is_clock(n.hour, n.minute, n.second) {
+            return Timestamp::Refused(Refusal::Value);
+        }
+        return Timestamp::At(full_moment(n, shift));
+    }
     let form::Form::Is(w) = form::read_form(text) else {
         return Timestamp::Refused(Refusal::Value);
     };

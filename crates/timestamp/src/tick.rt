@@ -25,10 +25,7 @@ impl Tick {
         requires { ⌜ InRange year month day ⌝ }
         ensures { λ r. ⌜ (r .0 ≡ daysBefore year month day * dayTicks) × (r .0 ≤ 3_652_089 * dayTicks) ⌝ }
     {
-        let days = calendar::days_before_year(year)
-            + calendar::days_before_month(year, month)
-            + (day - 1);
-        Tick(days * Tick::DAY.0)
+        Tick(calendar::days_before(year, month, day) * Tick::DAY.0)
     }
 
     // The ticks from midnight up to a time of the day.

@@ -1,7 +1,8 @@
 -- `timestamp::is_date` meets its contract.
-use mathlib.Core.Path.{refl, sym, _∙_}
-use borrow.Author.Tests.{not-true, not-false}
+use Rattle.timestamp.proofs.Months.{first-days, last-days}
 use Rattle.rules.proofs.Tests.{isFrom-true}
+use borrow.Author.Tests.{not-true, not-false}
+use mathlib.Core.Path.{refl, sym, _∙_}
 use borrow.Author.Needs.{needs}
 use Rattle.timestamp.proofs.is_date.Statement.{statement}
 use Rattle.timestamp.proofs.is_date.Tie as tie
@@ -10,33 +11,32 @@ use Rattle.timestamp.proofs.is_date.Lts as lts
 use Rattle.timestamp.proofs.calendar.month_length.Reads as month-length-reads
 use Rattle.timestamp.proofs.in_range.Reads as in-range-reads
 
--- src/lib.rt:42:9
 in-range-requires : tie.Need-in-range-requires
 in-range-requires c κs = search needs
 
--- src/lib.rt:43:9
 returns : tie.Need-returns
 returns c = rw (sym (c .before .in-range .ensures) ∙ not-true _ (c .if1 .taken)) refl
 
--- src/lib.rt:45:9
 in-range-requires-2 : tie.Need-in-range-requires-2
 in-range-requires-2 c κs = search needs
 
--- src/lib.rt:46:9
 returns-2 : tie.Need-returns-2
 returns-2 c = rw (sym (c .before .before .before .in-range .ensures) ∙ not-false _ (c .before .before .if1 .left), sym (c .before .in-range2 .ensures) ∙ not-true _ (c .if2 .taken)) refl
 
--- src/lib.rt:48:22
-month-length-requires : tie.Need-month-length-requires
-month-length-requires c κs = isFrom-true 1 12 _ (sym (c .before .in-range2 .ensures) ∙ not-false _ (c .if2 .left))
-
--- src/lib.rt:48:5
 in-range-requires-3 : tie.Need-in-range-requires-3
 in-range-requires-3 c κs = search needs
 
--- src/lib.rt:39:1
 returns-3 : tie.Need-returns-3
-returns-3 c = rw (sym (c .before .before .before .before .before .in-range .ensures) ∙ not-false _ (c .before .before .before .before .if1 .left), sym (c .before .before .before .in-range2 .ensures) ∙ not-false _ (c .before .before .if2 .left), ← c .before .month-length .ensures) (c .in-range3 .ensures)
+returns-3 c = let m = sym (c .before .before .before .in-range2 .ensures) ∙ not-false _ (c .before .before .if2 .left) in rw (sym (c .before .before .before .before .before .in-range .ensures) ∙ not-false _ (c .before .before .before .before .if1 .left), m, first-days (c .before .before .before .before .before .before .args .year) (c .before .before .before .before .before .before .args .month) (c .before .before .before .before .before .before .args .day) m (sym (c .before .in-range3 .ensures) ∙ c .if3 .taken)) refl
+
+month-length-requires : tie.Need-month-length-requires
+month-length-requires c κs = isFrom-true 1 12 _ (sym (c .before .before .before .in-range2 .ensures) ∙ not-false _ (c .before .before .if2 .left))
+
+in-range-requires-4 : tie.Need-in-range-requires-4
+in-range-requires-4 c κs = search needs
+
+returns-4 : tie.Need-returns-4
+returns-4 c = rw (sym (c .before .before .before .before .before .before .before .in-range .ensures) ∙ not-false _ (c .before .before .before .before .before .before .if1 .left), sym (c .before .before .before .before .before .in-range2 .ensures) ∙ not-false _ (c .before .before .before .before .if2 .left), ← c .before .month-length .ensures, ← last-days (c .before .month-length .result) (c .before .before .before .before .before .before .before .before .args .day) (sym (c .before .before .before .in-range3 .ensures) ∙ c .before .before .if3 .left)) (c .in-range4 .ensures)
 
 pub is-date-spec : {M : Type 1} → statement M
 is-date-spec =
@@ -46,6 +46,8 @@ is-date-spec =
     returns
     in-range-requires-2
     returns-2
-    month-length-requires
     in-range-requires-3
-    returns-3)
+    returns-3
+    month-length-requires
+    in-range-requires-4
+    returns-4)
