@@ -25,9 +25,10 @@ static int month_length(int year, int month)
 /* The year of a day, from its count of days since 0000-01-01. */
 static int year_of(int days)
 {
-    int year = days / 366; /* no year is longer than that, so this one is not too late */
-    while (days >= days_before(year + 1))
-        year++;
+    /* 400 years have 146,097 days. Less a day, the quotient is never too late: it is the year or the one before. */
+    int year = 400 * (days - 1) / 146097;
+    if (days >= days_before(year + 1))
+        return year + 1;
     return year;
 }
 

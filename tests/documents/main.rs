@@ -1,5 +1,6 @@
 //! Holds README.md and docs/ against the tree: what they name in backquotes or by a link is there, and the lists that they keep of what the
-//! tree has leave nothing out. The edits, which documents name, are held to the code that they change. docs/TESTING.md says what is checked.
+//! tree has leave nothing out. The edits, which documents name, are held to the code that they change, and the code of dates to having no
+//! step for each year. docs/TESTING.md says what is checked.
 //! Run in the top folder of the repository; docs/CHANGES.md, the history, is held to its links alone.
 
 use std::collections::{BTreeMap, BTreeSet};
@@ -34,6 +35,10 @@ const RULES: &str = "docs/RULES.md";
 const DECISIONS: &str = "docs/DECISIONS.md";
 const ARCHITECTURE: &str = "docs/ARCHITECTURE.md";
 
+/// The code of dates, in files and folders, and the loops that it may have, by file and function: at most five parts follow a year.
+const DATES: [&str; 2] = ["crates/timestamp/src/", "crates/printing/src/date.rt"];
+const LOOPS: [(&str, &str); 1] = [("crates/timestamp/src/form.rt", "read_parts")];
+
 fn main() {
     let tree = Tree::read();
     let mut findings = Findings::default();
@@ -56,6 +61,7 @@ fn main() {
     check_specs(&tree, &documents[ARCHITECTURE], &mut findings);
     check_counts(&tree, &documents, &mut findings);
     check_asks_nothing(&tree, &mut findings);
+    check_steps(&tree, &mut findings);
     for finding in &findings.0 {
         println!("{finding}");
     }
@@ -238,6 +244,24 @@ fn check_counts(tree: &Tree, documents: &BTreeMap<&str, Document>, findings: &mu
 fn check_asks_nothing(tree: &Tree, findings: &mut Findings) {
     for name in tree.exported.keys().filter(|name| tree.asking.contains(*name)) {
         findings.add(PROVED, format!("the exported function `{name}` has a `requires`"));
+    }
+}
+
+/// The code of dates takes no step for each year: it has no loop but those of the list, each once, and no function that calls itself, by way
+/// of others or not. Such functions have one proof together, in a folder named by a `+` before each of them.
+fn check_steps(tree: &Tree, findings: &mut Findings) {
+    let mut allowed = LOOPS.to_vec();
+    for (file, function) in tree.loops.iter().filter(|(file, _)| DATES.iter().any(|d| file.starts_with(d))) {
+        match allowed.iter().position(|place| *place == (file.as_str(), function.as_str())) {
+            Some(i) => {
+                allowed.remove(i);
+            }
+            None => findings.add(file, format!("a loop in `{function}`, where request A3 asks for none")),
+        }
+    }
+    let cycles = tree.files.iter().filter(|f| f.contains("/proofs/") && f.contains("/+"));
+    for file in cycles.filter(|f| f.starts_with("crates/timestamp/") || f.starts_with("crates/printing/") && f.contains("date")) {
+        findings.add(file, "a function that calls itself, where request A3 asks for none".to_string());
     }
 }
 

@@ -14,6 +14,8 @@ pub struct Tree {
     pub exported: BTreeMap<String, String>,
     /// the functions that C can call and that have a `requires`
     pub asking: BTreeSet<String>,
+    /// the loops of the code, each by its file and its function's name
+    pub loops: Vec<(String, String)>,
     /// modules, those that are public, and what a module hands on: the path there, and where it stands
     modules: BTreeSet<String>,
     open: BTreeSet<String>,
@@ -89,7 +91,9 @@ impl Tree {
                     self.libraries.insert(krate.to_string());
                 }
                 let library = self.files.contains(&format!("crates/{krate}/src/lib.rt"));
-                self.read_code(&module_of(krate, &parts[3..]), library, &text_of(file));
+                let text = text_of(file);
+                self.read_code(&module_of(krate, &parts[3..]), library, &text);
+                self.loops.extend(loops(&text).into_iter().map(|function| (file.to_string(), function)));
             }
             ["crates", _, "specs" | "proofs", ..] => {
                 self.defined.insert(file.to_string(), definitions(&text_of(file)));
@@ -254,6 +258,23 @@ fn module_of(krate: &str, path: &[&str]) -> String {
         module = format!("{module}::{part}");
     }
     module
+}
+
+/// The loops of a file of code, comments aside: for each the name of the function that it stands in.
+fn loops(text: &str) -> Vec<String> {
+    let mut all = Vec::new();
+    let (mut function, mut before) = ("", "");
+    let code = text.lines().map(|line| line.split("//").next().unwrap());
+    for word in code.flat_map(|line| line.split(|c: char| !c.is_alphanumeric() && c != '_')).filter(|w| !w.is_empty()) {
+        if before == "fn" {
+            function = word;
+        }
+        if ["while", "loop", "for"].contains(&word) {
+            all.push(function.to_string());
+        }
+        before = word;
+    }
+    all
 }
 
 /// What a file of definitions or laws defines: a name before `:` or after `record` or `data`. What stands further in than a record or a
