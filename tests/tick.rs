@@ -13,6 +13,10 @@ const OFFSET: u64 = 1;
 const TOO_LONG: u64 = 2;
 const VALUE: u64 = 7;
 
+/// How many ticks a day has, and a minute.
+const DAY: i64 = 864_000_000;
+const MINUTE: i64 = 600_000;
+
 /// The longest text that is made, in bytes.
 const LONGEST: usize = MOST_BYTES + 8;
 
@@ -278,6 +282,14 @@ impl Trial {
         }
     }
 
+    /// Tries a text where it stands.
+    fn ask(&mut self, case: Case) {
+        self.counts.texts += 1;
+        let mut lent = case.before;
+        let answer = tick(case.text, case.offset, &mut lent);
+        self.compare(case, answer, lent);
+    }
+
     /// Tries a text between guards, with numbers on both sides of the lent one.
     fn guard(&mut self, case: Case, shift: usize, guard: u8) {
         self.guarded.place(case.text, shift, guard);
@@ -452,7 +464,8 @@ fn made_texts(options: &Options, calendar: &Calendar) -> Counts {
 }
 
 /// Every day of years 1 to 9999, alone and with a time and a written offset, and every date beside them: year 0, months 0 and 13, and
-/// days from 0 to 32 that a month does not have. What is due goes by a day that is moved on one by one.
+/// days from 0 to 32 that a month does not have, alone and with a time up to each of its units. What is due goes by a day that is moved
+/// on one by one.
 fn every_day() -> Counts {
     let mut random = Random::new(1);
     let mut trial = Trial::new();
@@ -464,11 +477,16 @@ fn every_day() -> Counts {
             let shift = random.below(64);
             let date = format!("{year:04}{month:02}{number:02}");
             if (day.year, day.month, day.day) != (year, month, number) {
-                trial.guard(Case { text: date.as_bytes(), offset, before, due: Due::Refused(VALUE) }, shift, b'0');
+                let text = format!("{date}235959.9999+1400");
+                let case = |end: usize| Case { text: &text.as_bytes()[..end], offset, before, due: Due::Refused(VALUE) };
+                trial.guard(case(8), shift, b'0');
+                for end in [10, 12, 14, 16, 17, 18, 19, 24] {
+                    trial.ask(case(end));
+                }
                 continue;
             }
-            let start = day.before * 864_000_000;
-            let due = Due::At { tick: start - offset * 600_000, precision: 8 };
+            let start = day.before * DAY;
+            let due = Due::At { tick: start - offset * MINUTE, precision: 8 };
             trial.guard(Case { text: date.as_bytes(), offset, before, due }, shift, b'0');
 
             let [_, _, hour, minute, second] = parts(&mut random, year);
@@ -478,7 +496,7 @@ fn every_day() -> Counts {
             let sign = if east { '+' } else { '-' };
             let text = format!("{date}{hour:02}{minute:02}{second:02}.{fraction:04}{sign}{hours:02}{minutes:02}");
             let clock = ((hour * 60 + minute) * 60 + second) * 10_000 + fraction;
-            let due = Due::At { tick: start + clock as i64 - offset * 600_000, precision: 18 };
+            let due = Due::At { tick: start + clock as i64 - offset * MINUTE, precision: 18 };
             trial.guard(Case { text: text.as_bytes(), offset: -offset, before, due }, shift, b'0');
             day = day.next();
         }
@@ -490,7 +508,7 @@ fn every_day() -> Counts {
     trial.counts
 }
 
-/// Every clock of six digits, fraction, written offset and agreed offset, each by itself.
+/// Every year, month, date of four digits, clock, fraction, written offset and agreed offset, each by itself, whether or not it may be.
 fn every_part(calendar: &Calendar) -> Counts {
     let mut random = Random::new(2);
     let mut trial = Trial::new();
@@ -498,24 +516,179 @@ fn every_part(calendar: &Calendar) -> Counts {
         let case = Case { text: text.as_bytes(), offset, before: random.next() as i64, due: due(text.as_bytes(), offset, calendar) };
         trial.guard(case, random.below(64), b'0');
     };
-    for clock in 0..1_000_000 {
-        attempt(format!("20240229{clock:06}"), 0);
-    }
-    for width in 1..=5 {
-        for fraction in 0..10_usize.pow(width as u32) {
-            attempt(format!("20240229235959.{fraction:0width$}"), 0);
-        }
-    }
-    for sign in ['+', '-'] {
-        for width in 1..=5 {
-            for zone in 0..10_usize.pow(width as u32) {
-                attempt(format!("2024022923{sign}{zone:0width$}"), 60);
-            }
-        }
-    }
     for offset in -2_000..=2_000 {
         attempt("20240229".to_string(), offset);
         attempt("2024022923+01".to_string(), offset);
+    }
+    // All numbers of so many digits, between two texts.
+    let mut each = |before: &str, width: usize, after: &str| {
+        for number in 0..10_usize.pow(width as u32) {
+            attempt(format!("{before}{number:0width$}{after}"), 60);
+        }
+    };
+    each("", 4, "");
+    each("", 6, "");
+    for year in ["1900", "2000", "2023", "2024"] {
+        each(year, 4, "");
+        each(year, 4, "235959");
+    }
+    for width in [2, 4, 6] {
+        each("20240229", width, "");
+    }
+    each("20240229", 6, ".9999-1400");
+    for width in 1..=5 {
+        each("20240229235959.", width, "");
+        for before in ["2024022923", "202402292359", "20240229235959", "20240229235959.9999"] {
+            each(&format!("{before}+"), width, "");
+            each(&format!("{before}-"), width, "");
+        }
+    }
+    trial.counts
+}
+
+/// Writes a number in as many digits as there is room for.
+fn put(digits: &mut [u8], mut number: usize) {
+    for digit in digits.iter_mut().rev() {
+        *digit = b'0' + (number % 10) as u8;
+        number /= 10;
+    }
+}
+
+/// A time of a day as `YYYYMMDDhhmmss.ffff`, and where that may end, with the tick that it then has at offset 0.
+struct Moment {
+    text: [u8; 19],
+    ends: [(usize, i64); 10],
+}
+
+impl Moment {
+    /// The time is the ticks since the day began.
+    fn new(day: Day, time: i64, calendar: &Calendar) -> Moment {
+        let mut text = *b"YYYYMMDDhhmmss.ffff";
+        let (second, fraction) = (time as usize / 10_000, time as usize % 10_000);
+        put(&mut text[..8], day.year * 10_000 + day.month * 100 + day.day);
+        put(&mut text[8..14], second / 3_600 * 10_000 + second / 60 % 60 * 100 + second % 60);
+        put(&mut text[15..], fraction);
+
+        let first_of = |month: usize| calendar.days_before(day.year as i64, month as i64, 1).unwrap() * DAY;
+        let start = day.before * DAY;
+        // What is left of the time in whole units of so many ticks.
+        let to = |unit: i64| start + time - time % unit;
+        let ends = [
+            (4, first_of(1)),
+            (6, first_of(day.month)),
+            (8, start),
+            (10, to(60 * MINUTE)),
+            (12, to(MINUTE)),
+            (14, to(10_000)),
+            (16, to(1_000)),
+            (17, to(100)),
+            (18, to(10)),
+            (19, to(1)),
+        ];
+        Moment { text, ends }
+    }
+}
+
+/// A written offset: `+hhmm`, `-hhmm`, `+hh` or `-hh`, by the number of its form.
+struct Zone {
+    text: [u8; 5],
+    length: usize,
+    minutes: i64,
+}
+
+impl Zone {
+    fn new(form: usize, minutes: usize) -> Zone {
+        let mut text = if form % 2 == 0 { *b"+hhmm" } else { *b"-hhmm" };
+        put(&mut text[1..], minutes / 60 * 100 + minutes % 60);
+        let (length, minutes) = if form < 2 { (5, minutes as i64) } else { (3, minutes as i64 / 60 * 60) };
+        Zone { text, length, minutes: if form % 2 == 0 { minutes } else { -minutes } }
+    }
+}
+
+/// Tries a moment up to each of its ends, with no offset, and with this one where one may be written. What follows a text with no offset
+/// in memory would go on with it.
+fn each_end(trial: &mut Trial, moment: &Moment, agreed: i64, zone: &Zone, before: i64) {
+    for (end, tick) in moment.ends {
+        let at = |offset: i64| Due::At { tick: tick - offset * MINUTE, precision: (end - usize::from(end > 14)) as u64 };
+        trial.ask(Case { text: &moment.text[..end], offset: agreed, before, due: at(agreed) });
+        if end >= 10 {
+            let mut text = [b'0'; 24];
+            text[..end].copy_from_slice(&moment.text[..end]);
+            text[end..end + 5].copy_from_slice(&zone.text);
+            trial.ask(Case { text: &text[..end + zone.length], offset: agreed, before, due: at(zone.minutes) });
+        }
+    }
+}
+
+/// Every day of years 1 to 9999 at every precision. The steps of the time from day to day have no factor in common with the seconds of a
+/// day, nor with the fractions of a second, so that all of these occur; and the written offset comes by all that there are, in each form.
+/// The first and the last day of a year are tried at their first and last ticks too, with the offsets that are farthest. What is due goes
+/// by a day that is moved on one by one.
+fn every_precision(calendar: &Calendar) -> Counts {
+    const AGREED: [i64; 3] = [-840, 0, 840];
+    let mut random = Random::new(3);
+    let mut trial = Trial::new();
+    let mut day = FIRST_DAY;
+    while day.year <= 9999 {
+        let count = day.before;
+        let time = count * 52_667 % 86_400 * 10_000 + count * 3_819 % 10_000;
+        let zone = Zone::new(count as usize % 4, count as usize * 271 % 841);
+        each_end(&mut trial, &Moment::new(day, time, calendar), random.one_of(&AGREED), &zone, random.next() as i64);
+        if [(1, 1), (12, 31)].contains(&(day.month, day.day)) {
+            for (time, agreed) in [0, DAY - 1].into_iter().flat_map(|time| AGREED.map(|agreed| (time, agreed))) {
+                let moment = Moment::new(day, time, calendar);
+                for form in 0..4 {
+                    each_end(&mut trial, &moment, agreed, &Zone::new(form, 840), random.next() as i64);
+                }
+            }
+        }
+        day = day.next();
+    }
+    trial.counts
+}
+
+/// Texts that are a byte away from timestamps and from what begins one: each byte replaced by every other. And in texts of eight and of
+/// fourteen digits, and in a longest one, two neighbours replaced by every two bytes, and three by bytes about those that mean something:
+/// a reader that takes several bytes at a time must keep them apart.
+fn near_texts(calendar: &Calendar) -> Counts {
+    // Digits, which go on after the fourteenth, and longest timestamps.
+    const LONG: [&[u8]; 7] = [
+        b"202402291201010101010101",
+        b"000101010000000000000000",
+        b"999912312359595959595959",
+        b"190003011111111111111111",
+        b"20240229235959.9999+1400",
+        b"00010101000000.0000-0000",
+        b"20000229090909.0909-0959",
+    ];
+    const ABOUT: [u8; 16] = [0, 1, b'*', b'+', b'-', b'.', b'/', b'0', b'9', b':', b'@', 0x7F, 0x80, 0xB0, 0xBA, 0xFF];
+    let all: Vec<u8> = (0..=255).collect();
+    let mut random = Random::new(4);
+    let mut trial = Trial::new();
+    // Replaces so many neighbours, at every place, by all there are of some bytes.
+    let mut replace = |text: &[u8], width: usize, by: &[u8]| {
+        let mut changed = text.to_vec();
+        for at in 0..=text.len() - width {
+            for mut choice in 0..by.len().pow(width as u32) {
+                for byte in &mut changed[at..at + width] {
+                    *byte = by[choice % by.len()];
+                    choice /= by.len();
+                }
+                let offset = random.one_of(&[-840, 0, 60]);
+                let case = Case { text: &changed, offset, before: random.next() as i64, due: due(&changed, offset, calendar) };
+                trial.guard(case, random.below(64), random.one_of(&GUARDS));
+            }
+            changed.copy_from_slice(text);
+        }
+    };
+    for text in LONG {
+        for length in 1..=text.len() {
+            replace(&text[..length], 1, &all);
+        }
+    }
+    for text in [&LONG[0][..8], &LONG[0][..14], &LONG[1][..14], &LONG[2][..14], LONG[4]] {
+        replace(text, 2, &all);
+        replace(text, 3, &ABOUT);
     }
     trial.counts
 }
@@ -539,9 +712,13 @@ pub fn run(options: &Options) -> bool {
     if !options.only_made {
         let days = every_day();
         days.print("every day of years 1 to 9999, alone and with a time, and dates that there are not");
+        let precisions = every_precision(&calendar);
+        precisions.print("every day of years 1 to 9999 at every precision, with a written offset and without");
         let parts = every_part(&calendar);
-        parts.print("every clock, fraction, written offset and agreed offset about the limits");
-        alike &= days.differences == 0 && parts.differences == 0;
+        parts.print("every month, clock, fraction, written offset and agreed offset, each by itself, those that may not be too");
+        let near = near_texts(&calendar);
+        near.print("texts with a byte replaced by every other, and with two and three neighbours replaced");
+        alike &= [days, precisions, parts, near].iter().all(|counts| counts.differences == 0);
     }
     alike
 }

@@ -22,11 +22,13 @@ const PRINT: u8 = 5;
 /// What parts two records in an input.
 const PART: u8 = 0xFF;
 
-/// Timestamps of each precision, with an offset and without, and texts that are none.
-const TIMESTAMPS: [&str; 18] = [
-    "0001", "9999", "202405", "19700101", "20000229", "19000229", "2024050112", "2024050112+01", "202405011230-0130", "20240501093000",
-    "20240501093000.25+0530", "20000101000000.0001+0000", "99991231235959.9999", "0001010100+14", "2024050112Z", "20240501+01",
-    "20240501093000.", "",
+/// Timestamps of each precision, with an offset and without, and texts that are none: some are a byte away from one.
+const TIMESTAMPS: [&[u8]; 30] = [
+    b"0001", b"9999", b"202405", b"19700101", b"20000229", b"19000229", b"2024050112", b"2024050112+01", b"2024050112-0130",
+    b"202405011230", b"202405011230-0130", b"202405011230+14", b"20240501093000", b"20240501093000+0100", b"20240501093000-05",
+    b"20240501093000.5", b"20240501093000.25+0530", b"20240501093000.125-11", b"20000101000000.0001+0000", b"99991231235959.9999",
+    b"0001010100+14", b"2024050112Z", b"20240501+01", b"20240501093000.", b"2024050109300:", b"2024050/093000", b"2024050/:93000",
+    b"2024\xB0501093000", b"2024050109300", b"",
 ];
 
 struct Writer {
@@ -85,8 +87,8 @@ impl Writer {
             }
         }
         for text in TIMESTAMPS {
-            self.write(TICK, 0, 0, text.as_bytes());
-            self.write(TICK, -840, 0, text.as_bytes());
+            self.write(TICK, 0, 0, text);
+            self.write(TICK, -840, 0, text);
         }
     }
 }
