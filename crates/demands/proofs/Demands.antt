@@ -32,7 +32,7 @@ use Rattle.demands.specs.Services.{services, resultIn, isAmong, Answers,
 use Rattle.demands.specs.Demands.{recordRefusals, listRefusals, IsFirst, timeFaults, cutFaults, IsCut, Demand2, Demands}
 use Rattle.demands.proofs.Answers.{packed-refused, packed-accepted, packed-answers}
 use Rattle.demands.proofs.Printing.{print-answers, print-promise}
-use Rattle.demands.proofs.Years.{no-answer-changes}
+use Rattle.demands.proofs.Years.{years-kept}
 
 iff-trans : {A B C : Type 0} → (A ↔ B) → (B ↔ C) → A ↔ C
 iff-trans f g = (λ a. g .0 (f .0 a), λ c. f .1 (g .1 c))
@@ -210,5 +210,5 @@ demands-met = record {
   two = met-2;
   three = record { read-back = signed-eight; listing-promise = listing-promise };
   print = print-promise;
-  years = no-answer-changes services met-2;
+  years = years-kept services met-2;
 }

@@ -179,8 +179,8 @@ module _ {s t : Services} (p : Demands s) (q : Demands t) where
         | fitting w l ↦ same-printed (p .print .printed list record′ w l) (q .print .printed list record′ w l)
       ]
 
-  same : Same s t
-  same = record {
+  pub demands-agree : Same s t
+  demands-agree = record {
     same-check = same-check;
     same-compare = same-compare;
     same-list = λ offset input list. same-list offset input list .0;
@@ -193,4 +193,4 @@ module _ {s t : Services} (p : Demands s) (q : Demands t) where
   }
 
 pub demands-determine : (s : Services) → Demands s → Same s services
-demands-determine s p = same p demands-met
+demands-determine s p = demands-agree p demands-met

@@ -3,4 +3,5 @@ pub mod Printing
 pub mod Years
 pub mod Demands
 pub mod Determined
+pub mod Unchanged
 pub mod Impostors

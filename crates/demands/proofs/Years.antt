@@ -1,33 +1,54 @@
--- Request A3 changes no answer: whatever meets demand 2 meets it too.
-use Prim.Native.Nat.{ℕ, suc, _+_, _*_, _/_, _≤_, _<_}
-use mathlib.Core.Path.{_≡_, sym, _∙_, ap}
-use mathlib.Core.Bool.{true}
-use mathlib.Core.List.{List, append-assoc}
+-- Whatever meets demand 2 keeps request A3's promise.
+use Prim.Native.Nat.{ℕ, zero, suc, _+_, _-_, _*_, _/_, _^_, _≤_, _<_}
+use mathlib.Core.Path.{_≡_, refl, _∙_, ap}
+use mathlib.Core.Bool.{false}
+use mathlib.Core.List.{[], append-assoc}
 use native.Mathlib.Omega.{arith}
-use borrow.Author.Tests.{ltb-true}
-use lib.ListN.{take}
+use borrow.Author.Tests.{le-ltb}
+use lib.Dec.{ltb}
+use lib.ListN.{length, take}
 use lib.Seq.{take-at}
-use lib.IntN.{ℤ, pos, subℕ}
-use Rattle.rules.specs.Basics.{digitsOf}
-use Rattle.rules.specs.Calendar.{daysOfYears, daysBeforeYear, daysByDivision, minute, day}
-use Rattle.rules.specs.Timestamp.{Written, shiftOf, beforeStart, startOf}
-use Rattle.rules.specs.Check.{shiftBy}
-use Rattle.rules.specs.Dates.{yearsEnd, yearAt, dateText, timestampText}
-use Rattle.rules.specs.Printing.{isWritableTick}
-use Rattle.rules.specs.ListingPromise.{numberIn}
+use lib.IntN.{ℤ, pos}
+use Rattle.rules.specs.Basics.{decimalFrom, digitsOf}
+use Rattle.rules.specs.Calendar.{yearLength, daysOfYears, daysOfMonths, daysBeforeYear, daysByDivision, minute, day}
+use Rattle.rules.specs.Timestamp.{noZone, Written, shiftOf, beforeStart, startOf, unitLength, momentOf}
+use Rattle.rules.specs.Dates.{yearAt, dateText, timestampText}
 use Rattle.rules.proofs.Digits.{digitsOf-length}
 use Rattle.rules.proofs.Calendar.{days-by-division, months-in-year, month-ends}
-use Rattle.rules.proofs.Ticks.{read-answered}
-use Rattle.rules.proofs.Dates.{years-end, IsDateOf, date-of}
+use Rattle.rules.proofs.Dates.{IsDateOf, date-of, year-alone}
 use Rattle.demands.specs.Services.{Services}
-use Rattle.demands.specs.Years.{ticksInYear, TickByDivision, IsYearOf, YearsPromise}
+use Rattle.demands.specs.Years.{ticksInYear, IsYearOf, YearsPromise}
 use Rattle.demands.specs.Demands.{timeFaults, Demand2}
-use Rattle.demands.proofs.Answers.{faultless-read, no-number}
+
+-- a year's length for each step
+one-by-one : (y : ℕ) → 1 ≤ y → daysBeforeYear (suc y) ≡ daysBeforeYear y + yearLength y
+unfolding daysOfYears
+one-by-one zero h = absurd (omega arith)
+one-by-one (suc y) h =
+    let z : suc y - 1 ≡ y = omega arith in
+    let w : suc (suc y) - 1 ≡ suc y = omega arith in
+    rw (w, z)
+
+none-before : daysBeforeYear 1 ≡ 0
+unfolding daysOfYears
+none-before = refl
 
 -- the start of what is written, its year begun where division says
-start-by-division : (shift : ℕ) (w : Written) → startOf shift w ≡ daysByDivision (w .year) * day + ticksInYear w + shiftOf shift (w .zone) * minute
+starts : (shift : ℕ) (w : Written) → startOf shift w ≡ daysByDivision (w .year) * day + ticksInYear w + shiftOf shift (w .zone) * minute
 unfolding startOf
-start-by-division shift w = omega (arith, days-by-division (w .year))
+starts shift w = omega (arith, days-by-division (w .year))
+
+-- a year written alone, from its start to the next one's
+abbrev alone : ℕ → Written
+alone y = record { year = y; parts = []; fraction = []; zone = noZone }
+
+year-starts : (shift y : ℕ) → startOf shift (alone y) ≡ daysByDivision y * day + shift * minute
+unfolding daysOfMonths decimalFrom
+year-starts shift y = starts shift (alone y) ∙ omega arith
+
+year-ends : (shift y : ℕ) → 1 ≤ y → momentOf shift (alone y) .next ≡ daysByDivision (suc y) * day + shift * minute
+unfolding unitLength
+year-ends shift y h = omega (arith, year-starts shift y, days-by-division y, days-by-division (suc y), one-by-one y h)
 
 -- a tick lies from the start of day a up to that of day b where its day does
 within-days : (a b t : ℕ) → a ≤ t / day → t / day < b → (a * day ≤ t) × (t < b * day)
@@ -48,20 +69,28 @@ year-first : (t : ℕ) → take 4 (timestampText (pos t)) ≡ digitsOf 4 (yearAt
 unfolding dateText
 year-first t = let y = yearAt (t / day) .unit in simp append-assoc (take-at (digitsOf 4 y) _ 4 (digitsOf-length 4 y))
 
-year-printed : (t : ℕ) → isWritableTick (pos t) ≡ true → (y : ℕ) × IsYearOf y t × (take 4 (timestampText (pos t)) ≡ digitsOf 4 y)
-year-printed t h =
-    let q = date-of (t / day) (omega (arith, years-end, ltb-true t yearsEnd h)) in
-    (yearAt (t / day) .unit, year-of t _ _ _ q, year-first t)
+printed-years : (t : ℕ) → t < daysByDivision 10_000 * day → (y : ℕ) × IsYearOf y t × (take 4 (timestampText (pos t)) ≡ digitsOf 4 y)
+printed-years t h = let q = date-of (t / day) (omega arith) in (yearAt (t / day) .unit, year-of t _ _ _ q, year-first t)
 
--- what is read has no fault, and its tick is that of what is written
-tick-by-division : (s : Services) → Demand2 s → (offset before : ℤ) (text : List ℕ) → numberIn (s .tick-says offset text) ≡ 0
-    → TickByDivision offset text (s .tick-leaves offset text before)
-tick-by-division s p offset before text e =
-    let f = no-number (timeFaults offset text) _ (p .time-refused offset text) e in
-    let (m, r) = faultless-read offset text f in
-    let (w, g, h, i) = read-answered (shiftBy offset) text m .0 r in
-    let start : m .start ≡ _ = ap (λ n. n .start) (sym i) ∙ start-by-division (shiftBy offset) w in
-    record { written = w; reads = g; counts = p .time offset text before m r f .2 ∙ ap (λ n. subℕ n beforeStart) start }
+-- it is read without fault, and its tick is that of its start
+module _ (s : Services) (p : Demand2 s) (y : ℕ) (l : 1 ≤ y) (h : y ≤ 9999) where
+  faultless : timeFaults (pos 0) (digitsOf 4 y) ≡ []
+  faultless = rw (year-alone 840 y l h, le-ltb 16_384 (length (digitsOf 4 y)) (omega (arith, digitsOf-length 4 y)))
 
-pub no-answer-changes : (s : Services) → Demand2 s → YearsPromise s
-no-answer-changes s p = record { ticks = tick-by-division s p; years = year-printed; added-up = λ y l h. days-by-division y }
+  year-ticks : (before : ℤ) → (s .tick-says (pos 0) (digitsOf 4 y) ≡ 4 * 2 ^ 8) × (s .tick-leaves (pos 0) (digitsOf 4 y) before ≡ pos (daysByDivision y * day))
+  year-ticks before =
+      let (n, r, t) = p .time (pos 0) (digitsOf 4 y) before _ (year-alone 840 y l h) faultless in
+      let e : ltb (startOf 840 (alone y)) beforeStart ≡ false = le-ltb (startOf 840 (alone y)) beforeStart (omega (arith, year-starts 840 y)) in
+      (omega (arith, n, r), t ∙ rw e (ap pos (omega (arith, year-starts 840 y))))
+
+pub years-kept : (s : Services) → Demand2 s → YearsPromise s
+years-kept s p = record {
+  divided = λ y. refl;
+  starts = starts;
+  year-ends = year-ends;
+  printed-years = printed-years;
+  year-ticks = year-ticks s p;
+  none-before = none-before;
+  one-by-one = λ y l h. one-by-one y l;
+  added-up = λ y l h. days-by-division y;
+}

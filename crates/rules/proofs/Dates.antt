@@ -1,8 +1,8 @@
--- A timestamp written of a tick is read as that tick.
+-- A timestamp written of a tick is read as that tick, and a year written alone as that year.
 use Prim.Native.Nat.{ℕ, zero, suc, _+_, _-_, _*_, _/_, _%_, _^_, _≤_, _<_}
 use mathlib.Core.Path.{_≡_, refl, sym, _∙_, ap}
 use mathlib.Core.Bool.{Bool, true, false, cond}
-use mathlib.Core.List.{List, [], _∷_, _++_, append-assoc}
+use mathlib.Core.List.{List, [], _∷_, _++_, append-assoc, append-nil}
 use mathlib.Core.Option.{some}
 use native.Mathlib.Nat.{add-zero, mul-one, div-div-eq-div-mul}
 use native.Mathlib.Omega.{arith}
@@ -13,9 +13,9 @@ use lib.ListN.{getD}
 use lib.IntN.{pos}
 use Rattle.rules.specs.Basics.{every, bytes, isDigit, decimalFrom, digitsOf}
 use Rattle.rules.specs.Refusal.{answered}
-use Rattle.rules.specs.Parsers.{ok, one, times, upTo, finish, whole}
+use Rattle.rules.specs.Parsers.{bad, ok, one, times, upTo, finish, whole}
 use Rattle.rules.specs.Calendar.{isLeap, yearLength, monthLengths, monthLength, daysOfYears, daysOfMonths, daysBefore, second, minute, hour, day}
-use Rattle.rules.specs.Timestamp.{plus, Written, digits, twoDigits, point, hours, zone, timestamp, writtenFaults, beforeStart, startOf, unitLength, momentOf, readTimestamp}
+use Rattle.rules.specs.Timestamp.{noZone, plus, Written, digits, twoDigits, point, hours, zone, timestamp, writtenFaults, beforeStart, startOf, unitLength, momentOf, readTimestamp}
 use Rattle.rules.specs.Dates.{Reached, reached, yearsEnd, yearAt, monthAt, dateText, clockText, timestampText}
 use Rattle.rules.proofs.Tests.{every-true}
 use Rattle.rules.proofs.Beginnings.{times-read}
@@ -121,6 +121,10 @@ digits-read n k r h =
     let t : times n isDigit (digitsOf n k ++ r) ≡ ok (digitsOf n k) r = rw (digitsOf-length n k) at (times-read isDigit (digitsOf n k) r (digitsOf-digits n k)) in
     rw (t, digitsOf-decimal n k h)
 
+nothing-read : digits 2 [] ≡ bad
+unfolding digits times one
+nothing-read = refl
+
 point-read : (k : ℕ) (r : List ℕ) → point (46 ∷ digitsOf 4 k ++ r) ≡ ok (digitsOf 4 k) r
 unfolding point digitsOf upTo one
 point-read k r = rw (is-digit (k / 10 / 10 / 10), is-digit (k / 10 / 10), is-digit (k / 10), is-digit k)
@@ -197,6 +201,23 @@ timestamp-of-tick shift t l =
       full-possible y m d h i s f q (omega arith) (omega arith) (omega arith),
       full-moment shift days y m d h i s f q (omega arith) ∙ rw e refl,
     ))
+
+-- a year written alone
+module _ (y : ℕ) where
+  abbrev alone : Written
+  alone = record { year = y; parts = []; fraction = []; zone = noZone }
+
+  alone-read : y ≤ 9999 → whole timestamp (digitsOf 4 y) ≡ some alone
+  unfolding timestamp twoDigits finish
+  alone-read h = rw (← append-nil (digitsOf 4 y), digits-read 4 y [] (omega arith), nothing-read)
+
+  alone-possible : 1 ≤ y → y ≤ 9999 → writtenFaults alone ≡ []
+  unfolding writtenFaults monthLength
+  alone-possible l h = rw (le-leb 1 y l, le-leb y 9999 h)
+
+pub year-alone : (shift y : ℕ) → 1 ≤ y → y ≤ 9999
+    → readTimestamp shift (digitsOf 4 y) ≡ answered (momentOf shift (record { year = y; parts = []; fraction = []; zone = noZone }))
+year-alone shift y l h = read-answered shift (digitsOf 4 y) _ .1 (alone y, alone-read y h, alone-possible y l h, refl)
 
 -- There is one date only of so many days, so whatever way finds a date of them finds this one.
 

@@ -31,8 +31,8 @@ daysOfMonths y (suc n) = daysOfMonths y n + monthLength y (suc n)
 abbrev pub daysBeforeYear : ℕ → ℕ
 daysBeforeYear y = daysOfYears (y - 1)
 
--- 02-change-requests.md, A3: the same by division. Of the years before, every fourth has a leap day, but every hundredth has none, and again
--- every four hundredth has one. The law `days-by-division` says that it is the same.
+-- 02-change-requests.md, A3: the same by division. A leap day for every fourth of the years before, less every hundredth, and again for
+-- every four hundredth; the subtraction never stops at 0. The law `days-by-division` says that it is the same.
 abbrev pub daysByDivision : ℕ → ℕ
 daysByDivision y = 365 * (y - 1) + (y - 1) / 4 + (y - 1) / 400 - (y - 1) / 100
 
