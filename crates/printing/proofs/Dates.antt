@@ -1,10 +1,10 @@
 -- The date of a day by division: the quotient is at most one year, or one month, too small.
 use Prim.Native.Nat.{ℕ, zero, suc, _+_, _-_, _*_, _/_, _≤_, _<_}
-use mathlib.Core.Path.{_≡_, ap}
+use mathlib.Core.Path.{_≡_, ap, subst}
 use mathlib.Core.Bool.{Bool, true, false, cond}
 use native.Mathlib.Omega.{arith}
-use Rattle.rules.specs.Calendar.{isLeap, yearLength, daysOfYears, daysOfMonths, daysBeforeYear}
-use Rattle.rules.proofs.Calendar.{days-of-years, days-before-year, days-of-years-most, months-make-year, month-ends}
+use Rattle.rules.specs.Calendar.{isLeap, yearLength, daysOfYears, daysOfMonths, daysBeforeYear, daysByDivision}
+use Rattle.rules.proofs.Calendar.{days-of-years, days-before-year, days-by-division, days-of-years-most, months-make-year, month-ends}
 use Rattle.rules.proofs.Dates.{month-most, IsDateOf, date-of, date-unique}
 use Rattle.printing.specs.Dates.{dateAt, InYear, InMonth}
 
@@ -12,19 +12,19 @@ module _ (days : ℕ) (h : days < 3_652_059) where
   abbrev years : ℕ
   years = 400 * days / 146_097
 
-  pub next-year : daysBeforeYear (years + 1 + 1) ≤ days → InYear days (years + 1 + 1)
+  pub next-year : daysByDivision (years + 1 + 1) ≤ days → InYear days (years + 1 + 1)
   next-year l = record {
     least = omega arith;
     most = omega (arith, days-before-year (years + 1 + 1));
-    from = l;
+    from = omega (arith, l, days-by-division (years + 1 + 1));
     until = omega (arith, days-of-years (years + 1 + 1));
   }
 
-  pub this-year : days < daysBeforeYear (years + 1 + 1) → InYear days (years + 1)
+  pub this-year : days < daysByDivision (years + 1 + 1) → InYear days (years + 1)
   this-year l =
       let z : years + 1 - 1 ≡ years = omega arith in
       let y : years + 1 + 1 - 1 ≡ years + 1 = omega arith in
-      record { least = omega arith; most = omega arith; from = rw z (omega (arith, days-of-years years)); until = rw y at l }
+      record { least = omega arith; most = omega arith; from = rw z (omega (arith, days-of-years years)); until = rw y at (subst (λ (n : ℕ). days < n) (days-by-division (years + 1 + 1)) l) }
 
 year-most : (y : ℕ) → (365 ≤ yearLength y) × (yearLength y ≤ 366)
 year-most y = go (isLeap y)
