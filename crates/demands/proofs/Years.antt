@@ -1,8 +1,9 @@
 -- Whatever meets demand 2 keeps request A3's promise.
 use Prim.Native.Nat.{ℕ, zero, suc, _+_, _-_, _*_, _/_, _^_, _≤_, _<_}
-use mathlib.Core.Path.{_≡_, refl, _∙_, ap}
+use mathlib.Core.Path.{_≡_, refl, sym, _∙_, ap}
 use mathlib.Core.Bool.{false}
-use mathlib.Core.List.{[], append-assoc}
+use mathlib.Core.List.{List, [], append-assoc}
+use mathlib.Core.Option.{some}
 use native.Mathlib.Omega.{arith}
 use borrow.Author.Tests.{le-ltb}
 use lib.Dec.{ltb}
@@ -11,10 +12,13 @@ use lib.Seq.{take-at}
 use lib.IntN.{ℤ, pos}
 use Rattle.rules.specs.Basics.{decimalFrom, digitsOf}
 use Rattle.rules.specs.Calendar.{yearLength, daysOfYears, daysOfMonths, daysBeforeYear, daysByDivision, minute, day}
-use Rattle.rules.specs.Timestamp.{noZone, Written, shiftOf, beforeStart, startOf, unitLength, momentOf}
+use Rattle.rules.specs.Timestamp.{noZone, Written, timestamp, shiftOf, beforeStart, startOf, unitLength, Moment, momentOf, readTimestamp}
+use Rattle.rules.specs.Refusal.{answered}
+use Rattle.rules.specs.Parsers.{whole}
 use Rattle.rules.specs.Dates.{yearAt, dateText, timestampText}
 use Rattle.rules.proofs.Digits.{digitsOf-length}
 use Rattle.rules.proofs.Calendar.{days-by-division, months-in-year, month-ends}
+use Rattle.rules.proofs.Ticks.{read-answered}
 use Rattle.rules.proofs.Dates.{IsDateOf, date-of, year-alone}
 use Rattle.demands.specs.Services.{Services}
 use Rattle.demands.specs.Years.{ticksInYear, IsYearOf, YearsPromise}
@@ -34,9 +38,13 @@ unfolding daysOfYears
 none-before = refl
 
 -- the start of what is written, its year begun where division says
-starts : (shift : ℕ) (w : Written) → startOf shift w ≡ daysByDivision (w .year) * day + ticksInYear w + shiftOf shift (w .zone) * minute
+start-of : (shift : ℕ) (w : Written) → startOf shift w ≡ daysByDivision (w .year) * day + ticksInYear w + shiftOf shift (w .zone) * minute
 unfolding startOf
-starts shift w = omega (arith, days-by-division (w .year))
+start-of shift w = omega (arith, days-by-division (w .year))
+
+starts : (shift : ℕ) (text : List ℕ) (m : Moment) → readTimestamp shift text ≡ answered m
+    → (w : Written) × (whole timestamp text ≡ some w) × (m .start ≡ daysByDivision (w .year) * day + ticksInYear w + shiftOf shift (w .zone) * minute)
+starts shift text m e = let (w, f, g, h) = read-answered shift text m .0 e in (w, f, ap (λ n. n .start) (sym h) ∙ start-of shift w)
 
 -- a year written alone, from its start to the next one's
 abbrev alone : ℕ → Written
@@ -44,11 +52,17 @@ alone y = record { year = y; parts = []; fraction = []; zone = noZone }
 
 year-starts : (shift y : ℕ) → startOf shift (alone y) ≡ daysByDivision y * day + shift * minute
 unfolding daysOfMonths decimalFrom
-year-starts shift y = starts shift (alone y) ∙ omega arith
+year-starts shift y = start-of shift (alone y) ∙ omega arith
 
-year-ends : (shift y : ℕ) → 1 ≤ y → momentOf shift (alone y) .next ≡ daysByDivision (suc y) * day + shift * minute
+next-of : (shift y : ℕ) → 1 ≤ y → momentOf shift (alone y) .next ≡ daysByDivision (suc y) * day + shift * minute
 unfolding unitLength
-year-ends shift y h = omega (arith, year-starts shift y, days-by-division y, days-by-division (suc y), one-by-one y h)
+next-of shift y h = omega (arith, year-starts shift y, days-by-division y, days-by-division (suc y), one-by-one y h)
+
+year-ends : (shift y : ℕ) (m : Moment) → 1 ≤ y → y ≤ 9999 → readTimestamp shift (digitsOf 4 y) ≡ answered m
+    → m .next ≡ daysByDivision (suc y) * day + shift * minute
+year-ends shift y m l h e =
+    let z : momentOf shift (alone y) ≡ m = cc (year-alone shift y l h, e) in
+    ap (λ n. n .next) (sym z) ∙ next-of shift y l
 
 -- a tick lies from the start of day a up to that of day b where its day does
 within-days : (a b t : ℕ) → a ≤ t / day → t / day < b → (a * day ≤ t) × (t < b * day)

@@ -24,7 +24,7 @@ fn year_of(days: u64) -> u64
     year
 }
 
-// The month of a day of a year, counted from 0: no month has over 31 days, and one more than the quotient is that month or the one before.
+// The month of a day of a year, the first day being 0: no month has over 31 days, and one more than the quotient is that month or the one before.
 fn month_of(year: u64, day: u64) -> u64
     requires { ⌜ day < yearLength year ⌝ }
     ensures { λ r. ⌜ InMonth year day r ⌝ }

@@ -1,4 +1,4 @@
--- Words of eight bytes, in the words of the rules.
+-- Eight bytes taken together as one number, in the words of the rules.
 use Prim.Native.Nat.{ℕ}
 use mathlib.Core.Path.{_≡_}
 use mathlib.Core.Bool.{true, false}

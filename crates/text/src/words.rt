@@ -28,8 +28,8 @@ pub enum Pairs {
     Not,
 }
 
-// Reads a word of eight bytes. A digit's byte is 48 and the digit, 48 being 0x30: what is left of it by exclusive or is 9 at most, which is
-// seen by four bits that stay zero even when 6 is added. Then each byte, ten times, and the next make a pair; no sum leaves its byte.
+// Reads a word of eight bytes. A byte is a digit exactly if exclusive or with 0x30 leaves 9 at most: then its upper four bits are zero, and
+// zero still when 6 is added. Ten times a byte and the next make a number below 100, so no sum leaves its byte; every second one is a pair.
 pub fn read_pairs(word: u64) -> Pairs
     ensures { λ r. ⌜ ((l : List ℕ) → AreEight l → word ≡ unsigned l → PairsOf l r) ⌝ }
 {

@@ -8,12 +8,12 @@ use lib.ListN.{length}
 use Rattle.rules.specs.Refusal.{VALUE, Outcome, answered, refused, rankIn, firstOf, _unless_, _when_}
 use Rattle.rules.specs.Parsers.{whole}
 use Rattle.rules.specs.Timestamp.{timestamp, Written as RulesWritten, isDate, isClock, isZone, writtenFaults, startOf, unitLength, Moment as RulesMoment, momentOf as rulesMoment, readTimestamp}
-use Rattle.timestamp.specs.Written.{FormOf, Writes, partsOf, zoneOf, fullWritten, FullOf}
+use Rattle.timestamp.specs.Written.{FormOf, Writes, partsOf, zoneOf, fourteenWritten, FourteenOf}
 use Rattle.timestamp.specs.Moments.{isDateOf, isClockOf, unitTicks, Possible, momentOf, momentWritten}
 use Rattle.timestamp.specs.declared.form.Parts.{Parts}
-use Rattle.timestamp.specs.declared.full.Numbers.{Numbers}
-use Rattle.timestamp.specs.declared.full.Full.{Full}
-use Rattle.timestamp.specs.declared.full.Full.the-variants.{Is as Full·Is}
+use Rattle.timestamp.specs.declared.fourteen.Numbers.{Numbers}
+use Rattle.timestamp.specs.declared.fourteen.Fourteen.{Fourteen}
+use Rattle.timestamp.specs.declared.fourteen.Fourteen.the-variants.{Are}
 use Rattle.timestamp.specs.declared.form.Form.{Form}
 use Rattle.timestamp.specs.declared.form.Form.the-variants.{Is, Bad}
 use Rattle.timestamp.specs.declared.form.Written.{Written}
@@ -22,8 +22,8 @@ use Rattle.timestamp.proofs.Ranges.{unit-is}
 pub found-form : (s : List ℕ) (r : Form) (c : Written) → FormOf s r → r ≡ Is c → FormOf s (Is c)
 found-form s r c h e = subst (FormOf s) e h
 
-pub found-full : (s : List ℕ) (r : Full) (n : Numbers) → FullOf s r → r ≡ Full·Is n → FormOf s (Is (fullWritten n))
-found-full s r n h e = subst (FullOf s) e h
+pub found-fourteen : (s : List ℕ) (r : Fourteen) (n : Numbers) → FourteenOf s r → r ≡ Are n → FormOf s (Is (fourteenWritten n))
+found-fourteen s r n h e = subst (FourteenOf s) e h
 
 -- a text of the wrong form
 pub wrong-form : (shift : ℕ) (s : List ℕ) (r : Form) → FormOf s r → r ≡ Bad → refused VALUE ≡ readTimestamp shift s

@@ -4,4 +4,4 @@ pub mod Parting
 pub mod Whole
 pub mod Ranges
 pub mod Answers
-pub mod Fourteen
+pub mod FourteenDigits

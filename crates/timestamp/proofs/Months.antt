@@ -35,7 +35,7 @@ in-months test e f leap m h l = rw (ne-eqb m 0 (λ z. omega arith)) at (go leap)
     go true = passed 13 (λ m. eqb m 0 || test true m) m e (omega arith)
     go false = passed 13 (λ m. eqb m 0 || test false m) m f (omega arith)
 
--- 31 and 30 in turn, and so once more from the eighth on
+-- 31 and 30 in turn, from August on beginning again with 31
 length-test : Bool → ℕ → Bool
 length-test leap m = eqb (cond (eqb m 2) (cond leap 29 28) (30 + (m + m / 8) % 2)) (getD (lengths leap) (m - 1) 0)
 

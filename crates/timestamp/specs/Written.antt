@@ -17,9 +17,9 @@ use Rattle.timestamp.specs.declared.form.Hours.{Hours}
 use Rattle.timestamp.specs.declared.form.Hours.the-variants.{Is, Nothing}
 use Rattle.timestamp.specs.declared.form.Zoned.{Zoned}
 use Rattle.timestamp.specs.declared.form.Written.{Written}
-use Rattle.timestamp.specs.declared.full.Numbers.{Numbers}
-use Rattle.timestamp.specs.declared.full.Full.{Full}
-use Rattle.timestamp.specs.declared.full.Full.the-variants.{Is as Full·Is, Not}
+use Rattle.timestamp.specs.declared.fourteen.Numbers.{Numbers}
+use Rattle.timestamp.specs.declared.fourteen.Fourteen.{Fourteen}
+use Rattle.timestamp.specs.declared.fourteen.Fourteen.the-variants.{Are, Not}
 use Rattle.timestamp.specs.declared.form.Form.{Form}
 use Rattle.timestamp.specs.declared.form.Form.the-variants.{Is as Form·Is, Bad}
 
@@ -86,14 +86,15 @@ FormOf s (Form·Is c) = (w : RulesWritten) × (whole timestamp s ≡ some w) × 
 FormOf s Bad = whole timestamp s ≡ none
 
 -- fourteen digits, as what is written
-abbrev pub fullWritten : Numbers → Written
-fullWritten n = record {
+abbrev pub fourteenWritten : Numbers → Written
+fourteenWritten n = record {
   year = n .year;
   parts = record { count = 5; month = n .month; day = n .day; hour = n .hour; minute = n .minute; second = n .second; end = 14 };
   fraction = record { value = 0; count = 0; end = 14 };
   zone = Agreed;
 }
 
-abbrev pub FullOf : List ℕ → Full → Type 0
-FullOf s (Full·Is n) = FormOf s (Form·Is (fullWritten n))
-FullOf s Not = length s ≡ 14 → every isDigit s ≡ false
+-- fourteen digits and nothing else, or another text
+abbrev pub FourteenOf : List ℕ → Fourteen → Type 0
+FourteenOf s (Are n) = FormOf s (Form·Is (fourteenWritten n))
+FourteenOf s Not = length s ≡ 14 → every isDigit s ≡ false

@@ -20,7 +20,7 @@ pub fn year_length(year: u64) -> u64
     if is_leap(year) { 366 } else { 365 }
 }
 
-// The days of a month, counted from 1: but for the second, 31 and 30 in turn, and so once more from the eighth on.
+// The days of a month, January being 1: 31 and 30 in turn, from August on beginning again with 31; February has 28 or 29.
 pub fn month_length(year: u64, month: u64) -> u64
     requires { ⌜ 1 ≤ month ⌝ ∗ ⌜ month ≤ 12 ⌝ }
     ensures { λ r. ⌜ r ≡ monthLength year month ⌝ }
@@ -43,7 +43,8 @@ pub fn days_before_month(year: u64, month: u64) -> u64
     if is_leap(year) { days - 1 } else { days - 2 }
 }
 
-// The days before a year, by division: a leap day for every fourth year, less every hundredth, and again for every four hundredth.
+// The days before a year, by division: a leap day for every fourth of the years before, less every hundredth, and again for every four
+// hundredth.
 pub fn days_before_year(year: u64) -> u64
     requires { ⌜ 1 ≤ year ⌝ ∗ ⌜ year ≤ 10_000 ⌝ }
     ensures { λ r. ⌜ r ≡ daysByDivision year ⌝ }
@@ -69,8 +70,8 @@ fn march_month(month: u64) -> u64
     if month <= 2 { month + 12 } else { month }
 }
 
-// The days before a date, counted from March on: then five months in a row have 153 days, and the leap day is the last. From a March to
-// the year's end there are 306 days.
+// The days before a date: those of the years up to that of the last March, less the 306 from that March to the year's end, and those since
+// that March began. So counted the leap day comes last, and five months in a row have 153 days. 307 is 306 and the date's own day.
 pub fn days_before(year: u64, month: u64, day: u64) -> u64
     requires { ⌜ InRange year month day ⌝ }
     ensures { λ r. ⌜ r ≡ daysBefore year month day ⌝ }

@@ -4,12 +4,12 @@ ghost use mathlib.Core.Bool.{true};
 ghost use Prim.Native.Nat.{_+_, _-_, _*_, _^_, _≤_, _<_};
 ghost use Rattle.rules.specs.Basics.{isFrom};
 ghost use Rattle.rules.specs.Timestamp.{isOffsetTime, isZone, shiftOf, readTimestamp};
-ghost use Rattle.timestamp.specs.Written.{zoneOf, SmallZone, fullWritten};
+ghost use Rattle.timestamp.specs.Written.{zoneOf, SmallZone, fourteenWritten};
 ghost use Rattle.timestamp.specs.Moments.{isDateOf, isClockOf, unitTicks, Possible, momentWritten, outcomeOf};
 
 pub mod calendar;
 mod form;
-mod full;
+mod fourteen;
 pub mod tick;
 
 use refusal::Refusal;
@@ -139,9 +139,9 @@ fn make_moment(w: form::Written, shift: u64) -> Moment
 }
 
 // The moment of fourteen digits.
-fn full_moment(n: full::Numbers, shift: u64) -> Moment
-    requires { ⌜ Possible shift (fullWritten n) ⌝ }
-    ensures { λ r. ⌜ r ≡ momentWritten shift (fullWritten n) ⌝ }
+fn fourteen_moment(n: fourteen::Numbers, shift: u64) -> Moment
+    requires { ⌜ Possible shift (fourteenWritten n) ⌝ }
+    ensures { λ r. ⌜ r ≡ momentWritten shift (fourteenWritten n) ⌝ }
 {
     let date = Tick::of_date(n.year, n.month, n.day);
     let clock = Tick::of_clock(n.hour, n.minute, n.second, 0);
@@ -159,14 +159,14 @@ pub fn read(text: &[u8], shift: u64) -> Timestamp
     requires { ⌜ shift ≤ 1680 ⌝ }
     ensures { λ r. ⌜ outcomeOf r ≡ readTimestamp shift (now (text .entry)) ⌝ }
 {
-    if let full::Full::Is(n) = full::read(text) {
+    if let fourteen::Fourteen::Are(n) = fourteen::read(text) {
         if !is_date(n.year, n.month, n.day) {
             return Timestamp::Refused(Refusal::Value);
         }
         if !is_clock(n.hour, n.minute, n.second) {
             return Timestamp::Refused(Refusal::Value);
         }
-        return Timestamp::At(full_moment(n, shift));
+        return Timestamp::At(fourteen_moment(n, shift));
     }
     let form::Form::Is(w) = form::read_form(text) else {
         return Timestamp::Refused(Refusal::Value);

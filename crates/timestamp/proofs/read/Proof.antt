@@ -1,5 +1,5 @@
 -- `timestamp::read` meets its contract, by a law for each way through it: of fourteen digits, and of any other text.
-use Rattle.timestamp.proofs.Answers.{found-form, found-full, wrong-form, impossible, moment-is, possible}
+use Rattle.timestamp.proofs.Answers.{found-form, found-fourteen, wrong-form, impossible, moment-is, possible}
 use Rattle.timestamp.specs.Moments.{momentOf}
 use Rattle.rules.specs.Refusal.{answered}
 use borrow.Author.Tests.{not-true, not-false}
@@ -11,8 +11,8 @@ use Rattle.timestamp.proofs.read.Tie as tie
 use Rattle.timestamp.proofs.read.Reads as reads
 use Rattle.timestamp.proofs.read.Lts as lts
 use Rattle.timestamp.proofs.form.read_form.Reads as read-form-reads
-use Rattle.timestamp.proofs.full.read.Reads as read-reads
-use Rattle.timestamp.proofs.full_moment.Reads as full-moment-reads
+use Rattle.timestamp.proofs.fourteen.read.Reads as read-reads
+use Rattle.timestamp.proofs.fourteen_moment.Reads as fourteen-moment-reads
 use Rattle.timestamp.proofs.is_clock.Reads as is-clock-reads
 use Rattle.timestamp.proofs.is_date.Reads as is-date-reads
 use Rattle.timestamp.proofs.is_zone.Reads as is-zone-reads
@@ -28,19 +28,19 @@ is-date-requires : tie.Need-is-date-requires
 is-date-requires c κs = search needs
 
 returns : tie.Need-returns
-returns c = impossible _ _ (found-full _ _ _ (c .before .before .before .before .before .read .ensures) (c .before .before .before .n .given .1)) (c .before .before .before .before .before .before .before .args .shift) false _ _ (sym (c .before .is-date .ensures) ∙ not-true _ (c .if1 .taken)) refl refl refl
+returns c = impossible _ _ (found-fourteen _ _ _ (c .before .before .before .before .before .read .ensures) (c .before .before .before .n .given .1)) (c .before .before .before .before .before .before .before .args .shift) false _ _ (sym (c .before .is-date .ensures) ∙ not-true _ (c .if1 .taken)) refl refl refl
 
 is-clock-requires : tie.Need-is-clock-requires
 is-clock-requires c κs = search needs
 
 returns-2 : tie.Need-returns-2
-returns-2 c = impossible _ _ (found-full _ _ _ (c .before .before .before .before .before .before .before .read .ensures) (c .before .before .before .before .before .n .given .1)) (c .before .before .before .before .before .before .before .before .before .args .shift) true false _ (sym (c .before .before .before .is-date .ensures) ∙ not-false _ (c .before .before .if1 .left)) (sym (c .before .is-clock .ensures) ∙ not-true _ (c .if2 .taken)) refl refl
+returns-2 c = impossible _ _ (found-fourteen _ _ _ (c .before .before .before .before .before .before .before .read .ensures) (c .before .before .before .before .before .n .given .1)) (c .before .before .before .before .before .before .before .before .before .args .shift) true false _ (sym (c .before .before .before .is-date .ensures) ∙ not-false _ (c .before .before .if1 .left)) (sym (c .before .is-clock .ensures) ∙ not-true _ (c .if2 .taken)) refl refl
 
-full-moment-requires : tie.Need-full-moment-requires
-full-moment-requires c κs = possible _ _ (found-full _ _ _ (c .before .before .before .before .before .before .before .read .ensures) (c .before .before .before .before .before .n .given .1)) (c .before .before .before .before .before .before .before .before .before .args .shift) (c .before .before .before .before .before .before .before .before .before .pre) (sym (c .before .before .before .is-date .ensures) ∙ not-false _ (c .before .before .if1 .left)) (sym (c .before .is-clock .ensures) ∙ not-false _ (c .if2 .left)) refl
+fourteen-moment-requires : tie.Need-fourteen-moment-requires
+fourteen-moment-requires c κs = possible _ _ (found-fourteen _ _ _ (c .before .before .before .before .before .before .before .read .ensures) (c .before .before .before .before .before .n .given .1)) (c .before .before .before .before .before .before .before .before .before .args .shift) (c .before .before .before .before .before .before .before .before .before .pre) (sym (c .before .before .before .is-date .ensures) ∙ not-false _ (c .before .before .if1 .left)) (sym (c .before .is-clock .ensures) ∙ not-false _ (c .if2 .left)) refl
 
 returns-3 : tie.Need-returns-3
-returns-3 c = ap (λ m. answered (momentOf m)) (c .full-moment .ensures) ∙ moment-is _ _ (found-full _ _ _ (c .before .before .before .before .before .before .before .before .read .ensures) (c .before .before .before .before .before .before .n .given .1)) (c .before .before .before .before .before .before .before .before .before .before .args .shift) (possible _ _ (found-full _ _ _ (c .before .before .before .before .before .before .before .before .read .ensures) (c .before .before .before .before .before .before .n .given .1)) (c .before .before .before .before .before .before .before .before .before .before .args .shift) (c .before .before .before .before .before .before .before .before .before .before .pre) (sym (c .before .before .before .before .is-date .ensures) ∙ not-false _ (c .before .before .before .if1 .left)) (sym (c .before .before .is-clock .ensures) ∙ not-false _ (c .before .if2 .left)) refl)
+returns-3 c = ap (λ m. answered (momentOf m)) (c .fourteen-moment .ensures) ∙ moment-is _ _ (found-fourteen _ _ _ (c .before .before .before .before .before .before .before .before .read .ensures) (c .before .before .before .before .before .before .n .given .1)) (c .before .before .before .before .before .before .before .before .before .before .args .shift) (possible _ _ (found-fourteen _ _ _ (c .before .before .before .before .before .before .before .before .read .ensures) (c .before .before .before .before .before .before .n .given .1)) (c .before .before .before .before .before .before .before .before .before .before .args .shift) (c .before .before .before .before .before .before .before .before .before .before .pre) (sym (c .before .before .before .before .is-date .ensures) ∙ not-false _ (c .before .before .before .if1 .left)) (sym (c .before .before .is-clock .ensures) ∙ not-false _ (c .before .if2 .left)) refl)
 
 enum-told : tie.Need-enum-told
 enum-told c = search needs
@@ -91,7 +91,7 @@ read-spec =
     returns
     is-clock-requires
     returns-2
-    full-moment-requires
+    fourteen-moment-requires
     returns-3
     enum-told
     read-form-requires

@@ -1,14 +1,14 @@
--- `timestamp::full::read` meets its contract.
-use Rattle.timestamp.proofs.Fourteen.{padded, all-bytes, date-eight, clock-eight, date-word, clock-word, not-date, not-clock, full-read, pair-most}
+-- `timestamp::fourteen::read` meets its contract.
+use Rattle.timestamp.proofs.FourteenDigits.{padded, all-bytes, date-eight, clock-eight, date-word, clock-word, not-date, not-clock, fourteen-read, pair-most}
 use Rattle.text.specs.Words.{PairsOf}
 use lib.ListN.{take}
 use native.Mathlib.Omega.{arith}
 use mathlib.Core.Path.{subst}
 use borrow.Author.Needs.{needs}
-use Rattle.timestamp.proofs.full.read.Statement.{statement}
-use Rattle.timestamp.proofs.full.read.Tie as tie
-use Rattle.timestamp.proofs.full.read.Reads as reads
-use Rattle.timestamp.proofs.full.read.Lts as lts
+use Rattle.timestamp.proofs.fourteen.read.Statement.{statement}
+use Rattle.timestamp.proofs.fourteen.read.Tie as tie
+use Rattle.timestamp.proofs.fourteen.read.Reads as reads
+use Rattle.timestamp.proofs.fourteen.read.Lts as lts
 use Rattle.text.proofs.words.four.Reads as four-reads
 use Rattle.text.proofs.words.read_pairs.Reads as read-pairs-reads
 use Rattle.text.proofs.words.two.Reads as two-reads
@@ -74,7 +74,7 @@ add-t17 : tie.Need-add-t17
 add-t17 c = let d = subst (PairsOf (take 8 (c .before .before .before .before .before .before .before .before .before .before .before .before .before .before .args .s .now))) (c .before .before .before .before .before .before .before .century .given .1) (c .before .before .before .before .before .before .before .before .before .read-pairs .ensures (take 8 (c .before .before .before .before .before .before .before .before .before .before .before .before .before .before .args .s .now)) (date-eight (c .before .before .before .before .before .before .before .before .before .before .before .before .before .before .args .s .now) (c .before .before .before .before .before .before .before .before .before .before .before .before .if1 .left) (all-bytes (c .before .before .before .before .before .before .before .before .before .before .before .before .before .before .args .s .now) (λ i. omega (arith, c .before .before .before .before .before .before .before .before .before .before .before .before .before .shared-slice-known .given i)))) (date-word (c .before .before .before .before .before .before .before .before .before .before .before .before .before .before .args .s .now) (c .before .before .before .before .before .before .before .before .before .before .before .before .if1 .left) (c .before .before .before .before .before .before .before .before .before .before .before .four .result) (c .before .before .before .before .before .before .before .before .before .before .four2 .result) (c .before .before .before .before .before .before .before .before .before .before .before .four .ensures .0) (c .before .before .before .before .before .before .before .before .before .before .four2 .ensures .0))) in omega (arith, pair-most (take 8 (c .before .before .before .before .before .before .before .before .before .before .before .before .before .before .args .s .now)) 0 (d .0), d .1, pair-most (take 8 (c .before .before .before .before .before .before .before .before .before .before .before .before .before .before .args .s .now)) 2 (d .0), d .2)
 
 returns-4 : tie.Need-returns-4
-returns-4 c = full-read (c .before .before .before .before .before .before .before .before .before .before .before .before .before .before .args .s .now) (c .before .before .before .before .before .before .before .before .before .before .before .before .if1 .left) _ _ _ _ _ _ _ _ (subst (PairsOf (take 8 (c .before .before .before .before .before .before .before .before .before .before .before .before .before .before .args .s .now))) (c .before .before .before .before .before .before .before .century .given .1) (c .before .before .before .before .before .before .before .before .before .read-pairs .ensures (take 8 (c .before .before .before .before .before .before .before .before .before .before .before .before .before .before .args .s .now)) (date-eight (c .before .before .before .before .before .before .before .before .before .before .before .before .before .before .args .s .now) (c .before .before .before .before .before .before .before .before .before .before .before .before .if1 .left) (all-bytes (c .before .before .before .before .before .before .before .before .before .before .before .before .before .before .args .s .now) (λ i. omega (arith, c .before .before .before .before .before .before .before .before .before .before .before .before .before .shared-slice-known .given i)))) (date-word (c .before .before .before .before .before .before .before .before .before .before .before .before .before .before .args .s .now) (c .before .before .before .before .before .before .before .before .before .before .before .before .if1 .left) (c .before .before .before .before .before .before .before .before .before .before .before .four .result) (c .before .before .before .before .before .before .before .before .before .before .four2 .result) (c .before .before .before .before .before .before .before .before .before .before .before .four .ensures .0) (c .before .before .before .before .before .before .before .before .before .before .four2 .ensures .0)))) (subst (PairsOf (padded (c .before .before .before .before .before .before .before .before .before .before .before .before .before .before .args .s .now))) (c .before .hour .given .1) (c .before .before .before .read-pairs2 .ensures (padded (c .before .before .before .before .before .before .before .before .before .before .before .before .before .before .args .s .now)) (clock-eight (c .before .before .before .before .before .before .before .before .before .before .before .before .before .before .args .s .now) (c .before .before .before .before .before .before .before .before .before .before .before .before .if1 .left) (all-bytes (c .before .before .before .before .before .before .before .before .before .before .before .before .before .before .args .s .now) (λ i. omega (arith, c .before .before .before .before .before .before .before .before .before .before .before .before .before .shared-slice-known .given i)))) (clock-word (c .before .before .before .before .before .before .before .before .before .before .before .before .before .before .args .s .now) (c .before .before .before .before .before .before .before .before .before .before .before .before .if1 .left) (c .before .before .before .before .before .four3 .result) (c .before .before .before .before .two .result) (c .before .before .before .before .before .four3 .ensures .0) (c .before .before .before .before .two .ensures .0))))
+returns-4 c = fourteen-read (c .before .before .before .before .before .before .before .before .before .before .before .before .before .before .args .s .now) (c .before .before .before .before .before .before .before .before .before .before .before .before .if1 .left) _ _ _ _ _ _ _ _ (subst (PairsOf (take 8 (c .before .before .before .before .before .before .before .before .before .before .before .before .before .before .args .s .now))) (c .before .before .before .before .before .before .before .century .given .1) (c .before .before .before .before .before .before .before .before .before .read-pairs .ensures (take 8 (c .before .before .before .before .before .before .before .before .before .before .before .before .before .before .args .s .now)) (date-eight (c .before .before .before .before .before .before .before .before .before .before .before .before .before .before .args .s .now) (c .before .before .before .before .before .before .before .before .before .before .before .before .if1 .left) (all-bytes (c .before .before .before .before .before .before .before .before .before .before .before .before .before .before .args .s .now) (λ i. omega (arith, c .before .before .before .before .before .before .before .before .before .before .before .before .before .shared-slice-known .given i)))) (date-word (c .before .before .before .before .before .before .before .before .before .before .before .before .before .before .args .s .now) (c .before .before .before .before .before .before .before .before .before .before .before .before .if1 .left) (c .before .before .before .before .before .before .before .before .before .before .before .four .result) (c .before .before .before .before .before .before .before .before .before .before .four2 .result) (c .before .before .before .before .before .before .before .before .before .before .before .four .ensures .0) (c .before .before .before .before .before .before .before .before .before .before .four2 .ensures .0)))) (subst (PairsOf (padded (c .before .before .before .before .before .before .before .before .before .before .before .before .before .before .args .s .now))) (c .before .hour .given .1) (c .before .before .before .read-pairs2 .ensures (padded (c .before .before .before .before .before .before .before .before .before .before .before .before .before .before .args .s .now)) (clock-eight (c .before .before .before .before .before .before .before .before .before .before .before .before .before .before .args .s .now) (c .before .before .before .before .before .before .before .before .before .before .before .before .if1 .left) (all-bytes (c .before .before .before .before .before .before .before .before .before .before .before .before .before .before .args .s .now) (λ i. omega (arith, c .before .before .before .before .before .before .before .before .before .before .before .before .before .shared-slice-known .given i)))) (clock-word (c .before .before .before .before .before .before .before .before .before .before .before .before .before .before .args .s .now) (c .before .before .before .before .before .before .before .before .before .before .before .before .if1 .left) (c .before .before .before .before .before .four3 .result) (c .before .before .before .before .two .result) (c .before .before .before .before .before .four3 .ensures .0) (c .before .before .before .before .two .ensures .0))))
 
 pub read-spec : {M : Type 1} → statement M
 read-spec =

@@ -20,8 +20,8 @@ use Rattle.text.specs.declared.digits.Number.the-variants.{Is}
 use Rattle.text.specs.declared.words.Pairs.the-variants.{Are, Not}
 use Rattle.text.proofs.Numerals.{all-passed}
 use Rattle.text.proofs.Lanes.{word-split, word-append}
-use Rattle.timestamp.specs.Written.{PartsAt, ZoneBy, fractionAfter, zoneAfter, FormOf, fullWritten}
-use Rattle.timestamp.specs.declared.full.Numbers.{Numbers}
+use Rattle.timestamp.specs.Written.{PartsAt, ZoneBy, fractionAfter, zoneAfter, FormOf, fourteenWritten}
+use Rattle.timestamp.specs.declared.fourteen.Numbers.{Numbers}
 use Rattle.timestamp.specs.declared.form.Form.the-variants.{Is as Form·Is}
 use Rattle.timestamp.specs.declared.form.Zone.the-variants.{Agreed}
 use Rattle.timestamp.proofs.Reading.{two-more, two-last, no-fraction, no-zone}
@@ -156,7 +156,7 @@ module _ (s : List ℕ) (size : length s ≡ 14) where
     pair : (at : ℕ) → at + 2 ≤ 14 → digits 2 (drop at s) ≡ ok (decimal (take 2 (drop at s))) (drop (at + 2) s)
     pair at h = number at 2 h .2
 
-    parts : PartsAt s (fullWritten (numbersOf s) .parts)
+    parts : PartsAt s (fourteenWritten (numbersOf s) .parts)
     parts = record {
       list = decimal (take 2 (drop 4 s)) ∷ decimal (take 2 (drop 6 s)) ∷ decimal (take 2 (drop 8 s)) ∷ decimal (take 2 (drop 10 s)) ∷ decimal (take 2 (drop 12 s)) ∷ [];
       reads = two-more 4 _ _ (pair 4 (omega arith)) (two-more 3 _ _ (pair 6 (omega arith)) (two-more 2 _ _ (pair 8 (omega arith))
@@ -166,7 +166,7 @@ module _ (s : List ℕ) (size : length s ≡ 14) where
       high = omega (arith, size);
     }
 
-    fraction : FractionBy (fractionAfter 5) s 14 (fullWritten (numbersOf s) .fraction)
+    fraction : FractionBy (fractionAfter 5) s 14 (fourteenWritten (numbersOf s) .fraction)
     unfolding decimalFrom
     fraction = record {
       list = [];
@@ -181,17 +181,17 @@ module _ (s : List ℕ) (size : length s ≡ 14) where
     zone : ZoneBy (zoneAfter 5) s 14 (record { zone = Agreed; end = 14 })
     zone = record { reads = no-zone s 14 nothing; small = record {}; high = omega (arith, size) }
 
-    pub full-written : FormOf s (Form·Is (fullWritten (numbersOf s)))
-    full-written = whole-written s (decimal (take 4 s)) (number 0 4 (omega arith)) _ parts _ fraction (record { zone = Agreed; end = 14 }) zone (sym size)
+    pub fourteen-written : FormOf s (Form·Is (fourteenWritten (numbersOf s)))
+    fourteen-written = whole-written s (decimal (take 4 s)) (number 0 4 (omega arith)) _ parts _ fraction (record { zone = Agreed; end = 14 }) zone (sym size)
 
 -- as the two words give the numbers
-pub full-read : (s : List ℕ) → length s ≡ 14 → (century rest month day hour minute second none : ℕ)
+pub fourteen-read : (s : List ℕ) → length s ≡ 14 → (century rest month day hour minute second none : ℕ)
     → PairsOf (take 8 s) (Are century rest month day) → PairsOf (padded s) (Are hour minute second none)
-    → FormOf s (Form·Is (fullWritten (record { year = 100 * century + rest; month = month; day = day; hour = hour; minute = minute; second = second })))
-full-read s size century rest month day hour minute second none d c =
+    → FormOf s (Form·Is (fourteenWritten (record { year = 100 * century + rest; month = month; day = day; hour = hour; minute = minute; second = second })))
+fourteen-read s size century rest month day hour minute second none d c =
     let year : decimal (take 4 s) ≡ 100 * century + rest
     = year-is s size (d .0) (c .0) ∙ ap₂ (λ (a b : ℕ). 100 * a + b) (two-first s ∙ sym (d .1)) (two-within s 2 (omega arith) ∙ sym (d .2)) in
-    subst (λ (n : Numbers). FormOf s (Form·Is (fullWritten n)))
+    subst (λ (n : Numbers). FormOf s (Form·Is (fourteenWritten n)))
     (λ i. record {
       year = year i;
       month = (two-within s 4 (omega arith) ∙ sym (d .3)) i;
@@ -200,4 +200,4 @@ full-read s size century rest month day hour minute second none d c =
       minute = (two-padded s size 2 (omega arith) ∙ sym (c .2)) i;
       second = (two-padded s size 4 (omega arith) ∙ sym (c .3)) i;
     })
-    (full-written s size (d .0) (c .0))
+    (fourteen-written s size (d .0) (c .0))

@@ -1,15 +1,15 @@
--- `timestamp::full_moment` meets its contract.
+-- `timestamp::fourteen_moment` meets its contract.
 use Rattle.timestamp.proofs.Ranges.{date-range, clock-range}
 use Rattle.timestamp.specs.Moments.{unitTicks, startWritten}
-use Rattle.timestamp.specs.Written.{fullWritten}
+use Rattle.timestamp.specs.Written.{fourteenWritten}
 use native.Mathlib.Omega.{arith}
 use mathlib.Core.Path.{_≡_}
 use Prim.Native.Nat.{_+_, _*_}
 use borrow.Author.Needs.{needs}
-use Rattle.timestamp.proofs.full_moment.Statement.{statement}
-use Rattle.timestamp.proofs.full_moment.Tie as tie
-use Rattle.timestamp.proofs.full_moment.Reads as reads
-use Rattle.timestamp.proofs.full_moment.Lts as lts
+use Rattle.timestamp.proofs.fourteen_moment.Statement.{statement}
+use Rattle.timestamp.proofs.fourteen_moment.Tie as tie
+use Rattle.timestamp.proofs.fourteen_moment.Reads as reads
+use Rattle.timestamp.proofs.fourteen_moment.Lts as lts
 use Rattle.timestamp.proofs.tick.Tick.of_clock.Reads as of-clock-reads
 use Rattle.timestamp.proofs.tick.Tick.of_date.Reads as of-date-reads
 
@@ -33,9 +33,9 @@ add-t6 c = omega (arith, c .before .before .before .before .before .before .pre 
 
 returns : tie.Need-returns
 unfolding unitTicks
-returns c = let s : c .before .before .before .before .before .of-date .result .0 + c .before .before .before .before .of-clock .result .0 + c .before .before .before .before .before .before .args .shift * 600_000 ≡ startWritten (c .before .before .before .before .before .before .args .shift) (fullWritten (c .before .before .before .before .before .before .args .n)) = rw (c .before .before .before .before .before .of-date .ensures .0, c .before .before .before .before .of-clock .ensures .0) (omega arith) in λ i. record { start = s i; precision = 14; next = s i + 10_000 }
+returns c = let s : c .before .before .before .before .before .of-date .result .0 + c .before .before .before .before .of-clock .result .0 + c .before .before .before .before .before .before .args .shift * 600_000 ≡ startWritten (c .before .before .before .before .before .before .args .shift) (fourteenWritten (c .before .before .before .before .before .before .args .n)) = rw (c .before .before .before .before .before .of-date .ensures .0, c .before .before .before .before .of-clock .ensures .0) (omega arith) in λ i. record { start = s i; precision = 14; next = s i + 10_000 }
 
-pub full-moment-spec : {M : Type 1} → statement M
-full-moment-spec =
+pub fourteen-moment-spec : {M : Type 1} → statement M
+fourteen-moment-spec =
     tie.close
     (tie.spec of-date-requires of-clock-requires add-start mul-start add-start-2 add-t6 returns)
