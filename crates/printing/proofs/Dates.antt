@@ -1,6 +1,6 @@
 -- The date of a day by division: the quotient is at most one year, or one month, too small.
 use Prim.Native.Nat.{ℕ, zero, suc, _+_, _-_, _*_, _/_, _≤_, _<_}
-use mathlib.Core.Path.{_≡_, ap, subst}
+use mathlib.Core.Path.{_≡_, subst}
 use mathlib.Core.Bool.{Bool, true, false, cond}
 use native.Mathlib.Omega.{arith}
 use Rattle.rules.specs.Calendar.{isLeap, yearLength, daysOfYears, daysOfMonths, daysBeforeYear, daysByDivision}

@@ -1,15 +1,15 @@
 -- A word of eight bytes: when all of them are digits, and the four numbers that they write by twos.
-use Prim.Native.Nat.{ℕ, suc, _+_, _-_, _*_, _/_, _%_, _^_, _≤_, _<_}
-use mathlib.Core.Path.{_≡_, refl, sym, _∙_, ap, subst}
+use Prim.Native.Nat.{ℕ, suc, _+_, _*_, _/_, _%_, _^_, _≤_, _<_}
+use mathlib.Core.Path.{_≡_, refl, sym, _∙_, subst}
 use mathlib.Core.Bool.{Bool, true, false}
 use mathlib.Core.List.{List, map}
 use native.Mathlib.Omega.{arith}
 use borrow.Author.Tests.{ltb-true, lt-ltb, eqb-true, eq-eqb, ne-eqb}
 use lib.Bits.{bitAnd, bitXor}
 use lib.Dec.{ltb, eqb}
-use lib.ListN.{length, getD, take, drop, length-map}
+use lib.ListN.{length, take, drop, length-map}
 use Rattle.rules.specs.Basics.{every, isDigit, decimal}
-use Rattle.rules.specs.LentLists.{isByte, unsigned}
+use Rattle.rules.specs.LentLists.{unsigned}
 use Rattle.rules.specs.Services.{lowBytes}
 use Rattle.rules.proofs.Tests.{every-map}
 use Rattle.rules.proofs.LentLists.{unsigned-low}

@@ -1,8 +1,8 @@
 -- Digits at a position, as many as there are or a given count of them, and the number that they write.
 use Prim.Native.Nat.{ℕ, zero, suc, _+_, _-_, _*_, _^_, _≤_, _<_}
 use mathlib.Core.Path.{_≡_, refl, sym, subst}
-use mathlib.Core.Bool.{Bool, true, false, _&&_, cond}
-use mathlib.Core.List.{List, [], _∷_, _++_}
+use mathlib.Core.Bool.{Bool, true, false, cond}
+use mathlib.Core.List.{List, [], _∷_}
 use native.Mathlib.Nat.{pow-le-pow-right, lt-of-lt-of-le}
 use native.Mathlib.Numerals.{add-one}
 use native.Mathlib.Omega.{arith}
@@ -12,7 +12,7 @@ use borrow.Author.Tests.{eq-eqb, ne-eqb}
 use lib.ListN.{length, getD, take, drop, length-drop, drop-of-length-le}
 use lib.Seq.{drop-cons, drop-drop, take-suc, getD-drop, length-take-le}
 use Rattle.rules.specs.Basics.{every, isDigit, decimalFrom, decimal}
-use Rattle.rules.specs.Parsers.{Parsed, Parser, bad, ok, next, pure, _>>=_, _or_, one, byte, times, upTo}
+use Rattle.rules.specs.Parsers.{bad, ok, next, pure, _>>=_, _or_, one, byte, times, upTo}
 use Rattle.rules.specs.Timestamp.{digits, point}
 use Rattle.rules.proofs.Tests.{clash, isFrom-true, every-true}
 use Rattle.rules.proofs.Parsers.{else-ok}

@@ -1,14 +1,11 @@
 -- From what is written in a text to the answer: a moment, or VALUE.
-use Prim.Native.Nat.{ℕ, _+_, _*_, _≤_, _<_}
+use Prim.Native.Nat.{ℕ, _+_, _≤_}
 use mathlib.Core.Path.{_≡_, refl, sym, _∙_, ap, subst}
 use mathlib.Core.Bool.{Bool, true, false, not, _&&_, false≢true}
 use mathlib.Core.List.{List, _++_}
-use mathlib.Core.Option.{none, some}
-use lib.ListN.{length}
-use Rattle.rules.specs.Refusal.{VALUE, Outcome, answered, refused, rankIn, firstOf, _unless_, _when_}
-use Rattle.rules.specs.Parsers.{whole}
-use Rattle.rules.specs.Timestamp.{timestamp, Written as RulesWritten, isDate, isClock, isZone, writtenFaults, startOf, unitLength, Moment as RulesMoment, momentOf as rulesMoment, readTimestamp}
-use Rattle.timestamp.specs.Written.{FormOf, Writes, partsOf, zoneOf, fourteenWritten, FourteenOf}
+use Rattle.rules.specs.Refusal.{VALUE, answered, refused, rankIn, firstOf, _unless_, _when_}
+use Rattle.rules.specs.Timestamp.{isDate, isClock, isZone, writtenFaults, startOf, unitLength, momentOf as rulesMoment, readTimestamp}
+use Rattle.timestamp.specs.Written.{FormOf, partsOf, zoneOf, fourteenWritten, FourteenOf}
 use Rattle.timestamp.specs.Moments.{isDateOf, isClockOf, unitTicks, Possible, momentOf, momentWritten}
 use Rattle.timestamp.specs.declared.form.Parts.{Parts}
 use Rattle.timestamp.specs.declared.fourteen.Numbers.{Numbers}

@@ -11,13 +11,13 @@ use lib.Seq.{length-take-le, take-append-le, drop-append-le, take-take, drop-dro
 use Rattle.rules.specs.Basics.{every, isDigit, decimalFrom, decimal}
 use Rattle.rules.specs.LentLists.{isByte, unsigned}
 use Rattle.rules.specs.Parsers.{ok}
-use Rattle.rules.specs.Timestamp.{digits, twoDigits, point}
+use Rattle.rules.specs.Timestamp.{digits}
 use Rattle.rules.proofs.Tests.{clash, every-true, every-append}
 use Rattle.rules.proofs.Digits.{decimal-append, decimal-below}
 use Rattle.text.specs.Numbers.{NumberAt, FractionBy}
 use Rattle.text.specs.Words.{AreEight, PairsOf}
 use Rattle.text.specs.declared.digits.Number.the-variants.{Is}
-use Rattle.text.specs.declared.words.Pairs.the-variants.{Are, Not}
+use Rattle.text.specs.declared.words.Pairs.the-variants.{Are}
 use Rattle.text.proofs.Numerals.{all-passed}
 use Rattle.text.proofs.Lanes.{word-split, word-append}
 use Rattle.timestamp.specs.Written.{PartsAt, ZoneBy, fractionAfter, zoneAfter, FormOf, fourteenWritten}

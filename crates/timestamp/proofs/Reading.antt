@@ -1,5 +1,5 @@
 -- The form of a timestamp, part by part.
-use Prim.Native.Nat.{ℕ, zero, suc, _+_, _≤_, _<_}
+use Prim.Native.Nat.{ℕ, suc, _≤_, _<_}
 use mathlib.Core.Path.{_≡_, refl, subst}
 use mathlib.Core.List.{List, [], _∷_}
 use mathlib.Core.Option.{none, some}
@@ -7,7 +7,7 @@ use native.Mathlib.Omega.{arith}
 use borrow.Author.Tests.{le-leb, lt-leb}
 use lib.ListN.{length, drop}
 use Rattle.rules.specs.Basics.{decimalFrom}
-use Rattle.rules.specs.Parsers.{Parsed, bad, ok, next, else, pure, _or_, one, byte, finish, whole}
+use Rattle.rules.specs.Parsers.{bad, ok, pure, _or_, one, byte, finish, whole}
 use Rattle.rules.specs.Timestamp.{Zone, noZone, plus, minus, digits, twoDigits, point, hours, zone, timestamp}
 use Rattle.text.specs.Numbers.{NumberAt, FractionBy, FractionAt}
 use Rattle.text.specs.declared.digits.Fraction.{Fraction}

@@ -5,13 +5,8 @@ use Rattle.timestamp.specs.Written.{fourteenWritten}
 use native.Mathlib.Omega.{arith}
 use mathlib.Core.Path.{_≡_}
 use Prim.Native.Nat.{_+_, _*_}
-use borrow.Author.Needs.{needs}
 use Rattle.timestamp.proofs.fourteen_moment.Statement.{statement}
 use Rattle.timestamp.proofs.fourteen_moment.Tie as tie
-use Rattle.timestamp.proofs.fourteen_moment.Reads as reads
-use Rattle.timestamp.proofs.fourteen_moment.Lts as lts
-use Rattle.timestamp.proofs.tick.Tick.of_clock.Reads as of-clock-reads
-use Rattle.timestamp.proofs.tick.Tick.of_date.Reads as of-date-reads
 
 of-date-requires : tie.Need-of-date-requires
 of-date-requires c κs = date-range _ _ _ (c .pre .date)

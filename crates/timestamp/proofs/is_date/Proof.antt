@@ -6,10 +6,6 @@ use mathlib.Core.Path.{refl, sym, _∙_}
 use borrow.Author.Needs.{needs}
 use Rattle.timestamp.proofs.is_date.Statement.{statement}
 use Rattle.timestamp.proofs.is_date.Tie as tie
-use Rattle.timestamp.proofs.is_date.Reads as reads
-use Rattle.timestamp.proofs.is_date.Lts as lts
-use Rattle.timestamp.proofs.calendar.month_length.Reads as month-length-reads
-use Rattle.timestamp.proofs.in_range.Reads as in-range-reads
 
 in-range-requires : tie.Need-in-range-requires
 in-range-requires c κs = search needs

@@ -8,15 +8,6 @@ use mathlib.Core.Path.{refl, sym, _∙_, ap}
 use borrow.Author.Needs.{needs}
 use Rattle.timestamp.proofs.read.Statement.{statement}
 use Rattle.timestamp.proofs.read.Tie as tie
-use Rattle.timestamp.proofs.read.Reads as reads
-use Rattle.timestamp.proofs.read.Lts as lts
-use Rattle.timestamp.proofs.form.read_form.Reads as read-form-reads
-use Rattle.timestamp.proofs.fourteen.read.Reads as read-reads
-use Rattle.timestamp.proofs.fourteen_moment.Reads as fourteen-moment-reads
-use Rattle.timestamp.proofs.is_clock.Reads as is-clock-reads
-use Rattle.timestamp.proofs.is_date.Reads as is-date-reads
-use Rattle.timestamp.proofs.is_zone.Reads as is-zone-reads
-use Rattle.timestamp.proofs.make_moment.Reads as make-moment-reads
 
 read-requires : tie.Need-read-requires
 read-requires c κs = search needs

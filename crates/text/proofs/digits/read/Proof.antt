@@ -7,14 +7,11 @@ use lib.ListN.{getD, take, drop}
 use borrow.Author.Tests.{not-true, not-false}
 use native.Mathlib.Omega.{arith}
 use mathlib.Core.Bool.{true}
-use mathlib.Core.Path.{_≡_, refl, sym, _∙_, ap}
+use mathlib.Core.Path.{_≡_, refl, sym, _∙_}
 use Prim.Native.Nat.{_+_, _-_, _≤_}
 use borrow.Author.Needs.{needs}
 use Rattle.text.proofs.digits.read.Statement.{statement}
 use Rattle.text.proofs.digits.read.Tie as tie
-use Rattle.text.proofs.digits.read.Reads as reads
-use Rattle.text.proofs.digits.read.Lts as lts
-use Rattle.text.proofs.digits.is_digit.Reads as is-digit-reads
 
 abbrev Inv-loop : tie.InvT-loop
 Inv-loop s at n total₀ k₀ total k = (k ≤ n) × (every isDigit (take k (drop at s)) ≡ true) × (total ≡ decimal (take k (drop at s)))

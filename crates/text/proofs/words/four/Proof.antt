@@ -1,14 +1,10 @@
 -- `text::words::four` meets its contract.
 use Rattle.text.proofs.Lanes.{word-four}
 use mathlib.Core.Path.{sym}
-use Prim.Native.Nat.{_+_}
 use native.Mathlib.Omega.{arith}
 use borrow.Author.Needs.{needs}
 use Rattle.text.proofs.words.four.Statement.{statement}
 use Rattle.text.proofs.words.four.Tie as tie
-use Rattle.text.proofs.words.four.Reads as reads
-use Rattle.text.proofs.words.four.Lts as lts
-use Rattle.text.proofs.words.two.Reads as two-reads
 
 two-requires : tie.Need-two-requires
 two-requires c κs = search needs

@@ -3,8 +3,6 @@ use Rattle.text.proofs.EightDigits.{first-passed, first-failed, second-
 use native.Mathlib.Omega.{arith}
 use Rattle.text.proofs.words.read_pairs.Statement.{statement}
 use Rattle.text.proofs.words.read_pairs.Tie as tie
-use Rattle.text.proofs.words.read_pairs.Reads as reads
-use Rattle.text.proofs.words.read_pairs.Lts as lts
 
 returns : tie.Need-returns
 returns c = λ l k e. first-failed (c .before .args .word) l k e (c .if1 .taken)

@@ -6,8 +6,6 @@ use Prim.Native.Nat.{_+_}
 use borrow.Author.Needs.{needs}
 use Rattle.text.proofs.words.two.Statement.{statement}
 use Rattle.text.proofs.words.two.Tie as tie
-use Rattle.text.proofs.words.two.Reads as reads
-use Rattle.text.proofs.words.two.Lts as lts
 
 shared-slice-read-result : tie.Need-shared-slice-read-result
 shared-slice-read-result c = search needs

@@ -2,14 +2,8 @@
 use Rattle.timestamp.proofs.Ranges.{days-most}
 use Rattle.timestamp.proofs.Months.{march-range, march-sum}
 use native.Mathlib.Omega.{arith}
-use borrow.Author.Needs.{needs}
 use Rattle.timestamp.proofs.calendar.days_before.Statement.{statement}
 use Rattle.timestamp.proofs.calendar.days_before.Tie as tie
-use Rattle.timestamp.proofs.calendar.days_before.Reads as reads
-use Rattle.timestamp.proofs.calendar.days_before.Lts as lts
-use Rattle.timestamp.proofs.calendar.days_before_year.Reads as days-before-year-reads
-use Rattle.timestamp.proofs.calendar.march_month.Reads as march-month-reads
-use Rattle.timestamp.proofs.calendar.march_year.Reads as march-year-reads
 
 march-year-requires : tie.Need-march-year-requires
 march-year-requires c κs = c .pre .from-year

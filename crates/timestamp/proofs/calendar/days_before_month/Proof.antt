@@ -6,9 +6,6 @@ use native.Mathlib.Omega.{arith}
 use borrow.Author.Needs.{needs}
 use Rattle.timestamp.proofs.calendar.days_before_month.Statement.{statement}
 use Rattle.timestamp.proofs.calendar.days_before_month.Tie as tie
-use Rattle.timestamp.proofs.calendar.days_before_month.Reads as reads
-use Rattle.timestamp.proofs.calendar.days_before_month.Lts as lts
-use Rattle.timestamp.proofs.calendar.is_leap.Reads as is-leap-reads
 
 mul-days : tie.Need-mul-days
 mul-days c = search needs

@@ -4,8 +4,6 @@ use borrow.Author.Tests.{le-leb, lt-leb}
 use borrow.Author.Needs.{needs}
 use Rattle.timestamp.proofs.calendar.march_month.Statement.{statement}
 use Rattle.timestamp.proofs.calendar.march_month.Tie as tie
-use Rattle.timestamp.proofs.calendar.march_month.Reads as reads
-use Rattle.timestamp.proofs.calendar.march_month.Lts as lts
 
 add-result : tie.Need-add-result
 add-result c = search needs

@@ -4,8 +4,6 @@ use borrow.Author.Tests.{le-leb, lt-leb}
 use borrow.Author.Needs.{needs}
 use Rattle.timestamp.proofs.calendar.march_year.Statement.{statement}
 use Rattle.timestamp.proofs.calendar.march_year.Tie as tie
-use Rattle.timestamp.proofs.calendar.march_year.Reads as reads
-use Rattle.timestamp.proofs.calendar.march_year.Lts as lts
 
 sub-result : tie.Need-sub-result
 sub-result c = search needs

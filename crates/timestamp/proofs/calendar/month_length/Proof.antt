@@ -2,13 +2,9 @@
 use Rattle.timestamp.proofs.Months.{month-length}
 use borrow.Author.Tests.{eq-eqb, ne-eqb}
 use mathlib.Core.Path.{sym, _∙_}
-use native.Mathlib.Omega.{arith}
 use borrow.Author.Needs.{needs}
 use Rattle.timestamp.proofs.calendar.month_length.Statement.{statement}
 use Rattle.timestamp.proofs.calendar.month_length.Tie as tie
-use Rattle.timestamp.proofs.calendar.month_length.Reads as reads
-use Rattle.timestamp.proofs.calendar.month_length.Lts as lts
-use Rattle.timestamp.proofs.calendar.is_leap.Reads as is-leap-reads
 
 add-result : tie.Need-add-result
 add-result c = search needs

@@ -7,11 +7,6 @@ use mathlib.Core.Path.{subst}
 use borrow.Author.Needs.{needs}
 use Rattle.timestamp.proofs.fourteen.read.Statement.{statement}
 use Rattle.timestamp.proofs.fourteen.read.Tie as tie
-use Rattle.timestamp.proofs.fourteen.read.Reads as reads
-use Rattle.timestamp.proofs.fourteen.read.Lts as lts
-use Rattle.text.proofs.words.four.Reads as four-reads
-use Rattle.text.proofs.words.read_pairs.Reads as read-pairs-reads
-use Rattle.text.proofs.words.two.Reads as two-reads
 
 returns : tie.Need-returns
 returns c = λ e. absurd (c .if1 .taken e)

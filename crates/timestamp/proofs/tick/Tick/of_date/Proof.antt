@@ -2,12 +2,8 @@
 use Rattle.timestamp.proofs.Ranges.{days-most}
 use mathlib.Core.Path.{refl}
 use native.Mathlib.Omega.{arith}
-use borrow.Author.Needs.{needs}
 use Rattle.timestamp.proofs.tick.Tick.of_date.Statement.{statement}
 use Rattle.timestamp.proofs.tick.Tick.of_date.Tie as tie
-use Rattle.timestamp.proofs.tick.Tick.of_date.Reads as reads
-use Rattle.timestamp.proofs.tick.Tick.of_date.Lts as lts
-use Rattle.timestamp.proofs.calendar.days_before.Reads as days-before-reads
 
 days-before-requires : tie.Need-days-before-requires
 days-before-requires c κs = c .pre
