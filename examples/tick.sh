@@ -15,6 +15,7 @@ show 'A pass for a day. No offset is written, and none is agreed on: the day beg
 show 'The same at a desk two hours east, which agreed on 120 minutes: its day begins two hours earlier.' 20240501 --offset 120
 show 'A time with its own offset, five and a half hours east. What was agreed does not count for it.' 20240501093000.25+0530 --offset 120
 show 'The start of year 1 at an hour east: a tick below zero, in the year that is written 0000.' 0001010100+01
+show 'The last second of the calendar, after 9998 years that nobody counts through.' 99991231235959
 show 'A leap day.' 20000229
 show 'There is no 29 February in 1900.' 19000229
 show 'Z is not read as an offset.' 20240501093000Z
