@@ -3,3 +3,5 @@ pub mod Siblings
 pub mod Turns
 pub mod Decoded
 pub mod Ends
+pub mod Asked
+pub mod Numbers

@@ -1,3 +1,5 @@
 pub mod Ends
+pub mod Names
 pub mod Places
+pub mod Tags
 pub mod Texts

@@ -10,6 +10,8 @@ ghost use Rattle.markup.specs.Attributes.{AttributesAt, Finds};
 ghost use Rattle.element.specs.Places.{ElementAt, NodesAt, FoundOn, ReadsOn, KidsAt, StepsOn, Steps};
 
 pub mod attribute;
+pub mod name;
+pub mod tag;
 mod closing;
 pub mod value;
 

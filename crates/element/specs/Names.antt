@@ -1,0 +1,31 @@
+-- The attribute names that type lines have, by number: one list.
+use Prim.Native.Nat.{ℕ, suc}
+use mathlib.Core.Bool.{Bool, cond}
+use mathlib.Core.List.{List, [], _∷_}
+use lib.Dec.{ltb}
+use lib.ListN.{length, getD}
+use Rattle.rules.specs.Basics.{bytes, same}
+
+abbrev pub knownNames : List (List ℕ)
+knownNames =
+    bytes "value" ∷ bytes "nullFlavor" ∷ bytes "xsi:type" ∷ bytes "lowClosed" ∷ bytes "highClosed" ∷ bytes "currency" ∷ bytes "root"
+    ∷ bytes "extension" ∷ bytes "code" ∷ bytes "codeSystem" ∷ bytes "codeSystemName" ∷ bytes "codeSystemVersion" ∷ bytes "type"
+    ∷ bytes "qualifier" ∷ []
+
+-- how many there are
+abbrev pub known : ℕ
+known = 14
+
+abbrev pub nameAt : ℕ → List ℕ
+nameAt n = getD knownNames n []
+
+-- the place of a text among some; if it is not among them, how many they are
+unfoldable pub placeAmong : List ℕ → List (List ℕ) → ℕ
+placeAmong t [] = 0
+placeAmong t (m ∷ l) = cond (same t m) 0 (suc (placeAmong t l))
+
+abbrev pub numberOf : List ℕ → ℕ
+numberOf t = placeAmong t knownNames
+
+abbrev pub isKnown : List ℕ → Bool
+isKnown t = ltb (numberOf t) known
