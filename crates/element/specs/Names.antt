@@ -19,13 +19,13 @@ known = 14
 abbrev pub nameAt : ℕ → List ℕ
 nameAt n = getD knownNames n []
 
--- the place of a text among some; if it is not among them, how many they are
-unfoldable pub placeAmong : List ℕ → List (List ℕ) → ℕ
-placeAmong t [] = 0
-placeAmong t (m ∷ l) = cond (same t m) 0 (suc (placeAmong t l))
+-- the number of a text among some that are numbered from k on; if it is not among them, the number after theirs
+unfoldable pub numberFrom : (k : ℕ) → List ℕ → List (List ℕ) → ℕ
+numberFrom k t [] = k
+numberFrom k t (m ∷ l) = cond (same t m) k (numberFrom (suc k) t l)
 
 abbrev pub numberOf : List ℕ → ℕ
-numberOf t = placeAmong t knownNames
+numberOf t = numberFrom 0 t knownNames
 
 abbrev pub isKnown : List ℕ → Bool
 isKnown t = ltb (numberOf t) known
