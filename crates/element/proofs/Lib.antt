@@ -5,3 +5,5 @@ pub mod Decoded
 pub mod Ends
 pub mod Asked
 pub mod Numbers
+pub mod Placing
+pub mod Tagging
