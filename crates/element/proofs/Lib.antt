@@ -7,3 +7,4 @@ pub mod Asked
 pub mod Numbers
 pub mod Placing
 pub mod Tagging
+pub mod Rows

@@ -11,6 +11,7 @@ ghost use Rattle.element.specs.Places.{ElementAt, NodesAt, FoundOn, Read
 
 pub mod attribute;
 pub mod name;
+pub mod row;
 pub mod tag;
 mod closing;
 pub mod value;
