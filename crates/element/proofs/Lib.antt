@@ -5,3 +5,4 @@ pub mod Decoded
 pub mod Ends
 pub mod Asked
 pub mod Numbers
+pub mod Quotes
