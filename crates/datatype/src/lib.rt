@@ -2,5 +2,6 @@
 
 pub mod bounds;
 pub mod kind;
+pub mod places;
 pub mod reading;
 pub mod table;
