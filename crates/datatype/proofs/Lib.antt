@@ -1,3 +1,4 @@
 pub mod Naming
 pub mod Columns
 pub mod Kids
+pub mod Sayings

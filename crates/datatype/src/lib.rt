@@ -4,4 +4,5 @@ pub mod bounds;
 pub mod kind;
 pub mod places;
 pub mod reading;
+pub mod said;
 pub mod table;

@@ -34,10 +34,13 @@ add-result c = search needs
 
 -- src/value.rt:37:13
 returns : tie.Need-returns Inv-loop μ-loop
-returns c =
-    (λ h. omega (arith, c .before .before .before .loop .inv .0),
-    (omega arith,
-    ends-past _ (c .before .before .before .before .args .at) _ (omega arith) (past-here _ _ (c .before .before .loop-test .taken) (c .if1 .taken) ∙ c .before .before .before .loop .inv .1)))
+returns c = (
+  λ h. omega (arith, c .before .before .before .loop .inv .0),
+  (
+    omega arith,
+    ends-past _ (c .before .before .before .before .args .at) _ (omega arith) (past-here _ _ (c .before .before .loop-test .taken) (c .if1 .taken) ∙ c .before .before .before .loop .inv .1),
+  ),
+)
 
 -- src/value.rt:39:9
 add-i-2 : tie.Need-add-i-2 Inv-loop μ-loop
