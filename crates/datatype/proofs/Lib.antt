@@ -1,3 +1,4 @@
 pub mod Naming
-pub mod Columns
+pub mod Standings
 pub mod Kids
+pub mod Sayings

@@ -2,3 +2,4 @@ pub mod Meaning
 pub mod Tables
 pub mod Children
 pub mod Bounds
+pub mod Said

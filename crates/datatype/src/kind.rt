@@ -4,9 +4,11 @@ ghost use mathlib.Core.List.{List};
 ghost use Prim.Native.Nat.{ℕ, _≤_};
 ghost use lib.ListN.{length, drop};
 ghost use Rattle.rules.specs.Parsers.{ok};
-ghost use Rattle.rules.specs.Markup.{Element, value};
+ghost use Rattle.rules.specs.Markup.{Attribute, Element, value, lookup};
 ghost use Rattle.rules.specs.Types.{memberTypes, allTypes, typeAmong};
+ghost use Rattle.element.specs.Names.{nameAt};
 ghost use Rattle.element.specs.Places.{ElementAt};
+ghost use Rattle.element.specs.Tags.{Place};
 ghost use Rattle.datatype.specs.Meaning.{typeMeant, namedAmong, typesFor};
 use element::find;
 use element::value::is;
@@ -89,5 +91,20 @@ pub fn type_of(s: &[u8], at: usize, top: bool) -> Named
         named_type(s, q)
     } else {
         named_member(s, q)
+    }
+}
+
+// The type that an element names whose `xsi:type` has its value at a place: one that a record may have, or one that a member of a set may have.
+pub fn type_at(s: &[u8], place: usize, top: bool) -> Named
+    requires { ⌜ place ≤ length (now s) ⌝ }
+    ensures { λ r. ⌜ ((l : List Attribute) → Place (now (s .entry)) (lookup (nameAt 2) l) place → typeMeant r ≡ typeAmong (typesFor top) l) ⌝ }
+{
+    if place == 0 {
+        return Named::Nothing;
+    }
+    if top {
+        named_type(s, place)
+    } else {
+        named_member(s, place)
     }
 }

@@ -12,7 +12,7 @@ ghost use Rattle.rules.specs.Types.{CD, Part, lineOf};
 ghost use Rattle.rules.specs.Judge.{nullColumns};
 ghost use Rattle.form.specs.Meaning.{formOf};
 ghost use Rattle.datatype.specs.Meaning.{kindMeant};
-ghost use Rattle.datatype.specs.Tables.{formMeant, formAmong, columnsOf, standingMeant, hasTypeColumn, LineMeant, stepMeant, stepAmong};
+ghost use Rattle.datatype.specs.Tables.{formMeant, formAmong, columnsOf, standingMeant, hasTypeColumn, rowMeant, LineMeant, stepMeant, stepAmong};
 use crate::kind::Kind;
 use element::is_named;
 use form::Form;
@@ -96,7 +96,7 @@ fn part_column(name: &[u8]) -> Column
 }
 
 // The rows of children that kinds have: none; low and high; terms; a minuend and a subtrahend; a displayName; parts.
-enum Row {
+pub enum Row {
     Empty,
     Bounds,
     Terms,
@@ -129,7 +129,7 @@ fn line_of(kind: Kind) -> Line
 }
 
 // Whether elements of a kind may carry a nullFlavor.
-fn is_nullable(kind: Kind) -> bool
+pub fn is_nullable(kind: Kind) -> bool
     ensures { λ r. ⌜ r ≡ lineOf (kindMeant kind) .nullable ⌝ }
 {
     line_of(kind).0
@@ -142,8 +142,15 @@ pub fn enough(kind: Kind) -> u64
     line_of(kind).1
 }
 
+// The row of children that elements of a kind have.
+pub fn row_of(kind: Kind) -> Row
+    ensures { λ r. ⌜ rowMeant r ≡ lineOf (kindMeant kind) .children ⌝ }
+{
+    line_of(kind).2
+}
+
 // Whether an element carries an xsi:type where it stands.
-fn is_typed(standing: Standing) -> bool
+pub fn is_typed(standing: Standing) -> bool
     ensures { λ r. ⌜ r ≡ hasTypeColumn (standingMeant standing) ⌝ }
 {
     match standing {

@@ -34,3 +34,8 @@ pub record Standing (s : List ℕ) (o : Option (List ℕ)) (q : ℕ) : Type 0 wh
 pub standing : {s : List ℕ} {o : Option (List ℕ)} {q : ℕ} → Place s o q → (q ≡ 0 → ⊥) → Standing s o q
 standing nowhere d = absurd (d refl)
 standing (stands q e v l h g r) d = record { end = e; text = v; further = h; high = g; reads = r; is = refl }
+
+-- and it stands up to r, if every value there does
+pub standing-to : {s : List ℕ} {o : Option (List ℕ)} {q r : ℕ} → Place s o q → (q ≡ 0 → ⊥)
+    → ((v : List ℕ) (e : ℕ) → e ≤ length s → value (drop q s) ≡ ok v (drop e s) → r ≡ e) → (v : List ℕ) × (o ≡ some v) × (value (drop q s) ≡ ok v (drop r s))
+standing-to p d ends = let w = standing p d in (w .text, w .is, rw (ends (w .text) (w .end) (w .high) (w .reads)) (w .reads))

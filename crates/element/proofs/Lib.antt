@@ -8,3 +8,4 @@ pub mod Numbers
 pub mod Placing
 pub mod Tagging
 pub mod Rows
+pub mod Quotes

@@ -1,7 +1,7 @@
 // The decoded text of a value.
 ghost use mathlib.Core.Path.{_≡_};
 ghost use mathlib.Core.List.{List};
-ghost use Prim.Native.Nat.{ℕ, _≤_};
+ghost use Prim.Native.Nat.{ℕ, _≤_, _<_};
 ghost use lib.ListN.{length, drop};
 ghost use Rattle.rules.specs.Basics.{isEmpty, same};
 ghost use Rattle.rules.specs.Parsers.{ok};
@@ -23,6 +23,22 @@ pub fn start(s: &[u8], at: usize) -> usize
         return at;
     };
     i
+}
+
+// Where the value at a position ends, past its quotes. No character of a value is a quote, so none is read.
+pub fn end(s: &[u8], at: usize) -> usize
+    requires { ⌜ at ≤ length (now s) ⌝ }
+    ensures on { λ r. ⌜ (at < length (now (s .entry)) → at < r) ⌝ ∗ ⌜ r ≤ length (now (s .entry)) ⌝ }
+    ensures tells { λ r. ⌜ ((v : List ℕ) (e : ℕ) → e ≤ length (now (s .entry)) → value (drop at (now (s .entry))) ≡ ok v (drop e (now (s .entry))) → r ≡ e) ⌝ }
+{
+    let mut i = at + 1;
+    while i < s.len() {
+        if s[i] == b'"' {
+            return i + 1;
+        }
+        i += 1;
+    }
+    s.len()
 }
 
 // The first of the characters that stand from a position on: the byte that it stands for, and where the others stand; or that there is none.

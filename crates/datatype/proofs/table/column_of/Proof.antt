@@ -2,7 +2,7 @@
 use mathlib.Core.Path.{sym, _∙_}
 use Rattle.datatype.specs.Meaning.{kindMeant}
 use Rattle.datatype.specs.Tables.{standingMeant}
-use Rattle.datatype.proofs.Columns.{typed-columns, untyped-columns}
+use Rattle.datatype.proofs.Standings.{typed-columns, untyped-columns}
 use borrow.Author.Needs.{needs}
 use Rattle.datatype.proofs.table.column_of.Statement.{statement}
 use Rattle.datatype.proofs.table.column_of.Tie as tie
