@@ -3,3 +3,4 @@ pub mod Tables
 pub mod Children
 pub mod Bounds
 pub mod Said
+pub mod Records

@@ -5,6 +5,7 @@ pub mod columns;
 pub mod kind;
 pub mod places;
 pub mod reading;
+pub mod record;
 pub mod rows;
 pub mod said;
 pub mod table;
