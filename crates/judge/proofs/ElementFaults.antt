@@ -60,7 +60,7 @@ module _ (shift : ℕ) (k : Kind) {m n : Bool} {o : Option Refusal} (e : m ≡ n
   some-children l h = rw (← e) h
 
 -- a child's faults and those of the children after it
-child-and-rest : (shift : ℕ) (k : Kind) (null : Bool) (stage : ℕ) (v : Element) (j : Nodes)
+pub child-and-rest : (shift : ℕ) (k : Kind) (null : Bool) (stage : ℕ) (v : Element) (j : Nodes)
     → firstOf (childFaults shift k null stage (node (v .name) (v .attrs) (v .kids) j))
     ≡ earlier (firstOf (childJudged shift (stepAmong (lineOf k .children) stage (v .name)) v))
     (firstOf (childFaults shift k null (ifSome (stepAmong (lineOf k .children) stage (v .name)) (λ t. t .to) stage) j))

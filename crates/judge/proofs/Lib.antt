@@ -2,3 +2,5 @@ pub mod AttributeFaults
 pub mod ElementFaults
 pub mod Inputs
 pub mod Sides
+pub mod Rowing
+pub mod Bounds

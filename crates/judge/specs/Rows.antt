@@ -1,0 +1,102 @@
+-- Elements judged with what stands inside them, in the words of the rules ("The refusal ladder").
+use Prim.Native.Nat.{ℕ}
+use mathlib.Core.Path.{_≡_}
+use mathlib.Core.Bool.{Bool, true, false, not, _&&_, cond}
+use mathlib.Core.List.{List}
+use mathlib.Core.Logic.{_⊎_}
+use mathlib.Core.Option.{Option, none, some}
+use lib.Dec.{eqb, ltb}
+use lib.ListN.{drop}
+use Rattle.rules.specs.Basics.{ifSome, bytes}
+use Rattle.rules.specs.Refusal.{Refusal, SHAPE, RULE, earlier, firstOf, _when_}
+use Rattle.rules.specs.Markup.{Attribute, Nodes, end, node, Element}
+use Rattle.rules.specs.Invariants.{isNull, hasChildren}
+use Rattle.rules.specs.Types.{Kind, TS, IVL-TS, QSU-TS, QSI-TS, QSD-TS, MO, II, CD, EN, DisplayName, Part, lineOf}
+use Rattle.rules.specs.Judge.{Standing, kindOf, childFaults}
+use Rattle.refusal.specs.Meaning.{faultOf}
+use Rattle.datatype.specs.Tables.{Step, stepAmong}
+use Rattle.datatype.specs.Said.{Said, nothing, saidMeant, saidBy, saidNamed}
+use Rattle.judge.specs.Faults.{judged, childJudged}
+use Rattle.judge.specs.declared.row.Judged.{Judged}
+use Rattle.judge.specs.declared.row.Row.{Row}
+
+-- what an element of a kind says as a bound: a time what it says, another nothing
+abbrev pub saidOf : Kind → (shift : ℕ) → List Attribute → Said
+saidOf TS shift attrs = saidBy shift attrs
+saidOf IVL-TS shift attrs = nothing
+saidOf QSU-TS shift attrs = nothing
+saidOf QSI-TS shift attrs = nothing
+saidOf QSD-TS shift attrs = nothing
+saidOf MO shift attrs = nothing
+saidOf II shift attrs = nothing
+saidOf CD shift attrs = nothing
+saidOf EN shift attrs = nothing
+saidOf DisplayName shift attrs = nothing
+saidOf Part shift attrs = nothing
+
+-- what a child says as a bound, by the step that it is
+abbrev pub childSaid : (shift : ℕ) → Option Step → Element → Said
+childSaid shift o v = ifSome o (λ t. ifSome (kindOf (t .kind) (v .attrs)) (λ k. saidOf k shift (v .attrs)) nothing) nothing
+
+-- an element judged: its first fault, what it says, and where it ends
+pub record JudgedAs (s : List ℕ) (shift : ℕ) (p : Standing) (k : Kind) (v : Element) (after : List ℕ) (r : Judged) : Type 0 where
+  pub fault : faultOf (r .fault) ≡ firstOf (judged shift p (some k) v)
+  pub said : saidMeant (r .said) ≡ saidOf k shift (v .attrs)
+  pub ends : after ≡ drop (r .end) s
+
+-- a child judged, by the step that it is
+pub record ChildAs (s : List ℕ) (shift : ℕ) (o : Option Step) (v : Element) (after : List ℕ) (r : Judged) : Type 0 where
+  pub fault : faultOf (r .fault) ≡ firstOf (childJudged shift o v)
+  pub said : saidMeant (r .said) ≡ childSaid shift o v
+  pub ends : after ≡ drop (r .end) s
+
+-- a row of children as far as it is judged: the first fault, the stage, whether there are any, and what the one that brought the row to stage 1
+-- and the last other one say
+pub record Judging : Type 0 where
+  pub fault : Option Refusal
+  pub stage : ℕ
+  pub any : Bool
+  pub low : Said
+  pub high : Said
+
+abbrev pub rowMeant : Row → Judging
+rowMeant r = record { fault = faultOf (r .fault); stage = r .stage; any = r .any; low = saidMeant (r .low); high = saidMeant (r .high) }
+
+abbrev pub beginning : Judging
+beginning = record { fault = none; stage = 0; any = false; low = nothing; high = nothing }
+
+-- the row with a child more, which is a step to a stage, has a first fault and says something
+abbrev pub withChild : Judging → (stage : ℕ) → Option Refusal → Said → Judging
+withChild j stage fault said =
+    record { fault = earlier (j .fault) fault; stage = stage; any = true; low = cond (eqb stage 1) said (j .low); high = cond (eqb stage 1) (j .high) said }
+
+-- the row of an element of a kind with the children l more
+unfoldable pub rowAfter : (shift : ℕ) → Kind → Judging → Nodes → Judging
+rowAfter shift k j end = j
+rowAfter shift k j (node n attrs kids rest) =
+    rowAfter shift k
+    (withChild j (ifSome (stepAmong (lineOf k .children) (j .stage) n) (λ t. t .to) (j .stage))
+    (firstOf (childJudged shift (stepAmong (lineOf k .children) (j .stage) n) (record { name = n; attrs = attrs; kids = kids })))
+    (childSaid shift (stepAmong (lineOf k .children) (j .stage) n) (record { name = n; attrs = attrs; kids = kids })))
+    rest
+
+-- a row at its end, at a position, of an element that is null or not: one that has not come far enough is SHAPE
+pub record Finished (null : Bool) (k : Kind) (row : Row) (at : ℕ) (r : Row) : Type 0 where
+  pub fault : faultOf (r .fault) ≡ earlier (faultOf (row .fault)) (firstOf (SHAPE when (not null && ltb (row .stage) (lineOf k .enough))))
+  pub any : r .any ≡ row .any
+  pub low : r .low ≡ row .low
+  pub high : r .high ≡ row .high
+  pub end : r .end ≡ at
+
+-- a fault before RULE: a broken invariant beside it changes nothing
+abbrev pub Hides : Option Refusal → Type 0
+Hides o = earlier o (some RULE) ≡ o
+
+-- what is inside an element of a kind, judged: the first fault, whether there are children, where the element ends, and, unless the fault comes
+-- before RULE, what the bounds of an interval say
+pub record RowAs (s : List ℕ) (shift : ℕ) (k : Kind) (v : Element) (after : List ℕ) (r : Row) : Type 0 where
+  pub fault : faultOf (r .fault) ≡ firstOf (childFaults shift k (isNull (v .attrs)) 0 (v .kids))
+  pub any : r .any ≡ hasChildren (v .kids)
+  pub ends : after ≡ drop (r .end) s
+  pub sides : Hides (faultOf (r .fault))
+      ⊎ (k ≡ IVL-TS → (saidMeant (r .low) ≡ saidNamed shift (bytes "low") (v .kids)) × (saidMeant (r .high) ≡ saidNamed shift (bytes "high") (v .kids)))
