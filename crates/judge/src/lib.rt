@@ -17,6 +17,7 @@ ghost use Rattle.judge.specs.Faults.{inputFaults, ownFaults, judged, chi
 
 mod attributes;
 mod invariant;
+mod rule;
 
 use attributes::attributes_fault;
 use attributes::has_own;
