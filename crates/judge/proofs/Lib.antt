@@ -2,3 +2,4 @@ pub mod AttributeFaults
 pub mod ElementFaults
 pub mod Inputs
 pub mod Sides
+pub mod Crossing

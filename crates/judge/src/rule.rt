@@ -12,7 +12,7 @@ ghost use Rattle.element.specs.Tags.{Place, Tells, TagIn};
 ghost use Rattle.datatype.specs.Meaning.{kindMeant};
 ghost use Rattle.datatype.specs.Bounds.{sideMeant, endpointMeant};
 ghost use Rattle.datatype.specs.declared.bounds.Side.the-variants.{Low, High};
-ghost use Rattle.datatype.specs.Said.{saidMeant, saidNamed, endpointSaid};
+ghost use Rattle.datatype.specs.Said.{saidMeant, saidNamed, BoundsSaid, endpointSaid};
 use datatype::bounds::Endpoint;
 use datatype::bounds::Side;
 use datatype::kind::Kind;
@@ -68,23 +68,19 @@ fn breaks_side(s: &[u8], flag: usize, side: Side, said: Said) -> bool
 fn is_crossed(low: Said, high: Said) -> bool
     ensures { λ r. ⌜ r ≡ isCrossed (endpointSaid Low (saidMeant low)) (endpointSaid High (saidMeant high)) ⌝ }
 {
-    match low {
-        Said::Valued(l) => match high {
-            Said::Valued(h) => h.start < l.start,
-            Said::Below => false,
-            Said::Above => false,
-            Said::Nothing => false,
-        },
-        Said::Below => false,
-        Said::Above => false,
-        Said::Nothing => false,
-    }
+    let Said::Valued(l) = low else {
+        return false;
+    };
+    let Said::Valued(h) = high else {
+        return false;
+    };
+    h.start < l.start
 }
 
 // IVL_TS, by the places of its flags, left and right, and what its children say.
 fn breaks_interval(s: &[u8], left: usize, right: usize, low: Said, high: Said) -> bool
     requires { ⌜ left ≤ length (now s) ⌝ ∗ ⌜ right ≤ length (now s) ⌝ }
-    ensures { λ r. ⌜ ((shift : ℕ) (l : List Attribute) (kids : Nodes) → Place (now (s .entry)) (lookup (bytes "lowClosed") l) left → Place (now (s .entry)) (lookup (bytes "highClosed") l) right → saidMeant low ≡ saidNamed shift (bytes "low") kids → saidMeant high ≡ saidNamed shift (bytes "high") kids → r ≡ breaksInterval shift l kids) ⌝ }
+    ensures { λ r. ⌜ ((shift : ℕ) (l : List Attribute) (kids : Nodes) → Place (now (s .entry)) (lookup (bytes "lowClosed") l) left → Place (now (s .entry)) (lookup (bytes "highClosed") l) right → BoundsSaid shift kids low high → r ≡ breaksInterval shift l kids) ⌝ }
 {
     let first = breaks_side(s, left, Side::Low, low);
     let second = breaks_side(s, right, Side::High, high);
@@ -130,7 +126,7 @@ fn breaks_part(s: &[u8], null: bool, value: usize, qualifier: usize) -> bool
 // interval say.
 pub fn breaks(s: &[u8], tag: Tag, kind: Kind, any: bool, low: Said, high: Said) -> bool
     requires { ⌜ TagIn (now s) tag ⌝ }
-    ensures { λ r. ⌜ ((shift : ℕ) (l : List Attribute) (kids : Nodes) → Tells (now (s .entry)) l (tag .places) → any ≡ hasChildren kids → (kindMeant kind ≡ IVL-TS → (saidMeant low ≡ saidNamed shift (bytes "low") kids) × (saidMeant high ≡ saidNamed shift (bytes "high") kids)) → r ≡ lineOf (kindMeant kind) .invariant shift l kids) ⌝ }
+    ensures { λ r. ⌜ ((shift : ℕ) (l : List Attribute) (kids : Nodes) → Tells (now (s .entry)) l (tag .places) → any ≡ hasChildren kids → (kindMeant kind ≡ IVL-TS → BoundsSaid shift kids low high) → r ≡ lineOf (kindMeant kind) .invariant shift l kids) ⌝ }
 {
     let null = has(tag, NULL_FLAVOR);
     let value = has(tag, VALUE);

@@ -44,7 +44,7 @@ element-copy-out-breaks-interval-2 c = search needs
 
 -- src/rule.rt:135:24
 breaks-interval-requires : tie.Need-breaks-interval-requires
-breaks-interval-requires c κs = (omega (arith, c .before .before .before .before .before .before .before .pre .placed 3), omega (arith, c .before .before .before .before .before .before .before .pre .placed 4))
+breaks-interval-requires c κs = let in-text = c .before .before .before .before .before .before .before .pre .placed in (omega (arith, in-text 3), omega (arith, in-text 4))
 
 -- src/rule.rt:136:24
 enum-told-3 : tie.Need-enum-told-3
@@ -108,7 +108,7 @@ element-copy-out-breaks-part-2 c = search needs
 
 -- src/rule.rt:144:23
 breaks-part-requires : tie.Need-breaks-part-requires
-breaks-part-requires c κs = (omega (arith, c .before .before .before .before .before .before .before .pre .placed 0), omega (arith, c .before .before .before .before .before .before .before .pre .placed 13))
+breaks-part-requires c κs = let in-text = c .before .before .before .before .before .before .before .pre .placed in (omega (arith, in-text 0), omega (arith, in-text 13))
 
 -- src/rule.rt:127:1
 returns : tie.Need-returns
@@ -119,8 +119,8 @@ returns c = λ n l k t a d. rw (c .before .enum-told .given .1, c .exactly-one .
 returns-2 : tie.Need-returns-2
 unfolding lineOf
 returns-2 c = λ n l k t a d.
-    let (low, high) = d (ap kindMeant (c .before .before .before .enum-told2 .given .1)) in
-    rw (c .before .before .before .enum-told2 .given .1) (c .breaks-interval .ensures n l k (t .placed 3 (omega arith)) (t .placed 4 (omega arith)) low high)
+    let said = d (ap kindMeant (c .before .before .before .enum-told2 .given .1)) in
+    rw (c .before .before .before .enum-told2 .given .1) (c .breaks-interval .ensures n l k (t .placed 3 (omega arith)) (t .placed 4 (omega arith)) said)
 
 -- src/rule.rt:127:1
 returns-3 : tie.Need-returns-3
@@ -141,7 +141,9 @@ returns-5 c = λ n l k t a d. rw (c .enum-told5 .given .1)
 returns-6 : tie.Need-returns-6
 unfolding lineOf
 returns-6 c = λ n l k t a d.
-    rw (c .before .before .enum-told6 .given .1, c .exactly-one2 .ensures, c .before .before .before .before .before .has .ensures _ l t, c .before .before .before .before .has2 .ensures _ l t, c .before .has3 .ensures _ l t)
+    let null = c .before .before .before .before .before .has .ensures _ l t in
+    let value = c .before .before .before .before .has2 .ensures _ l t in
+    rw (c .before .before .enum-told6 .given .1, c .exactly-one2 .ensures, null, value, c .before .has3 .ensures _ l t)
 
 -- src/rule.rt:127:1
 returns-7 : tie.Need-returns-7
@@ -167,7 +169,8 @@ returns-10 c = λ n l k t a d. rw (c .enum-told10 .given .1)
 returns-11 : tie.Need-returns-11
 unfolding lineOf
 returns-11 c = λ n l k t a d.
-    rw (c .before .before .before .enum-told11 .given .1) (c .breaks-part .ensures n l k (c .before .before .before .before .before .before .has .ensures _ l t) (t .placed 0 (omega arith)) (t .placed 13 (omega arith)))
+    let null = c .before .before .before .before .before .before .has .ensures _ l t in
+    rw (c .before .before .before .enum-told11 .given .1) (c .breaks-part .ensures n l k null (t .placed 0 (omega arith)) (t .placed 13 (omega arith)))
 
 pub breaks-spec : {M : Type 1} → statement M
 breaks-spec =

@@ -28,7 +28,10 @@ has-requires-5 c κs = search needs
 
 -- src/rule.rt:91:1
 returns : tie.Need-returns
-returns c = λ s n l k t d. rw (c .before .before .before .before .has .ensures s l t, c .before .before .before .has2 .ensures s l t, c .before .before .has3 .ensures s l t, c .before .has4 .ensures s l t, c .has5 .ensures s l t, d)
+returns c = λ s n l k t d.
+    let code = c .before .before .before .before .has .ensures s l t in
+    let name = c .before .before .before .has2 .ensures s l t in
+    rw (code, name, c .before .before .has3 .ensures s l t, c .before .has4 .ensures s l t, c .has5 .ensures s l t, d)
 
 pub breaks-code-spec : {M : Type 1} → statement M
 breaks-code-spec =

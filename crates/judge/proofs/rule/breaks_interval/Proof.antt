@@ -23,8 +23,8 @@ is-crossed-requires c κs = search needs
 
 -- src/rule.rt:81:1
 returns : tie.Need-returns
-returns c = λ n l k p q h g.
-    rw (c .before .before .breaks-side .ensures n l k p h, c .before .breaks-side2 .ensures n l k q g, c .is-crossed .ensures, h, g, by-child n Low k .0, by-child n High k .0)
+returns c = λ n l k p q h.
+    rw (c .before .before .breaks-side .ensures n l k p (h .0), c .before .breaks-side2 .ensures n l k q (h .1), c .is-crossed .ensures, h .0, h .1, by-child n Low k .0, by-child n High k .0)
 
 pub breaks-interval-spec : {M : Type 1} → statement M
 breaks-interval-spec =
