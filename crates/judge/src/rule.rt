@@ -131,6 +131,7 @@ pub fn breaks(s: &[u8], tag: Tag, kind: Kind, any: bool, low: Said, high: Said) 
     let null = has(tag, NULL_FLAVOR);
     let value = has(tag, VALUE);
     match kind {
+        // Exactly one of value and nullFlavor.
         Kind::Ts => !exactly_one(value, null),
         Kind::IvlTs => breaks_interval(
             s,
@@ -142,7 +143,9 @@ pub fn breaks(s: &[u8], tag: Tag, kind: Kind, any: bool, low: Said, high: Said) 
         Kind::QsuTs => false,
         Kind::QsiTs => false,
         Kind::QsdTs => false,
+        // Value and currency, both or neither, neither only if null.
         Kind::Mo => exactly_one(value, has(tag, CURRENCY)) | (!value & !null),
+        // Root is required unless null.
         Kind::Ii => !has(tag, ROOT) & !null,
         Kind::Cd => breaks_code(tag, any),
         Kind::En => false,
