@@ -1,5 +1,6 @@
 -- What an element of a time says as a bound, in the words of the rules ("Types, after decoding the five references").
 use Prim.Native.Nat.{ℕ}
+use mathlib.Core.Path.{_≡_}
 use mathlib.Core.Bool.{Bool, true, false, cond}
 use mathlib.Core.List.{List}
 use mathlib.Core.Option.{Option, none}
@@ -53,7 +54,11 @@ timeFault shift attrs = valueFault shift (lookup (bytes "value") attrs)
 abbrev pub saidNamed : (shift : ℕ) → (name : List ℕ) → Nodes → Said
 saidNamed shift name kids = ifSome (childNamed name kids) (saidBy shift) nothing
 
--- what that is on a side
+-- what the children of an interval say
+abbrev pub BoundsSaid : (shift : ℕ) → Nodes → (low high : CodeSaid) → Type 0
+BoundsSaid shift kids l h = (saidMeant l ≡ saidNamed shift (bytes "low") kids) × (saidMeant h ≡ saidNamed shift (bytes "high") kids)
+
+-- what is said, on a side
 abbrev pub endpointSaid : Side → Said → Endpoint
 endpointSaid side (valued m) = isValued m
 endpointSaid Low below = infinite

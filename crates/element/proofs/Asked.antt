@@ -18,6 +18,10 @@ pub present : {s : List ℕ} {o : Option (List ℕ)} {q : ℕ} → Place s o q �
 present nowhere = refl
 present (stands q e v l h g r) = rw (ne-eqb q 0 (λ z. absurd (omega (arith, l, z))))
 
+pub missing : {s : List ℕ} {o : Option (List ℕ)} {q : ℕ} → Place s o q → eqb q 0 ≡ not (isSome o)
+missing nowhere = refl
+missing (stands q e v l h g r) = rw (ne-eqb q 0 (λ z. absurd (omega (arith, l, z))))
+
 pub absent : {s : List ℕ} {o : Option (List ℕ)} {q : ℕ} → Place s o q → q ≡ 0 → o ≡ none
 absent nowhere z = refl
 absent (stands q e v l h g r) z = absurd (omega (arith, l, z))

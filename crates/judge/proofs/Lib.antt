@@ -4,3 +4,4 @@ pub mod Inputs
 pub mod Sides
 pub mod Rowing
 pub mod Bounds
+pub mod Crossing

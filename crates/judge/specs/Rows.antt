@@ -7,18 +7,21 @@ use mathlib.Core.Logic.{_⊎_}
 use mathlib.Core.Option.{Option, none, some}
 use lib.Dec.{eqb, ltb}
 use lib.ListN.{drop}
-use Rattle.rules.specs.Basics.{ifSome, bytes}
+use Rattle.rules.specs.Basics.{ifSome}
 use Rattle.rules.specs.Refusal.{Refusal, SHAPE, RULE, earlier, firstOf, _when_}
 use Rattle.rules.specs.Markup.{Attribute, Nodes, end, node, Element}
 use Rattle.rules.specs.Invariants.{isNull, hasChildren}
 use Rattle.rules.specs.Types.{Kind, TS, IVL-TS, QSU-TS, QSI-TS, QSD-TS, MO, II, CD, EN, DisplayName, Part, lineOf}
 use Rattle.rules.specs.Judge.{Standing, kindOf, childFaults}
-use Rattle.refusal.specs.Meaning.{faultOf}
-use Rattle.datatype.specs.Tables.{Step, stepAmong}
-use Rattle.datatype.specs.Said.{Said, nothing, saidMeant, saidBy, saidNamed}
+use Rattle.refusal.specs.Meaning.{refusalOf, faultOf}
+use Rattle.datatype.specs.Meaning.{kindMeant}
+use Rattle.datatype.specs.Tables.{standingMeant, Step, stepAmong}
+use Rattle.datatype.specs.Said.{Said, nothing, saidMeant, saidBy, BoundsSaid}
 use Rattle.judge.specs.Faults.{judged, childJudged}
 use Rattle.judge.specs.declared.row.Judged.{Judged}
 use Rattle.judge.specs.declared.row.Row.{Row}
+use Rattle.judge.specs.declared.row.Asked.{Asked}
+use Rattle.judge.specs.declared.row.Asked.the-variants.{Judge, Refuse}
 
 -- what an element of a kind says as a bound: a time what it says, another nothing
 abbrev pub saidOf : Kind → (shift : ℕ) → List Attribute → Said
@@ -99,4 +102,10 @@ pub record RowAs (s : List ℕ) (shift : ℕ) (k : Kind) (v : Element) (after : 
   pub any : r .any ≡ hasChildren (v .kids)
   pub ends : after ≡ drop (r .end) s
   pub sides : Hides (faultOf (r .fault))
-      ⊎ (k ≡ IVL-TS → (saidMeant (r .low) ≡ saidNamed shift (bytes "low") (v .kids)) × (saidMeant (r .high) ≡ saidNamed shift (bytes "high") (v .kids)))
+      ⊎ (k ≡ IVL-TS → BoundsSaid shift (v .kids) (r .low) (r .high))
+
+-- what a child is judged as, by the step that it is: an element of a kind, where it stands; or it is refused, and nothing in it is judged
+abbrev pub AskedAs : (shift : ℕ) → Option Step → Element → Asked → Type 0
+AskedAs shift o v (Judge k p) =
+    (firstOf (childJudged shift o v) ≡ firstOf (judged shift (standingMeant p) (some (kindMeant k)) v)) × (childSaid shift o v ≡ saidOf (kindMeant k) shift (v .attrs))
+AskedAs shift o v (Refuse r) = (firstOf (childJudged shift o v) ≡ some (refusalOf r)) × (childSaid shift o v ≡ nothing)

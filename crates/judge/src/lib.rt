@@ -17,7 +17,10 @@ ghost use Rattle.judge.specs.Faults.{inputFaults, ownFaults, judged, chi
 
 mod attributes;
 mod invariant;
+mod carried;
+mod own;
 mod row;
+mod rule;
 
 use attributes::attributes_fault;
 use attributes::has_own;

@@ -1,23 +1,29 @@
 // Children judged one after another, and what is known of them so far.
 ghost use mathlib.Core.Path.{_≡_};
 ghost use mathlib.Core.List.{List};
+ghost use mathlib.Core.Option.{some};
 ghost use Prim.Native.Nat.{ℕ};
 ghost use Rattle.rules.specs.Basics.{ifSome};
 ghost use Rattle.rules.specs.Refusal.{firstOf, _when_};
-ghost use Rattle.rules.specs.Markup.{Attribute};
+ghost use Rattle.rules.specs.Markup.{Attribute, Element};
 ghost use Rattle.rules.specs.Invariants.{isNull};
 ghost use Rattle.refusal.specs.Meaning.{refusalOf, faultOf};
-ghost use Rattle.element.specs.Tags.{Tells};
+ghost use Rattle.rules.specs.Types.{typed};
+ghost use Rattle.element.specs.Tags.{Tells, TagIn};
 ghost use Rattle.datatype.specs.Meaning.{kindMeant};
 ghost use Rattle.datatype.specs.Tables.{stepMeant};
 ghost use Rattle.datatype.specs.Said.{saidMeant};
-ghost use Rattle.judge.specs.Rows.{rowMeant, beginning, withChild, Finished};
+ghost use Rattle.judge.specs.Rows.{rowMeant, beginning, withChild, Finished, AskedAs};
 use datatype::kind::Kind;
+use datatype::kind::Named;
+use datatype::kind::type_at;
 use datatype::rows::next_stage;
 use datatype::said::Said;
 use datatype::table::Next;
+use datatype::table::Standing;
 use datatype::table::enough;
 use element::name::NULL_FLAVOR;
+use element::name::XSI_TYPE;
 use element::tag::Tag;
 use element::tag::has;
 use refusal::Refusal;
@@ -40,6 +46,36 @@ pub struct Row {
     pub low: Said,
     pub high: Said,
     pub end: usize,
+}
+
+// What a child is judged as: an element of a kind, where it stands; or it is refused.
+pub enum Asked {
+    Judge(Kind, Standing),
+    Refuse(Refusal),
+}
+
+// What the member of a set is judged as, by the type that its tag names.
+fn member_asked(s: &[u8], tag: Tag) -> Asked
+    requires { ⌜ TagIn (now s) tag ⌝ }
+    ensures { λ r. ⌜ ((shift to : ℕ) (v : Element) → Tells (now (s .entry)) (v .attrs) (tag .places) → AskedAs shift (some (record { kind = typed; to = to })) v r) ⌝ }
+{
+    let named = type_at(s, tag.places[XSI_TYPE], false);
+    match named {
+        Named::Is(kind) => Asked::Judge(kind, Standing::Member),
+        Named::Nothing => Asked::Refuse(Refusal::Type),
+    }
+}
+
+// What a child is judged as, by its tag and the step that it is; one that is not allowed is SHAPE.
+pub fn child_asked(s: &[u8], tag: Tag, next: Next) -> Asked
+    requires { ⌜ TagIn (now s) tag ⌝ }
+    ensures { λ r. ⌜ ((shift : ℕ) (v : Element) → Tells (now (s .entry)) (v .attrs) (tag .places) → AskedAs shift (stepMeant next) v r) ⌝ }
+{
+    match next {
+        Next::Always(kind, _) => Asked::Judge(kind, Standing::Inside),
+        Next::Typed(_) => member_asked(s, tag),
+        Next::Nothing => Asked::Refuse(Refusal::Shape),
+    }
 }
 
 // A refusal, exactly if something is so.
