@@ -5,3 +5,4 @@ pub mod Sides
 pub mod Rowing
 pub mod Bounds
 pub mod Crossing
+pub mod Asking
