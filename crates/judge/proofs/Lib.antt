@@ -2,3 +2,8 @@ pub mod AttributeFaults
 pub mod ElementFaults
 pub mod Inputs
 pub mod Sides
+pub mod ByNumber
+pub mod Strange
+pub mod OwnColumns
+pub mod Carrying
+pub mod Required
