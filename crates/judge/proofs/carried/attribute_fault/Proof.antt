@@ -11,7 +11,10 @@ enum-told : tie.Need-enum-told
 enum-told c = search needs
 
 returns : tie.Need-returns
-returns c = λ l h t. rw (c .before .enum-told .given .1, c .if1 .taken) (t (ap kindMeant (c .before .enum-told .given .1)) ∙ time-at (c .before .before .before .before .args .shift) (standingMeant (c .before .before .before .before .args .standing)) l)
+returns c = λ l h t.
+    let a = c .before .before .before .before .args in
+    let z = c .before .enum-told .given .1 in
+    rw (z, c .if1 .taken) (t (ap kindMeant z) ∙ time-at (a .shift) (standingMeant (a .standing)) l)
 
 column-of-requires : tie.Need-column-of-requires
 column-of-requires c κs = search needs
@@ -24,7 +27,9 @@ enum-told-2 c = search needs
 
 returns-2 : tie.Need-returns-2
 returns-2 c = λ l h t.
-    shape-at (c .before .before .before .before .before .args .shift) (standingMeant (c .before .before .before .before .before .args .standing)) (kindMeant (c .before .before .before .before .before .args .kind)) (c .before .before .before .before .before .args .n) (c .before .before .before .before .before .pre .0) l h (c .before .before .before .before .before .pre .1 .0)
+    let a = c .before .before .before .before .before .args in
+    let p = c .before .before .before .before .before .pre in
+    shape-at (a .shift) (standingMeant (a .standing)) (kindMeant (a .kind)) (a .n) (p .0) l h (p .1 .0)
     (sym (c .before .before .column-of .ensures) ∙ ap formMeant (c .enum-told2 .given .1))
 
 text-fault-requires : tie.Need-text-fault-requires
@@ -32,7 +37,9 @@ text-fault-requires c κs = search needs
 
 returns-3 : tie.Need-returns-3
 returns-3 c = λ l h t.
-    form-at (c .before .before .before .before .before .before .before .args .shift) (standingMeant (c .before .before .before .before .before .before .before .args .standing)) (kindMeant (c .before .before .before .before .before .before .before .args .kind)) (c .before .before .before .before .before .before .before .args .n) (c .before .before .before .before .before .before .before .pre .0) l h (c .before .before .before .before .before .before .before .pre .1 .0)
+    let a = c .before .before .before .before .before .before .before .args in
+    let p = c .before .before .before .before .before .before .before .pre in
+    form-at (a .shift) (standingMeant (a .standing)) (kindMeant (a .kind)) (a .n) (p .0) l h (p .1 .0)
     (sym (c .before .before .before .before .column-of .ensures) ∙ ap formMeant (c .before .before .column .given .1)) (c .text-fault .ensures)
 
 pub attribute-fault-spec : {M : Type 1} → statement M

@@ -46,7 +46,8 @@ element-copy-out-place : tie.Need-element-copy-out-place Inv-loop μ-loop
 element-copy-out-place c = omega (arith, c .loop-test .taken)
 
 attribute-fault-requires : tie.Need-attribute-fault-requires Inv-loop μ-loop
-attribute-fault-requires c κs = let q = c .before .before .before .before .before .before .pre .0 .placed (c .before .before .before .loop .n) in
+attribute-fault-requires c κs =
+    let q = c .before .before .before .before .before .before .pre .0 .placed (c .before .before .before .loop .n) in
     (c .before .before .loop-test .taken, (omega (arith, c .if1 .taken), (omega (arith, q, c .if1 .taken), c .before .before .before .before .before .before .pre .1)))
 
 first-requires : tie.Need-first-requires Inv-loop μ-loop
@@ -59,20 +60,25 @@ loop-less : tie.Need-loop-less Inv-loop μ-loop
 loop-less c = omega (arith, c .before .before .loop-test .taken)
 
 loop-again : tie.Need-loop-again Inv-loop μ-loop
-loop-again c = (omega (arith, c .before .before .loop-test .taken), λ l t h.
-    let n = c .before .before .before .loop .n in
-    let f = attributeFaults (c .before .before .before .before .before .before .args .shift) (standingMeant (c .before .before .before .before .before .before .args .standing)) (kindMeant (c .before .before .before .before .before .before .args .kind)) in
-    let at = t .placed n (c .before .before .loop-test .taken) in
-    let o = faultOf (c .before .before .before .before .others-fault .result) in
-    let i = c .before .before .before .loop .inv .1 l t h in
-    ⊎-elim
-        (λ w. rw (w .3) (below-more f l n o i (w .1 .ensures l at h) (w .2 .ensures)))
-        (λ w. rw (w .1) (below-none f l n o i (absent at (w .0 .left))))
-        (c .if1 .came))
+loop-again c = (
+  omega (arith, c .before .before .loop-test .taken),
+  λ l t h.
+      let n = c .before .before .before .loop .n in
+      let a = c .before .before .before .before .before .before .args in
+      let f = attributeFaults (a .shift) (standingMeant (a .standing)) (kindMeant (a .kind)) in
+      let at = t .placed n (c .before .before .loop-test .taken) in
+      let o = faultOf (c .before .before .before .before .others-fault .result) in
+      let i = c .before .before .before .loop .inv .1 l t h in
+      ⊎-elim
+      (λ w. rw (w .3) (below-more f l n o i (w .1 .ensures l at h) (w .2 .ensures)))
+      (λ w. rw (w .1) (below-none f l n o i (absent at (w .0 .left))))
+      (c .if1 .came),
+)
 
 returns : tie.Need-returns Inv-loop μ-loop
 returns c = λ d v after t h.
-    all-judged (c .before .before .before .before .args .shift) (standingMeant (c .before .before .before .before .args .standing)) (kindMeant (c .before .before .before .before .args .kind)) (v .attrs) (t .distinct)
+    let a = c .before .before .before .before .args in
+    all-judged (a .shift) (standingMeant (a .standing)) (kindMeant (a .kind)) (v .attrs) (t .distinct)
     (omega (arith, c .loop-test .left, c .before .loop .inv .0)) (c .before .before .others-fault .ensures (v .attrs) (t .others) (t .spaces)) (c .before .loop .inv .1 (v .attrs) (t .tells) h)
 
 pub attributes-fault-spec : {M : Type 1} → statement M

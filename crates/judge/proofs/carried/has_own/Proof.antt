@@ -42,8 +42,9 @@ returns : tie.Need-returns Inv-loop μ-loop
 returns c = λ s l t.
     let n = c .before .before .before .before .before .loop .n in
     let k = kindMeant (c .before .before .before .before .before .before .args .kind) in
-    let e = own-told k l n (c .before .before .before .own-column .ensures) (c .before .before .is-column .ensures) (t .placed n (c .before .before .before .before .loop-test .taken)) (c .if1 .taken) in
-    sym (own-found k l n (c .before .before .before .before .loop-test .taken) e) ∙ c .before .before .before .before .before .loop .inv .1 s l t
+    let h = c .before .before .before .before .loop-test .taken in
+    let e = own-told k l n (c .before .before .before .own-column .ensures) (c .before .before .is-column .ensures) (t .placed n h) (c .if1 .taken) in
+    sym (own-found k l n h e) ∙ c .before .before .before .before .before .loop .inv .1 s l t
 
 add-n : tie.Need-add-n Inv-loop μ-loop
 add-n c = omega (arith, c .before .before .before .before .loop-test .taken)
@@ -52,11 +53,15 @@ loop-less : tie.Need-loop-less Inv-loop μ-loop
 loop-less c = omega (arith, c .before .before .before .before .loop-test .taken)
 
 loop-again : tie.Need-loop-again Inv-loop μ-loop
-loop-again c = (omega (arith, c .before .before .before .before .loop-test .taken), λ s l t.
-    let n = c .before .before .before .before .before .loop .n in
-    let k = kindMeant (c .before .before .before .before .before .before .args .kind) in
-    let e = own-told k l n (c .before .before .before .own-column .ensures) (c .before .before .is-column .ensures) (t .placed n (c .before .before .before .before .loop-test .taken)) (c .if1 .left) in
-    sym (own-passed k l n (c .before .before .before .before .loop-test .taken) e) ∙ c .before .before .before .before .before .loop .inv .1 s l t)
+loop-again c = (
+  omega (arith, c .before .before .before .before .loop-test .taken),
+  λ s l t.
+      let n = c .before .before .before .before .before .loop .n in
+      let k = kindMeant (c .before .before .before .before .before .before .args .kind) in
+      let h = c .before .before .before .before .loop-test .taken in
+      let e = own-told k l n (c .before .before .before .own-column .ensures) (c .before .before .is-column .ensures) (t .placed n h) (c .if1 .left) in
+      sym (own-passed k l n h e) ∙ c .before .before .before .before .before .loop .inv .1 s l t,
+)
 
 returns-2 : tie.Need-returns-2 Inv-loop μ-loop
 returns-2 c = λ s l t. sym (own-end (kindMeant (c .before .before .args .kind)) l (c .before .loop .n) (c .loop-test .left)) ∙ c .before .loop .inv .1 s l t
