@@ -6,3 +6,8 @@ pub mod Rowing
 pub mod Bounds
 pub mod Crossing
 pub mod Asking
+pub mod ByNumber
+pub mod Strange
+pub mod OwnColumns
+pub mod Carrying
+pub mod Required

@@ -16,6 +16,7 @@ ghost use Rattle.datatype.specs.Tables.{standingMeant, stepMeant};
 ghost use Rattle.judge.specs.Faults.{inputFaults, ownFaults, judged, childJudged, ChildFaultsFrom};
 
 mod attributes;
+mod carried;
 mod invariant;
 mod carried;
 mod own;
