@@ -1,7 +1,6 @@
 pub mod AttributeFaults
 pub mod ElementFaults
 pub mod Inputs
-pub mod Sides
 pub mod Rowing
 pub mod Bounds
 pub mod Crossing
@@ -11,3 +10,6 @@ pub mod Strange
 pub mod OwnColumns
 pub mod Carrying
 pub mod Required
+pub mod Times
+pub mod Together
+pub mod Walking

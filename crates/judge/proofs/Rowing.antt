@@ -56,7 +56,7 @@ row-any shift k j (node n attrs kids rest) = go (hasChildren rest) (row-any shif
     go false e = e
 
 -- a fault before RULE stays one
-hides-more : (o p : Option Refusal) → Hides o → Hides (earlier o p)
+pub hides-more : (o p : Option Refusal) → Hides o → Hides (earlier o p)
 hides-more o p h = earlier-assoc o p (some RULE) ∙ ap (earlier o) (earlier-comm p (some RULE)) ∙ sym (earlier-assoc o (some RULE) p) ∙ ap (λ (x : Option Refusal). earlier x p) h
 
 pub shape-hides : (o : Option Refusal) → Hides (earlier o (firstOf (SHAPE ∷ [])))

@@ -13,7 +13,7 @@ use Rattle.rules.specs.Markup.{Attribute, isDistinct}
 use Rattle.rules.specs.Types.{Kind, TS, IVL-TS, QSU-TS, QSI-TS, QSD-TS, MO, II, CD, EN, DisplayName, Part, Column, lineOf}
 use Rattle.rules.specs.Judge.{Standing, top, member, inside, isTop, attributeFaults, typeColumns, nullColumns}
 use Rattle.rules.proofs.Tests.{clash, passes, passed, every-true, every-append, same-true}
-use Rattle.element.specs.Names.{known, nameAt, placeAmong, numberOf, isKnown}
+use Rattle.element.specs.Names.{known, nameAt, numberFrom, numberOf, isKnown}
 use Rattle.element.specs.Tags.{count, isNamespace, isOther}
 use Rattle.element.proofs.Numbers.{number-name}
 use Rattle.datatype.specs.Tables.{formAmong, columnsOf}
@@ -32,7 +32,7 @@ plain n h = go (begins (bytes "xmlns") (nameAt n)) (passed known (λ k. not (beg
 
 -- every column of a line has a known name
 known-columns : (p : Standing) (k : Kind) → every (λ c. isKnown (c .name)) (columnsOf p k) ≡ true
-unfolding every placeAmong same lineOf
+unfolding every numberFrom same lineOf
 known-columns p k =
     let (n, o) = own k in
     every-append (λ c. isKnown (c .name)) (typeColumns p ++ nullColumns k) (lineOf k .columns) (every-append (λ c. isKnown (c .name)) (typeColumns p) (nullColumns k) (typed p) n) o

@@ -18,7 +18,7 @@ ghost use Rattle.datatype.specs.Meaning.{kindMeant};
 ghost use Rattle.datatype.specs.Tables.{standingMeant, formMeant};
 ghost use Rattle.datatype.specs.Said.{timeFault};
 ghost use Rattle.judge.specs.Carried.{faultAt, isStrange};
-use crate::refused_if;
+use crate::row::refused_if;
 use datatype::columns::column_of;
 use datatype::columns::own_column;
 use datatype::kind::Kind;

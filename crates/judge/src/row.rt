@@ -8,15 +8,16 @@ ghost use Rattle.rules.specs.Refusal.{firstOf, _when_};
 ghost use Rattle.rules.specs.Markup.{Attribute, Element};
 ghost use Rattle.rules.specs.Invariants.{isNull};
 ghost use Rattle.refusal.specs.Meaning.{refusalOf, faultOf};
-ghost use Rattle.rules.specs.Types.{typed};
-ghost use Rattle.element.specs.Tags.{Tells, TagIn};
+ghost use Rattle.rules.specs.Types.{typed, lineOf};
+ghost use Rattle.element.specs.Tags.{Tells, TagOf, TagIn};
 ghost use Rattle.datatype.specs.Meaning.{kindMeant};
-ghost use Rattle.datatype.specs.Tables.{stepMeant};
+ghost use Rattle.datatype.specs.Tables.{stepMeant, stepAmong};
 ghost use Rattle.datatype.specs.Said.{saidMeant};
 ghost use Rattle.judge.specs.Rows.{rowMeant, beginning, withChild, Finished, AskedAs};
 use datatype::kind::Kind;
 use datatype::kind::Named;
 use datatype::kind::type_at;
+use datatype::rows::next_child;
 use datatype::rows::next_stage;
 use datatype::said::Said;
 use datatype::table::Next;
@@ -76,6 +77,16 @@ pub fn child_asked(s: &[u8], tag: Tag, next: Next) -> Asked
         Next::Typed(_) => member_asked(s, tag),
         Next::Nothing => Asked::Refuse(Refusal::Shape),
     }
+}
+
+// The step that a row of children of an element of a kind takes with the child of a tag.
+pub fn step_of(s: &[u8], tag: Tag, kind: Kind, stage: u64) -> Next
+    requires { ⌜ TagIn (now s) tag ⌝ }
+    ensures { λ r. ⌜ ((depth : ℕ) (v : Element) (after : List ℕ) → TagOf (now (s .entry)) depth v after tag → stepMeant r ≡ stepAmong (lineOf (kindMeant kind) .children) stage (v .name)) ⌝ }
+{
+    let from = tag.name;
+    let to = tag.past;
+    next_child(&s[from..to], kind, stage)
 }
 
 // A refusal, exactly if something is so.

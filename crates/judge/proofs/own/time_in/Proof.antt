@@ -1,3 +1,4 @@
+use Rattle.judge.proofs.Times.{no-time}
 use mathlib.Core.Path.{refl}
 use borrow.Author.Needs.{needs}
 use Rattle.judge.proofs.own.time_in.Statement.{statement}
@@ -20,7 +21,7 @@ returns c = λ l t. let (a, b) = c .time-of .ensures l t in (λ e. a, rw (c .bef
 
 -- src/own.rt:38:1
 returns-2 : tie.Need-returns-2
-returns-2 c = c .match .keys2
+returns-2 c = λ l t. no-time (c .before .before .args .shift) l (c .before .before .args .kind) (c .match .keys2)
 
 pub time-in-spec : {M : Type 1} → statement M
 time-in-spec = tie.close (tie.spec enum-told time-of-requires returns returns-2)

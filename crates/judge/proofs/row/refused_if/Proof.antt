@@ -1,3 +1,4 @@
+use borrow.Author.Needs.{needs}
 use Rattle.rules.specs.Refusal.{firstOf}
 use Rattle.judge.proofs.row.refused_if.Statement.{statement}
 use Rattle.judge.proofs.row.refused_if.Tie as tie
