@@ -6,7 +6,8 @@ use mathlib.Core.List.{List}
 use mathlib.Core.Logic.{_⊎_, inl, inr}
 use mathlib.Core.Option.{Option}
 use native.Mathlib.Omega.{arith}
-use lib.Dec.{ltb}
+use borrow.Author.Tests.{ne-eqb, eqb-false, not-true}
+use lib.Dec.{eqb, ltb}
 use lib.ListN.{length, take, drop}
 use Rattle.rules.specs.Basics.{ifSome}
 use Rattle.rules.specs.Refusal.{Refusal, SHAPE, earlier, firstOf, _when_}
@@ -14,16 +15,24 @@ use Rattle.rules.specs.Parsers.{ok}
 use Rattle.rules.specs.Markup.{Nodes, end, node, Element, space, endTag}
 use Rattle.rules.specs.Invariants.{isNull, hasChildren}
 use Rattle.rules.specs.Types.{Kind, IVL-TS, lineOf}
-use Rattle.rules.proofs.Tests.{clash}
+use Rattle.rules.proofs.Tests.{clash, both-true}
 use Rattle.text.specs.Reads.{Good}
 use Rattle.refusal.specs.Meaning.{faultOf}
 use Rattle.element.specs.Tags.{ElementTo, RowTo, Inner, empty, full, TagOf}
 use Rattle.element.specs.Rows.{isChild, RowSteps, row-ends, row-goes}
 use Rattle.element.proofs.Rows.{row-steps}
 use Rattle.element.specs.declared.tag.Tag.{Tag}
-use Rattle.datatype.specs.Tables.{Step, stepAmong}
+use Rattle.datatype.specs.Tables.{standingMeant, Step, stepAmong}
 use Rattle.datatype.specs.Said.{saidMeant, BoundsSaid}
-use Rattle.judge.specs.Rows.{Judging, rowMeant, beginning, withChild, rowAfter, Finished, ChildAs, Hides, RowAs}
+use Rattle.datatype.specs.Meaning.{kindMeant}
+use Rattle.datatype.specs.declared.kind.Kind.{Kind as CodeKind}
+use Rattle.datatype.specs.declared.table.Standing.{Standing as CodeStanding}
+use Rattle.datatype.specs.declared.said.Said.the-variants.{Nothing}
+use Rattle.refusal.specs.declared.Refusal.{Refusal as CodeRefusal}
+use Rattle.refusal.specs.declared.Verdict.the-variants.{Refused}
+use Rattle.judge.specs.declared.row.Asked.{Asked}
+use Rattle.judge.specs.declared.row.Asked.the-variants.{Judge, Refuse}
+use Rattle.judge.specs.Rows.{AskedAs, JudgedAs, Judging, rowMeant, beginning, withChild, rowAfter, Finished, ChildAs, Hides, RowAs}
 use Rattle.judge.specs.Faults.{childJudged}
 use Rattle.judge.specs.declared.row.Judged.{Judged}
 use Rattle.judge.specs.declared.row.Row.{Row}
@@ -106,3 +115,25 @@ module _ {s : List ℕ} (shift : ℕ) (k : Kind) (depth : ℕ) (t : Tag) (row : 
       go : (l : Nodes) → rowAfter shift k (rowMeant row) l ≡ rowAfter shift k beginning (v .kids) → (b : Bool) → b ≡ false → RowSteps s (v .name) depth i after l b → RowAs s shift k v after r
       go l q true z y = clash (cc)
       go l q false z (row-ends c y) = judged-row shift k v after row e r (finished v after x) q (past c after (rw (← x .named) y))
+
+-- an element without content
+pub judged-none : {s : List ℕ} (shift : ℕ) (k : Kind) {depth : ℕ} (t : Tag) (v : Element) (after : List ℕ) (row r : Row) → (t .full && not (eqb depth 0)) ≡ false → TagOf s depth v after t
+    → rowMeant row ≡ beginning → Finished (isNull (v .attrs)) k row (t .end) r → RowAs s shift k v after r
+unfolding rowAfter
+judged-none {s} shift k {depth} t v after row r z x q f = let (a, b) = go (v .kids) (t .full) z (x .inner) in judged-row shift k v after row (t .end) r f (q ∙ ap (rowAfter shift k beginning) (sym a)) b
+  where
+    go : (l : Nodes) (b : Bool) → (b && not (eqb depth 0)) ≡ false → Inner s (depth - 1) (v .name) (t .end) after l b → (l ≡ end) × (after ≡ drop (t .end) s)
+    go l false z (empty q) = (refl, q)
+    go l true z (full m y) = clash (cc (z, ne-eqb depth 0 (λ e. absurd (omega (arith, e, x .deep)))))
+
+-- a child, by what it is judged as
+module _ {s : List ℕ} {shift : ℕ} {o : Option Step} {v : Element} {after : List ℕ} {a : Asked} (h : AskedAs shift o v a) where
+  pub child-judged : (k : CodeKind) (p : CodeStanding) → a ≡ Judge k p → (r : Judged) → JudgedAs s shift (standingMeant p) (kindMeant k) v after r → ChildAs s shift o v after r
+  child-judged k p z r x = let (e, f) = subst (AskedAs shift o v) z h in record { fault = x .fault ∙ sym e; said = x .said ∙ sym f; ends = x .ends }
+
+  pub child-refused : (q : CodeRefusal) → a ≡ Refuse q → (e : ℕ) → after ≡ drop e s → ChildAs s shift o v after (record { fault = Refused q; said = Nothing; end = e })
+  child-refused q z e x = let (f, g) = subst (AskedAs shift o v) z h in record { fault = sym f; said = sym g; ends = x }
+
+-- an element with content is one that may be open
+pub deeper : (b : Bool) (depth : ℕ) → (b && not (eqb depth 0)) ≡ true → 1 ≤ depth
+deeper b depth z = let d = eqb-false depth 0 (not-true (eqb depth 0) (both-true b (not (eqb depth 0)) z .1)) in omega (arith, d)

@@ -146,7 +146,7 @@ pub fn with_child(row: Row, next: Next, child: Judged) -> Row
 
 // A row at its end, which is at a position, of the element of a tag.
 pub fn finish(tag: Tag, kind: Kind, row: Row, at: usize) -> Row
-    ensures { λ r. ⌜ ((s : List ℕ) (l : List Attribute) → Tells s l (tag .places) → Finished (isNull l) (kindMeant kind) row at r) ⌝ }
+    ensures { λ r. ⌜ (r .end ≡ at) × ((s : List ℕ) (l : List Attribute) → Tells s l (tag .places) → Finished (isNull l) (kindMeant kind) row at r) ⌝ }
 {
     let null = has(tag, NULL_FLAVOR);
     let before = row.fault;

@@ -28,7 +28,7 @@ first-requires c κs = search needs
 -- src/row.rt:101:1
 returns : tie.Need-returns
 returns c =
-    λ s l t. record { fault = rw (c .first .ensures, c .before .refused-if .ensures, c .before .before .before .enough .ensures, c .before .before .before .before .has .ensures s l t); any = refl; low = refl; high = refl; end = refl }
+    (refl, λ s l t. record { fault = rw (c .first .ensures, c .before .refused-if .ensures, c .before .before .before .enough .ensures, c .before .before .before .before .has .ensures s l t); any = refl; low = refl; high = refl; end = refl })
 
 pub finish-spec : {M : Type 1} → statement M
 finish-spec =
