@@ -13,3 +13,4 @@ pub mod Required
 pub mod Times
 pub mod Together
 pub mod Walking
+pub mod Checking

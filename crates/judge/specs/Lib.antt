@@ -1,3 +1,4 @@
+pub mod Carried
+pub mod Checks
 pub mod Faults
 pub mod Rows
-pub mod Carried

@@ -1,22 +1,14 @@
 // The faults of a record: each of its elements judged by the table of types, each start tag read once. The first on the ladder is given.
 ghost use mathlib.Core.Path.{_≡_};
-ghost use mathlib.Core.Bool.{true, false};
+ghost use mathlib.Core.Bool.{true};
 ghost use mathlib.Core.List.{List};
-ghost use mathlib.Core.Option.{some};
 ghost use Prim.Native.Nat.{ℕ, suc, _≤_};
 ghost use lib.ListN.{length};
-ghost use Rattle.rules.specs.Refusal.{firstOf};
-ghost use Rattle.rules.specs.Markup.{Element, document};
-ghost use Rattle.rules.specs.Types.{Kind as RulesKind, allTypes, typeAmong};
-ghost use Rattle.rules.specs.Judge.{topFaults};
-ghost use Rattle.rules.specs.Utf8.{isUtf8};
-ghost use Rattle.rules.specs.Check.{isTooLong};
-ghost use Rattle.refusal.specs.Meaning.{faultOf};
+ghost use Rattle.rules.specs.Markup.{Element};
 ghost use Rattle.element.specs.Tags.{TagOf, TagIn};
 ghost use Rattle.datatype.specs.Meaning.{kindMeant};
 ghost use Rattle.datatype.specs.Tables.{standingMeant, stepMeant};
-ghost use Rattle.datatype.specs.Records.{RecordOf};
-ghost use Rattle.judge.specs.Faults.{inputFaults};
+ghost use Rattle.judge.specs.Checks.{RefusedAs, DocumentAs, CheckedAs};
 ghost use Rattle.judge.specs.Rows.{JudgedAs, ChildAs, RowAs};
 
 mod carried;
@@ -109,4 +101,70 @@ fn judge_child(s: &[u8], tag: Tag, depth: usize, next: Next, shift: u64) -> Judg
             end: past_element(s, tag, depth),
         },
     }
+}
+
+// A record checked: its first fault, and what it is held as.
+pub struct Checked {
+    pub fault: Verdict,
+    pub record: Record,
+}
+
+// A refusal where no record can be held.
+fn refused(refusal: Refusal) -> Checked
+    ensures { λ r. ⌜ RefusedAs refusal r ⌝ }
+{
+    let tag = Tag {
+        places: [0; KNOWN],
+        others: 0,
+        spaces: 0,
+        name: 0,
+        past: 0,
+        end: 0,
+        full: false,
+    };
+    let record = Record {
+        kind: Kind::Ts,
+        tag,
+    };
+    Checked {
+        fault: Verdict::Refused(refusal),
+        record,
+    }
+}
+
+// A document checked; `shift` is 840 less the agreed offset in minutes.
+fn check_document(s: &[u8], shift: u64) -> Checked
+    requires { ⌜ shift ≤ 1680 ⌝ }
+    ensures { λ r. ⌜ DocumentAs (now (s .entry)) shift r ⌝ }
+{
+    let at = element::root(s);
+    let tag = tag::read(s, at);
+    let named = type_at(s, tag.places[XSI_TYPE], true);
+    let Named::Is(kind) = named else {
+        return refused(Refusal::Type);
+    };
+    let judged = judge_element(s, tag, DEPTH, kind, Standing::Top, shift);
+    let fault = judged.fault;
+    let record = Record { kind, tag };
+    Checked { fault, record }
+}
+
+// The longest record that is read, in bytes.
+const MOST: usize = 16_384;
+
+// Any bytes checked as a record; `shift` is 840 less the agreed offset in minutes.
+pub fn check(input: &[u8], shift: u64) -> Checked
+    requires { ⌜ shift ≤ 1680 ⌝ }
+    ensures { λ r. ⌜ CheckedAs (now (input .entry)) shift r ⌝ }
+{
+    if MOST < input.len() {
+        return refused(Refusal::TooLong);
+    }
+    if !text::is_utf8(input) {
+        return refused(Refusal::NotUtf8);
+    }
+    if !markup::is_document(input) {
+        return refused(Refusal::Markup);
+    }
+    check_document(input, shift)
 }
