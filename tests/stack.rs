@@ -237,6 +237,8 @@ fn long_records() -> Vec<Input> {
         input("tags without an end", filled("", "<a>", "")),
         input("white space", filled("<t xsi:type=\"TS\"", " ", "value=\"2024\"/>")),
         input("many attributes", format!("<t xsi:type=\"TS\"{attributes}/>")),
+        input("many attributes at the eighth level", format!("{deep}<t{attributes}/>{end}")),
+        input("a name twice at the eighth level", format!("{deep}<t{attributes} a0000=\"\"/>{end}")),
         input("a long name", filled("<", "a", "/>")),
         input("a long attribute's name", filled("<t xsi:type=\"TS\" ", "a", "=\"\"/>")),
     ]
