@@ -18,12 +18,49 @@ fn wide(c: u8) -> usize
 }
 
 // The slot of a name, one of 64, by its first byte, its last byte and its length. The names that the types have are in slots of their own.
-pub fn slot(name: &[u8]) -> usize
+fn slot(name: &[u8]) -> usize
     requires { ⌜ 1 ≤ length (now name) ⌝ }
     ensures { λ r. ⌜ (r ≡ slotOf (now (name .entry))) × (r < 64) ⌝ }
 {
     let last = name.len() - 1;
     (wide(name[0]) + 3 * wide(name[last]) + 2 * (last % 64)) % 64
+}
+
+// What slots or marks tell of the attributes from a position on: the answer on them, or nothing.
+pub enum Told {
+    Sure(Read),
+    Unsure,
+}
+
+// The end of the attributes that stand from a position on, each name once, as far as slots tell: names in different slots are different,
+// so where each is the first in its slot none need be compared.
+pub fn read_by_slots(s: &[u8], at: usize) -> Told
+    requires { ⌜ at ≤ length (now s) ⌝ }
+    ensures { λ r. ⌜ ToldAt (now (s .entry)) at r ⌝ }
+{
+    let mut taken: [bool; 64] = [false; 64];
+    let mut i = at;
+    loop {
+        let gap = read_some_space(s, i);
+        let Read::At(j) = gap else {
+            return Told::Sure(Read::At(i));
+        };
+        let parts = read_attribute(s, j);
+        let Parts::Attribute {
+            name_end,
+            value: _,
+            end,
+        } = parts
+        else {
+            return Told::Sure(Read::At(i));
+        };
+        let k = slot(&s[j..name_end]);
+        if taken[k] {
+            return Told::Unsure;
+        }
+        taken[k] = true;
+        i = end;
+    }
 }
 
 // A number under 1,048,576 made of such a number and a byte.
@@ -119,14 +156,8 @@ fn is_before(s: &[u8], at: usize, until: usize, name: &[u8]) -> bool
     false
 }
 
-// What a table tells of the attributes from a position on: the answer on them; or nothing, since there are more than it has places.
-pub enum Told {
-    Sure(Read),
-    Unsure,
-}
-
-// The end of the attributes that stand from a position on, each name once. The marks of the names are put in a table, which has places for
-// more names than 16,384 bytes hold; a name whose mark is there already is looked for among those before it.
+// The end of the attributes that stand from a position on, each name once, as far as a table of marks has places, which are more than
+// there are names in 16,384 bytes. A name whose mark is there already is looked for among those before it.
 pub fn read_by_table(s: &[u8], at: usize) -> Told
     requires { ⌜ at ≤ length (now s) ⌝ }
     ensures { λ r. ⌜ ToldAt (now (s .entry)) at r ⌝ }

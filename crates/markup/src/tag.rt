@@ -6,8 +6,8 @@ ghost use Rattle.text.specs.Reads.{Reads};
 ghost use Rattle.markup.specs.Attributes.{PartsAt, Answers};
 ghost use Rattle.markup.specs.Tags.{HeadAt, TagAt};
 use crate::marks::Told;
+use crate::marks::read_by_slots;
 use crate::marks::read_by_table;
-use crate::marks::slot;
 use crate::scan::read_byte;
 use crate::scan::read_literal;
 use crate::scan::read_name;
@@ -130,34 +130,15 @@ fn read_with_care(s: &[u8], at: usize) -> Read
     }
 }
 
-// The end of the attributes that stand from a position on, each name once. Names in different slots are different, so as long as each
-// name is the first in its slot, none need be compared.
+// The end of the attributes that stand from a position on, each name once.
 pub fn read_attributes(s: &[u8], at: usize) -> Read
     requires { ⌜ at ≤ length (now s) ⌝ }
     ensures { λ r. ⌜ Reads 0 tagAttributes (now (s .entry)) at r ⌝ }
 {
-    let mut taken: [bool; 64] = [false; 64];
-    let mut i = at;
-    loop {
-        let gap = read_some_space(s, i);
-        let Read::At(j) = gap else {
-            return Read::At(i);
-        };
-        let parts = read_attribute(s, j);
-        let Parts::Attribute {
-            name_end,
-            value: _,
-            end,
-        } = parts
-        else {
-            return Read::At(i);
-        };
-        let k = slot(&s[j..name_end]);
-        if taken[k] {
-            return read_with_care(s, at);
-        }
-        taken[k] = true;
-        i = end;
+    let told = read_by_slots(s, at);
+    match told {
+        Told::Sure(r) => r,
+        Told::Unsure => read_with_care(s, at),
     }
 }
 
