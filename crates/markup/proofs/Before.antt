@@ -1,12 +1,12 @@
 -- The names of the attributes from a position up to another: the search for a name among them.
-use Prim.Native.Nat.{ℕ, zero, _-_, _≤_, _<_}
+use Prim.Native.Nat.{ℕ, _-_, _≤_, _<_}
 use mathlib.Core.Path.{_≡_, refl, sym, _∙_, ap}
 use mathlib.Core.Bool.{Bool, true, false}
 use mathlib.Core.List.{List, [], _∷_, _++_}
 use native.Mathlib.Omega.{arith}
 use lib.ListN.{length, take, drop, length-drop}
 use Rattle.rules.specs.Basics.{same}
-use Rattle.rules.specs.Parsers.{Parsed, ok}
+use Rattle.rules.specs.Parsers.{Parsed}
 use Rattle.rules.specs.Markup.{Attribute as RulesAttribute, someSpace, attribute, attributes}
 use Rattle.rules.proofs.Tests.{clash}
 use Rattle.text.specs.Reads.{Good}

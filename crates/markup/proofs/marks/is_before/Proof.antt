@@ -57,8 +57,9 @@ enum-told-2 c = search needs
 -- src/marks.rt:112:13
 returns-2 : tie.Need-returns-2 Inv-loop μ-loop
 returns-2 c =
-    let g = found (c .before .before .before .before .gap .given .1) (c .before .before .before .before .before .before .read-some-space .ensures) in
-    c .before .before .before .before .before .before .before .before .loop .inv .1 _ (tells-stop _ (stops-attribute g (parts-none (c .enum-told2 .given .1) (c .before .before .read-attribute .ensures))))
+    let d = c .before .before .before .before in
+    let g = found (d .gap .given .1) (d .before .before .read-some-space .ensures) in
+    d .before .before .before .before .loop .inv .1 _ (tells-stop _ (stops-attribute g (parts-none (c .enum-told2 .given .1) (c .before .before .read-attribute .ensures))))
 
 -- src/marks.rt:114:32
 sub-is-same : tie.Need-sub-is-same Inv-loop μ-loop
@@ -81,23 +82,28 @@ is-same-requires c κs = search needs
 -- src/marks.rt:115:13
 returns-3 : tie.Need-returns-3 Inv-loop μ-loop
 returns-3 c =
-    let g = found (c .before .before .before .before .before .before .before .before .gap .given .1) (c .before .before .before .before .before .before .before .before .before .before .read-some-space .ensures) in
-    let a = parts-found (c .before .before .before .before .parts .given .1) (c .before .before .before .before .before .before .read-attribute .ensures) in
-    c .before .before .before .before .before .before .before .before .before .before .before .before .loop .inv .1 _ (tells-here g a _ (c .before .before .before .before .before .before .before .before .before .before .before .loop-test .taken) (sym (c .before .is-same .ensures) ∙ c .if1 .taken))
+    let d = c .before .before .before .before in
+    let g = found (d .before .before .before .before .gap .given .1) (d .before .before .before .before .before .before .read-some-space .ensures) in
+    let a = parts-found (d .parts .given .1) (d .before .before .read-attribute .ensures) in
+    let l = d .before .before .before .before .before .before .before .loop-test .taken in
+    d .before .before .before .before .before .before .before .before .loop .inv .1 _ (tells-here g a _ l (sym (c .before .is-same .ensures) ∙ c .if1 .taken))
 
 -- src/marks.rt:100:5
 loop-less : tie.Need-loop-less Inv-loop μ-loop
 loop-less c =
-    let g = found (c .before .before .before .before .before .before .before .before .gap .given .1) (c .before .before .before .before .before .before .before .before .before .before .read-some-space .ensures) in
-    let a = parts-found (c .before .before .before .before .parts .given .1) (c .before .before .before .before .before .before .read-attribute .ensures) in
+    let d = c .before .before .before .before in
+    let g = found (d .before .before .before .before .gap .given .1) (d .before .before .before .before .before .before .read-some-space .ensures) in
+    let a = parts-found (d .parts .given .1) (d .before .before .read-attribute .ensures) in
     omega (arith, g .low, a .name-low, a .name-high, a .value-low, a .high)
 
 -- src/marks.rt:100:5
 loop-again : tie.Need-loop-again Inv-loop μ-loop
 loop-again c =
-    let g = found (c .before .before .before .before .before .before .before .before .gap .given .1) (c .before .before .before .before .before .before .before .before .before .before .read-some-space .ensures) in
-    let a = parts-found (c .before .before .before .before .parts .given .1) (c .before .before .before .before .before .before .read-attribute .ensures) in
-    (a .high, λ r h. c .before .before .before .before .before .before .before .before .before .before .before .before .loop .inv .1 r (tells-more g a _ (c .before .before .before .before .before .before .before .before .before .before .before .loop-test .taken) (sym (c .before .is-same .ensures) ∙ c .if1 .left) r h))
+    let d = c .before .before .before .before in
+    let g = found (d .before .before .before .before .gap .given .1) (d .before .before .before .before .before .before .read-some-space .ensures) in
+    let a = parts-found (d .parts .given .1) (d .before .before .read-attribute .ensures) in
+    let l = d .before .before .before .before .before .before .before .loop-test .taken in
+    (a .high, λ r h. d .before .before .before .before .before .before .before .before .loop .inv .1 r (tells-more g a _ l (sym (c .before .is-same .ensures) ∙ c .if1 .left) r h))
 
 -- src/marks.rt:95:1
 returns-4 : tie.Need-returns-4 Inv-loop μ-loop

@@ -59,8 +59,9 @@ enum-told-2 c = search needs
 -- src/tag.rt:153:13
 returns-2 : tie.Need-returns-2 Inv-loop μ-loop
 returns-2 c =
-    let g = found (c .before .before .before .before .gap .given .1) (c .before .before .before .before .before .before .read-some-space .ensures) in
-    sure _ (begun-end (c .before .before .before .before .before .before .before .loop .inv .1) (stops-attribute g (parts-none (c .enum-told2 .given .1) (c .before .before .read-attribute .ensures))))
+    let d = c .before .before .before .before in
+    let g = found (d .gap .given .1) (d .before .before .read-some-space .ensures) in
+    sure _ (begun-end (d .before .before .before .loop .inv .1) (stops-attribute g (parts-none (c .enum-told2 .given .1) (c .before .before .read-attribute .ensures))))
 
 -- src/tag.rt:155:22
 sub-slot : tie.Need-sub-slot Inv-loop μ-loop
@@ -95,17 +96,19 @@ array-write-taken c = search needs
 -- src/tag.rt:141:5
 loop-less : tie.Need-loop-less Inv-loop μ-loop
 loop-less c =
-    let g = found (c .before .before .before .before .before .before .before .before .gap .given .1) (c .before .before .before .before .before .before .before .before .before .before .read-some-space .ensures) in
-    let a = parts-found (c .before .before .before .before .parts .given .1) (c .before .before .before .before .before .before .read-attribute .ensures) in
+    let d = c .before .before .before .before in
+    let g = found (d .before .before .before .before .gap .given .1) (d .before .before .before .before .before .before .read-some-space .ensures) in
+    let a = parts-found (d .parts .given .1) (d .before .before .read-attribute .ensures) in
     omega (arith, g .low, a .name-low, a .name-high, a .value-low, a .high)
 
 -- src/tag.rt:141:5
 loop-again : tie.Need-loop-again Inv-loop μ-loop
 loop-again c =
-    let g = found (c .before .before .before .before .before .before .before .before .gap .given .1) (c .before .before .before .before .before .before .before .before .before .before .read-some-space .ensures) in
-    let a = parts-found (c .before .before .before .before .parts .given .1) (c .before .before .before .before .before .before .read-attribute .ensures) in
-    let (n, b) = c .before .before .before .before .before .before .before .before .before .before .before .loop .inv in
-    let t = c .before .before .before .before .before .before .before .before .before .before .before .loop .taken in
+    let d = c .before .before .before .before in
+    let g = found (d .before .before .before .before .gap .given .1) (d .before .before .before .before .before .before .read-some-space .ensures) in
+    let a = parts-found (d .parts .given .1) (d .before .before .read-attribute .ensures) in
+    let (n, b) = d .before .before .before .before .before .before .before .loop .inv in
+    let t = d .before .before .before .before .before .before .before .loop .taken in
     let (e, l) = c .before .slot .ensures in
     (length-set t _ _ ∙ n, slot-more t n b g a e l (c .if1 .left))
 

@@ -1,6 +1,6 @@
 -- `markup::marks::read_by_table` meets its contract. The loop's invariant: the names before are different, and the table has their marks.
 use Prim.Native.Nat.{ℕ, _-_}
-use mathlib.Core.Path.{_≡_, refl, sym, _∙_}
+use mathlib.Core.Path.{_≡_, sym, _∙_}
 use native.Mathlib.Omega.{arith}
 use lib.ListN.{length, length-replicate, length-set}
 use Rattle.text.proofs.Reading.{answer, found}
@@ -62,8 +62,9 @@ enum-told-2 c = search needs
 -- src/marks.rt:148:13
 returns-2 : tie.Need-returns-2 Inv-loop μ-loop
 returns-2 c =
-    let g = found (c .before .before .before .before .gap .given .1) (c .before .before .before .before .before .before .read-some-space .ensures) in
-    sure _ (begun-end (c .before .before .before .before .before .before .before .loop .inv .1) (stops-attribute g (parts-none (c .enum-told2 .given .1) (c .before .before .read-attribute .ensures))))
+    let d = c .before .before .before .before in
+    let g = found (d .gap .given .1) (d .before .before .read-some-space .ensures) in
+    sure _ (begun-end (d .before .before .before .loop .inv .1) (stops-attribute g (parts-none (c .enum-told2 .given .1) (c .before .before .read-attribute .ensures))))
 
 -- src/marks.rt:150:21
 sub-mix : tie.Need-sub-mix Inv-loop μ-loop
@@ -105,16 +106,21 @@ enum-told-3 c = search needs
 
 -- src/marks.rt:157:40
 sub-is-before : tie.Need-sub-is-before Inv-loop μ-loop
-sub-is-before c = omega (arith, (parts-found (c .before .before .before .before .before .before .before .parts .given .1) (c .before .before .before .before .before .before .before .before .before .read-attribute .ensures)) .name-low)
+sub-is-before c =
+    let d = c .before .before .before .before .before .before .before in
+    omega (arith, (parts-found (d .parts .given .1) (d .before .before .read-attribute .ensures)) .name-low)
 
 -- src/marks.rt:157:40
 part-is-before-start : tie.Need-part-is-before-start Inv-loop μ-loop
-part-is-before-start c = omega (arith, (parts-found (c .before .before .before .before .before .before .before .parts .given .1) (c .before .before .before .before .before .before .before .before .before .read-attribute .ensures)) .name-low)
+part-is-before-start c =
+    let d = c .before .before .before .before .before .before .before in
+    omega (arith, (parts-found (d .parts .given .1) (d .before .before .read-attribute .ensures)) .name-low)
 
 -- src/marks.rt:157:40
 part-is-before-end : tie.Need-part-is-before-end Inv-loop μ-loop
 part-is-before-end c =
-    let a = parts-found (c .before .before .before .before .before .before .before .parts .given .1) (c .before .before .before .before .before .before .before .before .before .read-attribute .ensures) in
+    let d = c .before .before .before .before .before .before .before in
+    let a = parts-found (d .parts .given .1) (d .before .before .read-attribute .ensures) in
     omega (arith, a .name-high, a .value-low, a .high)
 
 -- src/marks.rt:157:20
@@ -124,9 +130,10 @@ is-before-requires c κs = search needs
 -- src/marks.rt:158:21
 returns-3 : tie.Need-returns-3 Inv-loop μ-loop
 returns-3 c =
-    let g = found (c .before .before .before .before .before .before .before .before .before .before .before .before .before .before .gap .given .1) (c .before .before .before .before .before .before .before .before .before .before .before .before .before .before .before .before .read-some-space .ensures) in
-    let a = parts-found (c .before .before .before .before .before .before .before .before .before .before .parts .given .1) (c .before .before .before .before .before .before .before .before .before .before .before .before .read-attribute .ensures) in
-    let b = c .before .before .before .before .before .before .before .before .before .before .before .before .before .before .before .before .before .loop .inv .1 in
+    let d = c .before .before .before .before .before .before .before .before .before .before in
+    let g = found (d .before .before .before .before .gap .given .1) (d .before .before .before .before .before .before .read-some-space .ensures) in
+    let a = parts-found (d .parts .given .1) (d .before .before .read-attribute .ensures) in
+    let b = d .before .before .before .before .before .before .before .loop .inv .1 in
     sure _ (begun-again b g a (sym (c .before .is-before .ensures (b .names) (b .from)) ∙ c .if1 .taken))
 
 -- src/marks.rt:162:17
@@ -140,17 +147,19 @@ returns-4 c = unsure
 -- src/marks.rt:136:5
 loop-less : tie.Need-loop-less Inv-loop μ-loop
 loop-less c =
-    let g = found (c .before .before .before .before .before .before .before .before .before .before .before .before .before .gap .given .1) (c .before .before .before .before .before .before .before .before .before .before .before .before .before .before .before .read-some-space .ensures) in
-    let a = parts-found (c .before .before .before .before .before .before .before .before .before .parts .given .1) (c .before .before .before .before .before .before .before .before .before .before .before .read-attribute .ensures) in
+    let d = c .before .before .before .before .before .before .before .before .before in
+    let g = found (d .before .before .before .before .gap .given .1) (d .before .before .before .before .before .before .read-some-space .ensures) in
+    let a = parts-found (d .parts .given .1) (d .before .before .read-attribute .ensures) in
     omega (arith, g .low, a .name-low, a .name-high, a .value-low, a .high)
 
 -- src/marks.rt:136:5
 loop-again : tie.Need-loop-again Inv-loop μ-loop
 loop-again c =
-    let g = found (c .before .before .before .before .before .before .before .before .before .before .before .before .before .gap .given .1) (c .before .before .before .before .before .before .before .before .before .before .before .before .before .before .before .read-some-space .ensures) in
-    let a = parts-found (c .before .before .before .before .before .before .before .before .before .parts .given .1) (c .before .before .before .before .before .before .before .before .before .before .before .read-attribute .ensures) in
-    let (n, b) = c .before .before .before .before .before .before .before .before .before .before .before .before .before .before .before .before .loop .inv in
-    let t = c .before .before .before .before .before .before .before .before .before .before .before .before .before .before .before .before .loop .table in
+    let d = c .before .before .before .before .before .before .before .before .before in
+    let g = found (d .before .before .before .before .gap .given .1) (d .before .before .before .before .before .before .read-some-space .ensures) in
+    let a = parts-found (d .parts .given .1) (d .before .before .read-attribute .ensures) in
+    let (n, b) = d .before .before .before .before .before .before .before .loop .inv in
+    let t = d .before .before .before .before .before .before .before .loop .table in
     let p = spot-is (c .before .before .spot .given .1) (c .before .before .before .before .find-spot .ensures) in
     let m = c .before .before .before .before .before .before .mix .ensures .0 in (
       length-set t _ _ ∙ n,
@@ -161,19 +170,22 @@ loop-again c =
 -- src/marks.rt:136:5
 loop-less-2 : tie.Need-loop-less-2 Inv-loop μ-loop
 loop-less-2 c =
-    let g = found (c .before .before .before .before .before .before .before .before .before .before .before .before .before .before .gap .given .1) (c .before .before .before .before .before .before .before .before .before .before .before .before .before .before .before .before .read-some-space .ensures) in
-    let a = parts-found (c .before .before .before .before .before .before .before .before .before .before .parts .given .1) (c .before .before .before .before .before .before .before .before .before .before .before .before .read-attribute .ensures) in
+    let d = c .before .before .before .before .before .before .before .before .before .before in
+    let g = found (d .before .before .before .before .gap .given .1) (d .before .before .before .before .before .before .read-some-space .ensures) in
+    let a = parts-found (d .parts .given .1) (d .before .before .read-attribute .ensures) in
     omega (arith, g .low, a .name-low, a .name-high, a .value-low, a .high)
 
 -- src/marks.rt:136:5
 loop-again-2 : tie.Need-loop-again-2 Inv-loop μ-loop
 loop-again-2 c =
-    let g = found (c .before .before .before .before .before .before .before .before .before .before .before .before .before .before .gap .given .1) (c .before .before .before .before .before .before .before .before .before .before .before .before .before .before .before .before .read-some-space .ensures) in
-    let a = parts-found (c .before .before .before .before .before .before .before .before .before .before .parts .given .1) (c .before .before .before .before .before .before .before .before .before .before .before .before .read-attribute .ensures) in
-    let (n, b) = c .before .before .before .before .before .before .before .before .before .before .before .before .before .before .before .before .before .loop .inv in
-    let t = c .before .before .before .before .before .before .before .before .before .before .before .before .before .before .before .before .before .loop .table in
+    let d = c .before .before .before .before .before .before .before .before .before .before in
+    let g = found (d .before .before .before .before .gap .given .1) (d .before .before .before .before .before .before .read-some-space .ensures) in
+    let a = parts-found (d .parts .given .1) (d .before .before .read-attribute .ensures) in
+    let (n, b) = d .before .before .before .before .before .before .before .loop .inv in
+    let t = d .before .before .before .before .before .before .before .loop .table in
     let p = spot-is (c .before .before .before .enum-told3 .given .1) (c .before .before .before .before .before .find-spot .ensures) in
-    (n, begun-more b g a (HasMark t) (sym (c .before .is-before .ensures (b .names) (b .from)) ∙ c .if1 .left) (λ n h. h) (rw (← c .before .before .before .before .before .before .before .mix .ensures .0) (held-marked p)))
+    let m = c .before .before .before .before .before .before .before .mix .ensures .0 in
+    (n, begun-more b g a (HasMark t) (sym (c .before .is-before .ensures (b .names) (b .from)) ∙ c .if1 .left) (λ n h. h) (rw (← m) (held-marked p)))
 
 pub read-by-table-spec : {M : Type 1} → statement M
 read-by-table-spec =

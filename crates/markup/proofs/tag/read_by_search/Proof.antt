@@ -92,9 +92,10 @@ enum-told-3 c = search needs
 returns-3 : tie.Need-returns-3 Inv-loop μ-loop
 unfolding tagAttributes
 returns-3 c =
-    let g = found (c .before .before .before .before .before .before .before .before .before .gap .given .1) (c .before .before .before .before .before .before .before .before .before .before .before .read-some-space .ensures) in
-    let a = parts-found (c .before .before .before .before .before .parts .given .1) (c .before .before .before .before .before .before .before .read-attribute .ensures) in
-    enough distinctAttributes (c .before .before .before .before .before .before .before .before .before .before .before .before .loop .inv .1 _ (distinct-again g a (c .enum-told3 .given .1) (c .before .before .find-attribute .ensures)))
+    let d = c .before .before .before .before .before in
+    let g = found (d .before .before .before .before .gap .given .1) (d .before .before .before .before .before .before .read-some-space .ensures) in
+    let a = parts-found (d .parts .given .1) (d .before .before .read-attribute .ensures) in
+    enough distinctAttributes (d .before .before .before .before .before .before .before .loop .inv .1 _ (distinct-again g a (c .enum-told3 .given .1) (c .before .before .find-attribute .ensures)))
 
 enum-told-4 : tie.Need-enum-told-4 Inv-loop μ-loop
 enum-told-4 c = search needs
@@ -111,10 +112,12 @@ enum-known-told c = search needs
 returns-4 : tie.Need-returns-4 Inv-loop μ-loop
 unfolding tagAttributes
 returns-4 c =
-    let g = found (c .before .before .before .before .before .before .before .before .before .before .before .before .before .gap .given .1) (c .before .before .before .before .before .before .before .before .before .before .before .before .before .before .before .read-some-space .ensures) in
-    let a = parts-found (c .before .before .before .before .before .before .before .before .before .parts .given .1) (c .before .before .before .before .before .before .before .before .before .before .before .read-attribute .ensures) in
-    let d = told-sure (c .before .told .given .1) (c .before .before .before .read-by-table .ensures) in
-    enough distinctAttributes (c .before .before .before .before .before .before .before .before .before .before .before .before .before .before .before .before .loop .inv .1 _ (distinct-more g a (c .before .before .before .before .enum-told4 .given .1) (c .before .before .before .before .before .before .find-attribute .ensures) _ d))
+    let d = c .before .before .before .before .before .before .before .before .before in
+    let g = found (d .before .before .before .before .gap .given .1) (d .before .before .before .before .before .before .read-some-space .ensures) in
+    let a = parts-found (d .parts .given .1) (d .before .before .read-attribute .ensures) in
+    let t = told-sure (c .before .told .given .1) (c .before .before .before .read-by-table .ensures) in
+    let on = d .before .before .before .before .before .before .before .loop .inv .1 in
+    enough distinctAttributes (on _ (distinct-more g a (c .before .before .before .before .enum-told4 .given .1) (c .before .before .before .before .before .before .find-attribute .ensures) _ t))
 
 enum-told-5 : tie.Need-enum-told-5 Inv-loop μ-loop
 enum-told-5 c = search needs
@@ -122,16 +125,19 @@ enum-told-5 c = search needs
 -- src/tag.rt:95:5
 loop-less : tie.Need-loop-less Inv-loop μ-loop
 loop-less c =
-    let g = found (c .before .before .before .before .before .before .before .before .before .before .before .before .gap .given .1) (c .before .before .before .before .before .before .before .before .before .before .before .before .before .before .read-some-space .ensures) in
-    let a = parts-found (c .before .before .before .before .before .before .before .before .parts .given .1) (c .before .before .before .before .before .before .before .before .before .before .read-attribute .ensures) in
+    let d = c .before .before .before .before .before .before .before .before in
+    let g = found (d .before .before .before .before .gap .given .1) (d .before .before .before .before .before .before .read-some-space .ensures) in
+    let a = parts-found (d .parts .given .1) (d .before .before .read-attribute .ensures) in
     omega (arith, g .low, a .name-low, a .name-high, a .value-low, a .high)
 
 -- src/tag.rt:95:5
 loop-again : tie.Need-loop-again Inv-loop μ-loop
 loop-again c =
-    let g = found (c .before .before .before .before .before .before .before .before .before .before .before .before .gap .given .1) (c .before .before .before .before .before .before .before .before .before .before .before .before .before .before .read-some-space .ensures) in
-    let a = parts-found (c .before .before .before .before .before .before .before .before .parts .given .1) (c .before .before .before .before .before .before .before .before .before .before .read-attribute .ensures) in
-    (a .high, λ r h. c .before .before .before .before .before .before .before .before .before .before .before .before .before .before .before .loop .inv .1 r (distinct-more g a (c .before .before .before .enum-told4 .given .1) (c .before .before .before .before .before .find-attribute .ensures) r h))
+    let d = c .before .before .before .before .before .before .before .before in
+    let g = found (d .before .before .before .before .gap .given .1) (d .before .before .before .before .before .before .read-some-space .ensures) in
+    let a = parts-found (d .parts .given .1) (d .before .before .read-attribute .ensures) in
+    let on = d .before .before .before .before .before .before .before .loop .inv .1 in
+    (a .high, λ r h. on r (distinct-more g a (c .before .before .before .enum-told4 .given .1) (c .before .before .before .before .before .find-attribute .ensures) r h))
 
 pub read-by-search-spec : {M : Type 1} → statement M
 read-by-search-spec =
