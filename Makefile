@@ -182,7 +182,7 @@ target/tests/markup_stack: tests/markup/stack.c $(markup_archive)
 	@mkdir -p $(@D)
 	$(CC) $(CFLAGS) -o $@ $< $(markup_archive)
 
-target/tests/markup_reader: tests/markup/reader.rs tests/random.rs $(markup_archive)
+target/tests/markup_reader: tests/markup/reader.rs tests/markup/names.rs tests/random.rs $(markup_archive)
 	@mkdir -p $(@D)
 	$(RUSTC) $(RUSTFLAGS) -o $@ $< -L native=target/staticlib -l static=markup_bench
 

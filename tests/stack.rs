@@ -191,6 +191,24 @@ fn nested(types: &[usize], inner_last: bool, many: usize) -> String {
     record.replace("NAME", "t")
 }
 
+/// Sets within sets and an interval in the innermost, whose bound has elements inside it that are not allowed, up to the eighth level, and
+/// there a tag of many attributes: it is read again where the judge passes the bound.
+fn crowded_bounds() -> Vec<Input> {
+    let attributes = many_attributes();
+    let around = |name: &str, of_type: &str, inside: String| format!("<{name} xsi:type=\"{of_type}\">{inside}</{name}>");
+    (0..=5)
+        .map(|sets| {
+            let (open, close) = ("<a>".repeat(5 - sets), "</a>".repeat(5 - sets));
+            let bounds = format!("<low>{open}<b{attributes}/>{close}</low>");
+            let mut record = around("NAME", "IVL_TS", bounds);
+            for _ in 0..sets {
+                record = around("NAME", "QSU_TS", record.replace("NAME", "term"));
+            }
+            input("many attributes inside a bound", record.replace("NAME", "t"))
+        })
+        .collect()
+}
+
 /// Every nesting of the three types of sets, of one to seven levels.
 fn nested_sets() -> Vec<Input> {
     let mut inputs = Vec::new();
@@ -211,12 +229,16 @@ fn filled(before: &str, one: &str, after: &str) -> String {
     format!("{before}{}{after}", one.repeat(count))
 }
 
+fn many_attributes() -> String {
+    (0..1200).map(|n| format!(" a{n:04}=\"{n}\"")).collect()
+}
+
 /// Records that are long, wide or deep, of every type.
 fn long_records() -> Vec<Input> {
     let part = "<part value=\"&amp;&lt;\u{10FFFF}\" type=\"TITLE\" qualifier=\"LS AC NB PR HON BR AD SP MID CL IN PFX\"/>";
     let deep = "<a>".repeat(7);
     let end = "</a>".repeat(7);
-    let attributes: String = (0..1200).map(|n| format!(" a{n:04}=\"{n}\"")).collect();
+    let attributes = many_attributes();
     let oid = format!("2.{}", "9".repeat(126));
     vec![
         input("many parts", filled("<t xsi:type=\"EN\">", part, "</t>")),
@@ -237,6 +259,8 @@ fn long_records() -> Vec<Input> {
         input("tags without an end", filled("", "<a>", "")),
         input("white space", filled("<t xsi:type=\"TS\"", " ", "value=\"2024\"/>")),
         input("many attributes", format!("<t xsi:type=\"TS\"{attributes}/>")),
+        input("many attributes at the eighth level", format!("{deep}<t{attributes}/>{end}")),
+        input("a name twice at the eighth level", format!("{deep}<t{attributes} a0000=\"\"/>{end}")),
         input("a long name", filled("<", "a", "/>")),
         input("a long attribute's name", filled("<t xsi:type=\"TS\" ", "a", "=\"\"/>")),
     ]
@@ -329,7 +353,7 @@ fn main() -> ExitCode {
     let calendar = Calendar::new();
     let mut random = Random::new(options.seed);
     let mut stack = Stack::new();
-    let inputs: Vec<Input> = [nested_sets(), long_records(), long_texts(), short_and_long_lists(), stored()].into_iter().flatten().collect();
+    let inputs: Vec<Input> = [nested_sets(), crowded_bounds(), long_records(), long_texts(), short_and_long_lists(), stored()].into_iter().flatten().collect();
     let mut within = true;
     for (service, name, bound) in SERVICES {
         let (bytes, deepest) = most(&mut stack, service, inputs.iter());

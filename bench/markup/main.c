@@ -94,6 +94,27 @@ static void make_attributes(struct text *to, int count)
     add(to, "/>");
 }
 
+/* One tag with as many attributes as there is room for, of names of one byte and of two. Returned is how many they are. */
+static int make_most_attributes(struct text *to)
+{
+    static const char letters[] = "abcdefghijklmnopqrstuvwxyzABCDEFGHIJKLMNOPQRSTUVWXYZ_0123456789.-:";
+    const size_t starts = 53, others = sizeof letters - 1;
+    char made[32];
+    int count = 0;
+    to->length = 0;
+    add(to, "<a");
+    for (size_t k = 0; k < starts; k++, count++) {
+        snprintf(made, sizeof made, " %c=\"\"", letters[k]);
+        add(to, made);
+    }
+    for (size_t k = 0; to->length + strlen(" ab=\"\"/>") <= MOST; k++, count++) {
+        snprintf(made, sizeof made, " %c%c=\"\"", letters[k / others], letters[k % others]);
+        add(to, made);
+    }
+    add(to, "/>");
+    return count;
+}
+
 struct kind {
     const char *name;
     void (*make)(struct text *, size_t);
@@ -187,11 +208,13 @@ int main(int argc, char **argv)
             compare(kinds[k].name, &t);
         }
     }
+    char name[32];
     for (size_t n = 0; n < sizeof counts / sizeof counts[0]; n++) {
-        char name[32];
         snprintf(name, sizeof name, "%d attr.", counts[n]);
         make_attributes(&t, counts[n]);
         compare(name, &t);
     }
+    snprintf(name, sizeof name, "%d attr.", make_most_attributes(&t));
+    compare(name, &t);
     return 0;
 }

@@ -1,11 +1,12 @@
 //! Compares `markup::is_document`, by way of the crate `markup_bench`, with another reader of the rules page's markup, on made texts:
-//! valid ones, the same damaged in one to three bytes, and random pieces of markup. The reader below goes by tags and quotes, and keeps
-//! the names of open elements in a list.
+//! valid ones, the same damaged in one to three bytes, and random pieces of markup; and on tags in which a name occurs twice (names.rs).
+//! The reader below goes by tags and quotes, and keeps the names of open elements in a list.
 //!
 //!     reader [CASES [SEED]]
 //!
 //! CASES texts (1000000) are made from SEED (1). The exit status is 1 where the two differ.
 
+mod names;
 #[path = "../random.rs"]
 mod random;
 
@@ -218,24 +219,38 @@ fn pieces(random: &mut Random) -> Vec<u8> {
     text
 }
 
+/// Whether both readers answer alike, and as is due where that is known; if not, the text is shown.
+fn agree(text: &[u8], due: Option<bool>) -> Option<bool> {
+    let (a, b) = (ours(text), theirs(text));
+    if a == b && due.unwrap_or(a) == a {
+        return Some(a);
+    }
+    println!("Rigcactus: {a}, the other reader: {b}, due: {due:?}: {:?}", String::from_utf8_lossy(text));
+    None
+}
+
 fn main() -> ExitCode {
     let mut words = std::env::args().skip(1).map(|w| w.parse().unwrap_or(0));
     let cases: u64 = words.next().unwrap_or(1_000_000);
     let mut random = Random::new(words.next().unwrap_or(1));
-    let kinds = ["valid, but for a rare fault", "damaged", "random"];
-    let mut counts = [[0u64; 2]; 3];
+    let kinds = ["valid, but for a rare fault", "damaged", "random", "a tag, a name twice or not"];
+    let mut counts = [[0u64; 2]; 4];
     for k in 0..cases {
         let kind = (k % 3) as usize;
         let mut text = if kind == 2 { pieces(&mut random) } else { valid(&mut random) };
         if kind == 1 {
             damage(&mut text, &mut random);
         }
-        let (a, b) = (ours(&text), theirs(&text));
-        if a != b {
-            println!("{} by Rigcactus alone: {:?}", if a { "accepted" } else { "refused" }, String::from_utf8_lossy(&text));
+        let Some(accepted) = agree(&text, None) else {
+            return ExitCode::from(1);
+        };
+        counts[kind][accepted as usize] += 1;
+    }
+    for tag in names::tags() {
+        if agree(&tag.text, Some(tag.distinct)).is_none() {
             return ExitCode::from(1);
         }
-        counts[kind][a as usize] += 1;
+        counts[3][tag.distinct as usize] += 1;
     }
     for (kind, [refused, accepted]) in kinds.iter().zip(counts) {
         println!("{kind:<28}{accepted:>10} accepted{refused:>10} refused");

@@ -5,16 +5,18 @@ use mathlib.Core.Bool.{Bool, true, false}
 use mathlib.Core.List.{List, [], _∷_}
 use mathlib.Core.Option.{Option}
 use native.Mathlib.Omega.{arith}
-use lib.ListN.{length, take, drop}
+use lib.ListN.{length, take, drop, length-take, length-drop}
 use Rattle.rules.specs.Basics.{isSome, same}
-use Rattle.rules.specs.Parsers.{Parsed, bad, ok, next, else, pure, guard, _>>=_, _>>_, byte}
+use Rattle.rules.specs.Parsers.{Parsed, Parser, bad, ok, next, else, pure, guard, _>>=_, _>>_, byte}
 use Rattle.rules.specs.Markup.{Attribute as RulesAttribute, space, someSpace, name, value, attribute, attributes, lookup, isDistinct}
 use Rattle.rules.proofs.Tests.{clash}
 use Rattle.text.specs.Reads.{Good, Reads, upto, none as not-read}
 use Rattle.text.specs.declared.Read.{Read}
 use Rattle.text.specs.declared.Read.the-variants.{At, Bad}
 use Rattle.text.proofs.Reading.{none-of}
-use Rattle.markup.specs.Attributes.{AttributeTo, PartsAt, parts, no-parts, AttributesAt, Finds, absent, present, Answers, distinctAttributes, ReadsDistinct}
+use Rattle.markup.specs.Attributes.{AttributeTo, PartsAt, parts, no-parts, AttributesAt, Finds, absent, present, Answers, ReadsDistinct, ToldAt, sure}
+use Rattle.markup.specs.declared.marks.Told.{Told}
+use Rattle.markup.specs.declared.marks.Told.the-variants.{Sure}
 use Rattle.markup.specs.declared.tag.Parts.{Parts}
 use Rattle.markup.specs.declared.tag.Parts.the-variants.{Attribute, Nothing}
 use Rattle.markup.specs.declared.tag.Found.{Found}
@@ -28,8 +30,18 @@ parts-found {s} {at} z h = go (subst (λ (y : Parts). PartsAt s at y) z h)
     go : {n q e : ℕ} → PartsAt s at (Attribute n q e) → AttributeTo s at n q e
     go (parts n q e a) = a
 
+-- its name has a byte
+pub name-some : {s : List ℕ} {at n q e : ℕ} → AttributeTo s at n q e → 1 ≤ length (take (n - at) (drop at s))
+name-some {s} {at} {n} a = rw (length-take, length-drop) (omega (arith, a .name-low, a .name-high, a .value-low, a .high))
+
 pub parts-none : {s : List ℕ} {at : ℕ} {r : Parts} → r ≡ Nothing → PartsAt s at r → PartsAt s at Nothing
 parts-none {s} {at} z h = subst (λ (y : Parts). PartsAt s at y) z h
+
+pub told-sure : {s : List ℕ} {at : ℕ} {t : Told} {r : Read} → t ≡ Sure r → ToldAt s at t → ReadsDistinct s at r
+told-sure {s} {at} z h = go (subst (λ (y : Told). ToldAt s at y) z h)
+  where
+    go : {r : Read} → ToldAt s at (Sure r) → ReadsDistinct s at r
+    go (sure r d) = d
 
 -- a name, an equals sign and a value, with white space around the sign
 pub parts-good : (s : List ℕ) (at n i j q e : ℕ) → Good 1 name s at n → Good 0 space s n i → Good 1 (byte 61) s i j → Good 0 space s j q → Good 1 value s q e
@@ -98,6 +110,10 @@ fresh : (a : RulesAttribute) (l : List RulesAttribute) → isSome (lookup (a .na
 unfolding isDistinct
 fresh a l e = rw e
 
+-- attributes that pass a test
+abbrev pub guarded : (List RulesAttribute → Bool) → (fuel : ℕ) → Parser (List RulesAttribute)
+guarded p f = attributes f >>= (λ l. guard (p l) >> pure l)
+
 -- two values under one guard
 kept : {A : Type 0} (b : Bool) (l m : A) (x : List ℕ) {v : A} {y : List ℕ} → (guard b >> pure m) x ≡ ok v y → (guard b >> pure l) x ≡ ok l y
 kept true l m x {v} {y} e = let z : x ≡ y = cc in ap (ok l) z
@@ -109,18 +125,18 @@ lost false l m x e = refl
 
 -- an attribute, and the others after it
 module _ {s : List ℕ} {i j n q e : ℕ} (g : Good 1 someSpace s i j) (a : AttributeTo s j n q e) where
-  abbrev this : RulesAttribute
+  abbrev pub this : RulesAttribute
   this = record { name = take (n - j) (drop j s); value = a .text }
 
-  steps : (f : ℕ) (l : List RulesAttribute) (r : List ℕ) → attributes f (drop e s) ≡ ok l r → attributes (suc f) (drop i s) ≡ ok (this ∷ l) r
+  pub steps : (f : ℕ) (l : List RulesAttribute) (r : List ℕ) → attributes f (drop e s) ≡ ok l r → attributes (suc f) (drop i s) ≡ ok (this ∷ l) r
   unfolding attributes
   steps f l r h = rw (g .reads, a .reads, h)
 
-  bounds : (i < e) × (e ≤ length s)
+  pub bounds : (i < e) × (e ≤ length s)
   bounds = (omega (arith, g .low, a .name-low, a .name-high, a .value-low), a .high)
 
   -- what follows, with fuel enough
-  others : (f : ℕ) → length s ≤ i + suc f → (l : List RulesAttribute) × AttributesAt s e l × (r : List ℕ) × (attributes f (drop e s) ≡ ok l r)
+  pub others : (f : ℕ) → length s ≤ i + suc f → (l : List RulesAttribute) × AttributesAt s e l × (r : List ℕ) × (attributes f (drop e s) ≡ ok l r)
   others f h = let (l, r, t) = total f (drop e s) in (l, record { fuel = f; enough = omega (arith, bounds .0); after = r; reads = t }, r, t)
 
   pub passed : (l : List RulesAttribute) → AttributesAt s i l → (m : List RulesAttribute) × AttributesAt s e m × (l ≡ this ∷ m)
@@ -150,18 +166,18 @@ module _ {s : List ℕ} {i j n q e : ℕ} (g : Good 1 someSpace s i j) (a : Attr
       let (m, at, r, t) = others f k in
       not-read (rw (steps f m r t, repeated this m (found-some (subst-found z h m at))))
 
-  distinct-on : (f : ℕ) (m : List RulesAttribute) (x : List ℕ) → attributes f (drop e s) ≡ ok m x → isDistinct (this ∷ m) ≡ isDistinct m
-      → {r : Read} → Reads 0 (distinctAttributes f) s e r → Reads 0 (distinctAttributes (suc f)) s i r
-  distinct-on f m x t u (upto p d) = upto p (record {
+  pub guarded-on : (p q : List RulesAttribute → Bool) (f : ℕ) (m : List RulesAttribute) (x : List ℕ) → attributes f (drop e s) ≡ ok m x → p (this ∷ m) ≡ q m
+      → {r : Read} → Reads 0 (guarded q f) s e r → Reads 0 (guarded p (suc f)) s i r
+  guarded-on p q f m x t u (upto k d) = upto k (record {
     low = omega (arith, bounds .0, d .low);
     high = d .high;
     value = this ∷ m;
-    reads = rw (steps f m x t, u) (kept (isDistinct m) (this ∷ m) m x (rw t at (d .reads)));
+    reads = rw (steps f m x t, u) (kept (q m) (this ∷ m) m x (rw t at (d .reads)));
   })
-  distinct-on f m x t u (not-read b) = not-read (rw (steps f m x t, u) (lost (isDistinct m) (this ∷ m) m x (rw t at b)))
+  guarded-on p q f m x t u (not-read b) = not-read (rw (steps f m x t, u) (lost (q m) (this ∷ m) m x (rw t at b)))
 
   pub distinct-more : {w : Found} → w ≡ Absent → Answers s (take (n - j) (drop j s)) e w → (r : Read) → ReadsDistinct s e r → ReadsDistinct s i r
   distinct-more z h r d zero k = absurd (omega (arith, bounds .0, bounds .1))
   distinct-more z h r d (suc f) k =
       let (m, at, x, t) = others f k in
-      distinct-on f m x t (fresh this m (found-none (subst-found z h m at))) (d f (omega (arith, bounds .0)))
+      guarded-on isDistinct isDistinct f m x t (fresh this m (found-none (subst-found z h m at))) (d f (omega (arith, bounds .0)))

@@ -1,5 +1,10 @@
 pub mod Characters
 pub mod Names
 pub mod Attributes
+pub mod Before
+pub mod Apart
+pub mod Begun
+pub mod Slots
+pub mod Marking
 pub mod Tags
 pub mod Elements

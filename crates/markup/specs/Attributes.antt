@@ -8,6 +8,8 @@ use Rattle.rules.specs.Parsers.{Parser, bad, ok, pure, guard, _>>=_, _>>_}
 use Rattle.rules.specs.Markup.{Attribute as RulesAttribute, value, attribute, attributes, lookup, isDistinct}
 use Rattle.text.specs.Reads.{Reads}
 use Rattle.text.specs.declared.Read.{Read}
+use Rattle.markup.specs.declared.marks.Told.{Told}
+use Rattle.markup.specs.declared.marks.Told.the-variants.{Sure, Unsure}
 use Rattle.markup.specs.declared.tag.Parts.{Parts}
 use Rattle.markup.specs.declared.tag.Parts.the-variants.{Attribute, Nothing}
 use Rattle.markup.specs.declared.tag.Found.{Found}
@@ -50,3 +52,8 @@ distinctAttributes f = attributes f >>= (λ l. guard (isDistinct l) >> pure l)
 -- the answer on them from a position on, with any fuel that is enough
 abbrev pub ReadsDistinct : List ℕ → (at : ℕ) → Read → Type 0
 ReadsDistinct s at r = (f : ℕ) → length s ≤ at + f → Reads 0 (distinctAttributes f) s at r
+
+-- what a table tells of them
+pub data ToldAt (s : List ℕ) (at : ℕ) : Told → Type 0 where
+  sure : (r : Read) → ReadsDistinct s at r → ToldAt s at (Sure r)
+  unsure : ToldAt s at Unsure

@@ -1,4 +1,5 @@
 pub mod Values
 pub mod Attributes
+pub mod Marks
 pub mod Tags
 pub mod Elements

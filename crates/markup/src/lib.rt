@@ -6,6 +6,7 @@ ghost use Rattle.rules.specs.Basics.{isSome};
 ghost use Rattle.rules.specs.Markup.{document};
 ghost use Rattle.markup.specs.Elements.{ReadsElement, ReadsContent};
 
+pub mod marks;
 pub mod scan;
 pub mod tag;
 pub mod value;

@@ -54,14 +54,19 @@ fn is_name_start(c: u8) -> bool
     is_letter(c) | (c == b'_')
 }
 
-// Whether a name may go on with a byte. Most are letters, so that is asked first.
+// Whether a name may go on with a byte. Most are small letters, so that is asked first.
 fn is_name_byte(c: u8) -> bool
     ensures { λ r. ⌜ r ≡ isNameByte c ⌝ }
 {
-    if is_letter(c) {
+    if (b'a' <= c) & (c <= b'z') {
         return true;
     }
-    (c == b'_') | ((b'0' <= c) & (c <= b'9')) | (c == b'.') | (c == b'-') | (c == b':')
+    ((b'A' <= c) & (c <= b'Z'))
+        | (c == b'_')
+        | ((b'0' <= c) & (c <= b'9'))
+        | (c == b'.')
+        | (c == b'-')
+        | (c == b':')
 }
 
 // The end of the bytes, if any, at a position with which a name may go on.

@@ -5,6 +5,9 @@ ghost use Rattle.rules.specs.Markup.{tagAttributes, endTag};
 ghost use Rattle.text.specs.Reads.{Reads};
 ghost use Rattle.markup.specs.Attributes.{PartsAt, Answers};
 ghost use Rattle.markup.specs.Tags.{HeadAt, TagAt};
+use crate::marks::Told;
+use crate::marks::read_by_slots;
+use crate::marks::read_by_table;
 use crate::scan::read_byte;
 use crate::scan::read_literal;
 use crate::scan::read_name;
@@ -82,8 +85,9 @@ pub fn find_attribute(s: &[u8], at: usize, name: &[u8]) -> Found
     }
 }
 
-// The end of the attributes that stand from a position on, each name once.
-pub fn read_attributes(s: &[u8], at: usize) -> Read
+// The end of the attributes that stand from a position on, each name once, where a table has no room for them: the first name is looked
+// for among the others, and for those there may be room.
+fn read_by_search(s: &[u8], at: usize) -> Read
     requires { ⌜ at ≤ length (now s) ⌝ }
     ensures { λ r. ⌜ Reads 0 tagAttributes (now (s .entry)) at r ⌝ }
 {
@@ -106,7 +110,35 @@ pub fn read_attributes(s: &[u8], at: usize) -> Read
         if let Found::Quoted(_, _) = again {
             return Read::Bad;
         }
+        let told = read_by_table(s, end);
+        if let Told::Sure(r) = told {
+            return r;
+        }
         i = end;
+    }
+}
+
+// The end of the attributes that stand from a position on, each name once, where two names are in one slot.
+fn read_with_care(s: &[u8], at: usize) -> Read
+    requires { ⌜ at ≤ length (now s) ⌝ }
+    ensures { λ r. ⌜ Reads 0 tagAttributes (now (s .entry)) at r ⌝ }
+{
+    let told = read_by_table(s, at);
+    match told {
+        Told::Sure(r) => r,
+        Told::Unsure => read_by_search(s, at),
+    }
+}
+
+// The end of the attributes that stand from a position on, each name once.
+pub fn read_attributes(s: &[u8], at: usize) -> Read
+    requires { ⌜ at ≤ length (now s) ⌝ }
+    ensures { λ r. ⌜ Reads 0 tagAttributes (now (s .entry)) at r ⌝ }
+{
+    let told = read_by_slots(s, at);
+    match told {
+        Told::Sure(r) => r,
+        Told::Unsure => read_with_care(s, at),
     }
 }
 

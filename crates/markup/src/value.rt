@@ -101,11 +101,14 @@ pub fn read_char(s: &[u8], at: usize) -> Char
     read_reference(s, at)
 }
 
-// Whether a byte is a character by itself, whatever follows it, and is not the quote.
+// Whether a byte is a character by itself, whatever follows it, and is not the quote. Most are letters and digits.
 fn is_simple(c: u8) -> bool
     ensures { λ r. ⌜ r ≡ isSimple c ⌝ }
 {
-    is_plain(c) & !(c == b'"') & !(c == 0xEF)
+    if b'<' < c {
+        return c != 0xEF;
+    }
+    (b' ' <= c) & !(c == b'<') & !(c == b'&') & !(c == b'"')
 }
 
 // The end of the simple bytes at a position: the way through a value that most bytes take.
