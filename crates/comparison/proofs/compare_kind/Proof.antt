@@ -3,14 +3,6 @@ use Rattle.rules.specs.Comparison.{comparerOf}
 use borrow.Author.Needs.{needs}
 use Rattle.comparison.proofs.compare_kind.Statement.{statement}
 use Rattle.comparison.proofs.compare_kind.Tie as tie
-use Rattle.comparison.proofs.compare_kind.Reads as reads
-use Rattle.comparison.proofs.compare_kind.Lts as lts
-use Rattle.comparison.proofs.names.compare_names.Reads as compare-names-reads
-use Rattle.comparison.proofs.times.compare_intervals.Reads as compare-intervals-reads
-use Rattle.comparison.proofs.times.compare_times.Reads as compare-times-reads
-use Rattle.comparison.proofs.values.compare_codes.Reads as compare-codes-reads
-use Rattle.comparison.proofs.values.compare_identifiers.Reads as compare-identifiers-reads
-use Rattle.comparison.proofs.values.compare_money.Reads as compare-money-reads
 
 enum-told : tie.Need-enum-told
 enum-told c = search needs
@@ -110,32 +102,6 @@ returns-11 c = λ v w after rest g h. rw (c .enum-told11 .given .1)
 pub compare-kind-spec : {M : Type 1} → statement M
 compare-kind-spec =
     tie.close
-    (tie.spec
-    enum-told
-    compare-times-requires
-    enum-told-2
-    compare-intervals-requires
-    enum-told-3
-    enum-told-4
-    enum-told-5
-    enum-told-6
-    compare-money-requires
-    enum-told-7
-    compare-identifiers-requires
-    enum-told-8
-    compare-codes-requires
-    enum-told-9
-    compare-names-requires
-    enum-told-10
-    enum-told-11
-    returns
-    returns-2
-    returns-3
-    returns-4
-    returns-5
-    returns-6
-    returns-7
-    returns-8
-    returns-9
-    returns-10
-    returns-11)
+    (tie.spec enum-told compare-times-requires enum-told-2 compare-intervals-requires enum-told-3 enum-told-4 enum-told-5 enum-told-6
+    compare-money-requires enum-told-7 compare-identifiers-requires enum-told-8 compare-codes-requires enum-told-9 compare-names-requires enum-told-10
+    enum-told-11 returns returns-2 returns-3 returns-4 returns-5 returns-6 returns-7 returns-8 returns-9 returns-10 returns-11)

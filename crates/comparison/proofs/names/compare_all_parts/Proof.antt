@@ -12,18 +12,10 @@ use Rattle.comparison.proofs.Parts.{part}
 use Rattle.comparison.proofs.Joined.{parts-end, parts-more, told-end, told-more}
 use Rattle.comparison.proofs.names.compare_all_parts.Statement.{statement}
 use Rattle.comparison.proofs.names.compare_all_parts.Tie as tie
-use Rattle.comparison.proofs.names.compare_all_parts.Reads as reads
-use Rattle.comparison.proofs.names.compare_all_parts.Lts as lts
-use Rattle.comparison.proofs.also.Reads as also-reads
-use Rattle.comparison.proofs.answer_if.Reads as answer-if-reads
-use Rattle.comparison.proofs.names.compare_parts.Reads as compare-parts-reads
-use Rattle.element.proofs.row.is_child.Reads as is-child-reads
-use Rattle.element.proofs.row.past_element.Reads as past-element-reads
-use Rattle.element.proofs.tag.read.Reads as read-reads
-use Rattle.markup.proofs.scan.skip_space.Reads as skip-space-reads
 
 abbrev Inv-loop : tie.InvT-loop
-Inv-loop s at t other depth answer₀ i₀ j₀ answer i j = (i ≤ length s) × (j ≤ length t) × ((r : Answer) → PartsFrom s t depth i j r → PartsFrom s t depth at other (answerMeant answer also r))
+Inv-loop s at t other depth answer₀ i₀ j₀ answer i j =
+    (i ≤ length s) × (j ≤ length t) × ((r : Answer) → PartsFrom s t depth i j r → PartsFrom s t depth at other (answerMeant answer also r))
 
 abbrev μ-loop : tie.MeasureT-loop
 μ-loop s at t other depth answer₀ i₀ j₀ answer i j = length s - i
@@ -51,9 +43,12 @@ also-requires c κs = search needs
 
 returns : tie.Need-returns Inv-loop μ-loop
 returns c =
-    let l = c .before .before .before .before .before .before .before .loop in
+    let ends = c .before .before in
+    let asked = ends .before .before in
+    let l = asked .before .before .before .loop in
     told-end (answerMeant (l .answer)) (c .also .ensures) (c .before .answer-if .ensures)
-    (l .inv .2 _ (parts-end (c .before .before .before .before .before .before .skip-space .ensures) (c .before .before .before .before .before .skip-space2 .ensures) (c .before .before .before .before .is-child .ensures .0) (c .before .before .before .is-child2 .ensures .0) (not-true _ (c .before .before .if1 .taken))))
+    (l .inv .2 _ (parts-end (asked .before .before .skip-space .ensures) (asked .before .skip-space2 .ensures) (asked .is-child .ensures .0) (ends .before .is-child2 .ensures .0)
+    (not-true _ (ends .if1 .taken))))
 
 read-requires : tie.Need-read-requires Inv-loop μ-loop
 read-requires c κs = c .before .before .before .before .skip-space .ensures .high
@@ -75,38 +70,29 @@ also-requires-2 c κs = search needs
 
 loop-less : tie.Need-loop-less Inv-loop μ-loop
 loop-less c =
-    let (x, y) = both-true _ _ (not-false _ (c .before .before .before .before .before .before .if1 .left)) in
-    let p = part (c .before .before .before .before .before .read .result) (c .before .before .before .before .before .before .before .before .before .before .skip-space .ensures) (c .before .before .before .before .before .before .before .before .is-child .ensures) x (c .before .before .before .before .before .read .ensures) (c .before .before .before .past-element .ensures) in
+    let goes = c .before .before .before .before .before .before in
+    let asked = goes .before .before in
+    let read = c .before .before .before .before .before .read in
+    let p = part (read .result) (asked .before .before .skip-space .ensures) (asked .is-child .ensures) (both-true _ _ (not-false _ (goes .if1 .left)) .0)
+        (read .ensures) (c .before .before .before .past-element .ensures) in
     omega (arith, p .further, p .low)
 
 loop-again : tie.Need-loop-again Inv-loop μ-loop
 loop-again c =
-    let l = c .before .before .before .before .before .before .before .before .before .before .before .loop in
-    let (x, y) = both-true _ _ (not-false _ (c .before .before .before .before .before .before .if1 .left)) in
-    let p = part (c .before .before .before .before .before .read .result) (c .before .before .before .before .before .before .before .before .before .before .skip-space .ensures) (c .before .before .before .before .before .before .before .before .is-child .ensures) x (c .before .before .before .before .before .read .ensures) (c .before .before .before .past-element .ensures) in
-    let q = part (c .before .before .before .before .read2 .result) (c .before .before .before .before .before .before .before .before .before .skip-space2 .ensures) (c .before .before .before .before .before .before .before .is-child2 .ensures) y (c .before .before .before .before .read2 .ensures) (c .before .before .past-element2 .ensures) in
+    let goes = c .before .before .before .before .before .before in
+    let asked = goes .before .before in
+    let l = asked .before .before .before .loop in
+    let read = c .before .before .before .before .before .read in
+    let read2 = c .before .before .before .before .read2 in
+    let (x, y) = both-true _ _ (not-false _ (goes .if1 .left)) in
+    let p = part (read .result) (asked .before .before .skip-space .ensures) (asked .is-child .ensures) x (read .ensures) (c .before .before .before .past-element .ensures) in
+    let q = part (read2 .result) (asked .before .skip-space2 .ensures) (goes .before .is-child2 .ensures) y (read2 .ensures) (c .before .before .past-element2 .ensures) in
     (p .high, q .high, λ r h. told-more (answerMeant (l .answer)) (answerMeant (c .before .compare-parts .result)) r (c .also2 .ensures)
     (l .inv .2 _ (parts-more p q (c .before .compare-parts .ensures) r h)))
 
 pub compare-all-parts-spec : {M : Type 1} → statement M
 compare-all-parts-spec =
     tie.close
-    (tie.spec
-    Inv-loop
-    μ-loop
-    loop-holds
-    skip-space-requires
-    skip-space-requires-2
-    is-child-requires
-    is-child-requires-2
-    answer-if-requires
-    also-requires
-    returns
-    read-requires
-    read-requires-2
-    past-element-requires
-    past-element-requires-2
-    compare-parts-requires
-    also-requires-2
-    loop-less
+    (tie.spec Inv-loop μ-loop loop-holds skip-space-requires skip-space-requires-2 is-child-requires is-child-requires-2 answer-if-requires
+    also-requires returns read-requires read-requires-2 past-element-requires past-element-requires-2 compare-parts-requires also-requires-2 loop-less
     loop-again)

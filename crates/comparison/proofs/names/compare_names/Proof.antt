@@ -9,11 +9,6 @@ use Rattle.comparison.proofs.Joined.{none-left, none-inside}
 use borrow.Author.Needs.{needs}
 use Rattle.comparison.proofs.names.compare_names.Statement.{statement}
 use Rattle.comparison.proofs.names.compare_names.Tie as tie
-use Rattle.comparison.proofs.names.compare_names.Reads as reads
-use Rattle.comparison.proofs.names.compare_names.Lts as lts
-use Rattle.comparison.proofs.answer_if.Reads as answer-if-reads
-use Rattle.comparison.proofs.names.compare_all_parts.Reads as compare-all-parts-reads
-use Rattle.comparison.proofs.names.has_parts.Reads as has-parts-reads
 
 sub-compare-all-parts : tie.Need-sub-compare-all-parts
 sub-compare-all-parts c = search needs
@@ -23,8 +18,9 @@ compare-all-parts-requires c κs = search needs
 
 returns : tie.Need-returns
 returns c = λ n v w after rest g h.
+    let start = c .before .before .before .before .before .before in
     let (x, y) = both-true _ _ (c .before .if1 .taken) in
-    c .compare-all-parts .ensures (v .kids) (w .kids) _ _ after rest (row-of v after (c .before .before .before .before .before .before .args .a) x g) (row-of w rest (c .before .before .before .before .before .before .args .b) y h)
+    c .compare-all-parts .ensures (v .kids) (w .kids) _ _ after rest (row-of v after (start .args .a) x g) (row-of w rest (start .args .b) y h)
 
 has-parts-requires : tie.Need-has-parts-requires
 has-parts-requires c κs = search needs
@@ -42,12 +38,4 @@ returns-2 c = λ n v w after rest g h.
 
 pub compare-names-spec : {M : Type 1} → statement M
 compare-names-spec =
-    tie.close
-    (tie.spec
-    sub-compare-all-parts
-    compare-all-parts-requires
-    returns
-    has-parts-requires
-    has-parts-requires-2
-    answer-if-requires
-    returns-2)
+    tie.close (tie.spec sub-compare-all-parts compare-all-parts-requires returns has-parts-requires has-parts-requires-2 answer-if-requires returns-2)

@@ -5,11 +5,6 @@ use Rattle.comparison.proofs.Answers.{both-tests, either-test, chosen, 
 use borrow.Author.Needs.{needs}
 use Rattle.comparison.proofs.names.compare_parts.Statement.{statement}
 use Rattle.comparison.proofs.names.compare_parts.Tie as tie
-use Rattle.comparison.proofs.names.compare_parts.Reads as reads
-use Rattle.comparison.proofs.names.compare_parts.Lts as lts
-use Rattle.comparison.proofs.answer_if.Reads as answer-if-reads
-use Rattle.comparison.proofs.texts.same_attribute.Reads as same-attribute-reads
-use Rattle.element.proofs.tag.has.Reads as has-reads
 
 has-requires : tie.Need-has-requires
 has-requires c κs = search needs
@@ -31,17 +26,12 @@ answer-if-requires c κs = search needs
 
 returns-2 : tie.Need-returns-2
 returns-2 c = λ l m g h.
-    left-over (either-test (c .before .before .before .before .before .has .ensures _ l g) (c .before .before .before .before .has2 .ensures _ m h)) _ (c .before .before .before .if1 .left)
-    (c .answer-if .ensures ∙ ap answer (both-tests (c .before .before .same-attribute .ensures l m g h) (c .before .same-attribute2 .ensures l m g h)))
+    let neither = c .before .before .before in
+    let types = c .before .before .same-attribute .ensures l m g h in
+    let values = c .before .same-attribute2 .ensures l m g h in
+    left-over (either-test (neither .before .before .has .ensures _ l g) (neither .before .has2 .ensures _ m h)) _ (neither .if1 .left)
+    (c .answer-if .ensures ∙ ap answer (both-tests types values))
 
 pub compare-parts-spec : {M : Type 1} → statement M
 compare-parts-spec =
-    tie.close
-    (tie.spec
-    has-requires
-    has-requires-2
-    returns
-    same-attribute-requires
-    same-attribute-requires-2
-    answer-if-requires
-    returns-2)
+    tie.close (tie.spec has-requires has-requires-2 returns same-attribute-requires same-attribute-requires-2 answer-if-requires returns-2)

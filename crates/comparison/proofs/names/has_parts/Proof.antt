@@ -1,12 +1,7 @@
 -- `comparison::names::has_parts` meets its contract.
 use Rattle.comparison.proofs.Parts.{any-in}
-use borrow.Author.Needs.{needs}
 use Rattle.comparison.proofs.names.has_parts.Statement.{statement}
 use Rattle.comparison.proofs.names.has_parts.Tie as tie
-use Rattle.comparison.proofs.names.has_parts.Reads as reads
-use Rattle.comparison.proofs.names.has_parts.Lts as lts
-use Rattle.element.proofs.row.is_child.Reads as is-child-reads
-use Rattle.markup.proofs.scan.skip_space.Reads as skip-space-reads
 
 skip-space-requires : tie.Need-skip-space-requires
 skip-space-requires c κs = c .before .pre .end

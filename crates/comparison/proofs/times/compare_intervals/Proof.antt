@@ -6,12 +6,6 @@ use Rattle.comparison.proofs.Sayings.{said-sides}
 use borrow.Author.Needs.{needs}
 use Rattle.comparison.proofs.times.compare_intervals.Statement.{statement}
 use Rattle.comparison.proofs.times.compare_intervals.Tie as tie
-use Rattle.comparison.proofs.times.compare_intervals.Reads as reads
-use Rattle.comparison.proofs.times.compare_intervals.Lts as lts
-use Rattle.comparison.proofs.also.Reads as also-reads
-use Rattle.comparison.proofs.texts.same_attribute.Reads as same-attribute-reads
-use Rattle.comparison.proofs.times.compare_said.Reads as compare-said-reads
-use Rattle.datatype.proofs.sides.read_sides.Reads as read-sides-reads
 
 read-sides-requires : tie.Need-read-sides-requires
 read-sides-requires c κs = search needs
@@ -36,21 +30,17 @@ also-requires c κs = search needs
 
 returns : tie.Need-returns
 returns c = λ v w after rest g h.
-    let (xl, xh, xe) = c .before .before .before .before .before .before .read-sides .ensures .1 v after g in
-    let (yl, yh, ye) = c .before .before .before .before .before .read-sides2 .ensures .1 w rest h in
-    let same-low = c .before .before .before .before .same-attribute .ensures (v .attrs) (w .attrs) (g .tells) (h .tells) in
-    let same-high = c .before .before .before .same-attribute2 .ensures (v .attrs) (w .attrs) (g .tells) (h .tells) in
-    c .also .ensures ∙ both-answers (c .before .before .compare-said .ensures ∙ said-sides (c .before .before .before .before .before .before .before .before .before .args .shift) Low v w same-low xl yl) (c .before .compare-said2 .ensures ∙ said-sides (c .before .before .before .before .before .before .before .before .before .args .shift) High v w same-high xh yh)
+    let flagged = c .before .before .before in
+    let start = flagged .before .before .before .before .before .before in
+    let (xl, xh, xe) = flagged .before .before .before .read-sides .ensures .1 v after g in
+    let (yl, yh, ye) = flagged .before .before .read-sides2 .ensures .1 w rest h in
+    let low = flagged .before .same-attribute .ensures (v .attrs) (w .attrs) (g .tells) (h .tells) in
+    let high = flagged .same-attribute2 .ensures (v .attrs) (w .attrs) (g .tells) (h .tells) in
+    c .also .ensures ∙ both-answers (said-sides (start .args .shift) Low v w low xl yl (c .before .before .compare-said .ensures))
+    (said-sides (start .args .shift) High v w high xh yh (c .before .compare-said2 .ensures))
 
 pub compare-intervals-spec : {M : Type 1} → statement M
 compare-intervals-spec =
     tie.close
-    (tie.spec
-    read-sides-requires
-    read-sides-requires-2
-    same-attribute-requires
-    same-attribute-requires-2
-    compare-said-requires
-    compare-said-requires-2
-    also-requires
-    returns)
+    (tie.spec read-sides-requires read-sides-requires-2 same-attribute-requires same-attribute-requires-2 compare-said-requires
+    compare-said-requires-2 also-requires returns)

@@ -2,10 +2,6 @@
 use borrow.Author.Needs.{needs}
 use Rattle.comparison.proofs.times.compare_said.Statement.{statement}
 use Rattle.comparison.proofs.times.compare_said.Tie as tie
-use Rattle.comparison.proofs.times.compare_said.Reads as reads
-use Rattle.comparison.proofs.times.compare_said.Lts as lts
-use Rattle.comparison.proofs.times.compare_flagged.Reads as compare-flagged-reads
-use Rattle.datatype.proofs.said.endpoint.Reads as endpoint-reads
 
 endpoint-requires : tie.Need-endpoint-requires
 endpoint-requires c κs = search needs

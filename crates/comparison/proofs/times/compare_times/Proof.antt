@@ -1,14 +1,9 @@
 -- `comparison::times::compare_times` meets its contract.
-use mathlib.Core.Path.{_∙_}
 use native.Mathlib.Omega.{arith}
 use Rattle.comparison.proofs.Sayings.{said-values}
 use borrow.Author.Needs.{needs}
 use Rattle.comparison.proofs.times.compare_times.Statement.{statement}
 use Rattle.comparison.proofs.times.compare_times.Tie as tie
-use Rattle.comparison.proofs.times.compare_times.Reads as reads
-use Rattle.comparison.proofs.times.compare_times.Lts as lts
-use Rattle.comparison.proofs.times.compare_said.Reads as compare-said-reads
-use Rattle.datatype.proofs.said.time_at.Reads as time-at-reads
 
 element-copy-out-time-at : tie.Need-element-copy-out-time-at
 element-copy-out-time-at c = search needs
@@ -26,15 +21,12 @@ compare-said-requires : tie.Need-compare-said-requires
 compare-said-requires c κs = search needs
 
 returns : tie.Need-returns
-returns c = λ v w g h. c .compare-said .ensures ∙ said-values (c .before .before .before .before .before .before .before .args .shift) v w (c .before .before .before .time-at .ensures _ (g .placed 0 (omega arith)) .1) (c .before .time-at2 .ensures _ (h .placed 0 (omega arith)) .1)
+returns c = λ v w g h.
+    let start = c .before .before .before .before .before .before .before in
+    let a = c .before .before .before .time-at .ensures _ (g .placed 0 (omega arith)) .1 in
+    let b = c .before .time-at2 .ensures _ (h .placed 0 (omega arith)) .1 in
+    said-values (start .args .shift) v w a b (c .compare-said .ensures)
 
 pub compare-times-spec : {M : Type 1} → statement M
 compare-times-spec =
-    tie.close
-    (tie.spec
-    element-copy-out-time-at
-    time-at-requires
-    element-copy-out-time-at-2
-    time-at-requires-2
-    compare-said-requires
-    returns)
+    tie.close (tie.spec element-copy-out-time-at time-at-requires element-copy-out-time-at-2 time-at-requires-2 compare-said-requires returns)

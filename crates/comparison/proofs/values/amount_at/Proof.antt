@@ -4,10 +4,6 @@ use Rattle.element.proofs.Asked.{absent, standing-to}
 use borrow.Author.Needs.{needs}
 use Rattle.comparison.proofs.values.amount_at.Statement.{statement}
 use Rattle.comparison.proofs.values.amount_at.Tie as tie
-use Rattle.comparison.proofs.values.amount_at.Reads as reads
-use Rattle.comparison.proofs.values.amount_at.Lts as lts
-use Rattle.element.proofs.value.end.Reads as end-reads
-use Rattle.form.proofs.amount.Reads as amount-reads
 
 returns : tie.Need-returns
 returns c = λ o p. rw (absent p (c .if1 .taken))

@@ -5,11 +5,6 @@ use Rattle.comparison.proofs.Answers.{both-tests, chosen, left-over}
 use borrow.Author.Needs.{needs}
 use Rattle.comparison.proofs.values.compare_codes.Statement.{statement}
 use Rattle.comparison.proofs.values.compare_codes.Tie as tie
-use Rattle.comparison.proofs.values.compare_codes.Reads as reads
-use Rattle.comparison.proofs.values.compare_codes.Lts as lts
-use Rattle.comparison.proofs.answer_if.Reads as answer-if-reads
-use Rattle.comparison.proofs.texts.same_attribute.Reads as same-attribute-reads
-use Rattle.element.proofs.tag.has.Reads as has-reads
 
 has-requires : tie.Need-has-requires
 has-requires c κs = search needs
@@ -28,20 +23,15 @@ answer-if-requires c κs = search needs
 
 returns : tie.Need-returns
 returns c = λ n v w g h.
-    chosen (both-tests (c .before .before .before .before .before .has .ensures _ (v .attrs) g) (c .before .before .before .before .has2 .ensures _ (w .attrs) h)) _ (c .before .before .before .if1 .taken)
-    (c .answer-if .ensures ∙ ap answer (both-tests (c .before .before .same-attribute .ensures (v .attrs) (w .attrs) g h) (c .before .same-attribute2 .ensures (v .attrs) (w .attrs) g h)))
+    let both = c .before .before .before in
+    let codes = c .before .before .same-attribute .ensures (v .attrs) (w .attrs) g h in
+    let systems = c .before .same-attribute2 .ensures (v .attrs) (w .attrs) g h in
+    chosen (both-tests (both .before .before .has .ensures _ (v .attrs) g) (both .before .has2 .ensures _ (w .attrs) h)) _ (both .if1 .taken)
+    (c .answer-if .ensures ∙ ap answer (both-tests codes systems))
 
 returns-2 : tie.Need-returns-2
 returns-2 c = λ n v w g h. left-over (both-tests (c .before .before .has .ensures _ (v .attrs) g) (c .before .has2 .ensures _ (w .attrs) h)) _ (c .if1 .left) refl
 
 pub compare-codes-spec : {M : Type 1} → statement M
 compare-codes-spec =
-    tie.close
-    (tie.spec
-    has-requires
-    has-requires-2
-    same-attribute-requires
-    same-attribute-requires-2
-    answer-if-requires
-    returns
-    returns-2)
+    tie.close (tie.spec has-requires has-requires-2 same-attribute-requires same-attribute-requires-2 answer-if-requires returns returns-2)

@@ -5,10 +5,6 @@ use Rattle.comparison.proofs.Answers.{both-tests}
 use borrow.Author.Needs.{needs}
 use Rattle.comparison.proofs.values.compare_identifiers.Statement.{statement}
 use Rattle.comparison.proofs.values.compare_identifiers.Tie as tie
-use Rattle.comparison.proofs.values.compare_identifiers.Reads as reads
-use Rattle.comparison.proofs.values.compare_identifiers.Lts as lts
-use Rattle.comparison.proofs.answer_if.Reads as answer-if-reads
-use Rattle.comparison.proofs.texts.same_attribute.Reads as same-attribute-reads
 
 same-attribute-requires : tie.Need-same-attribute-requires
 same-attribute-requires c κs = search needs
@@ -20,7 +16,10 @@ answer-if-requires : tie.Need-answer-if-requires
 answer-if-requires c κs = search needs
 
 returns : tie.Need-returns
-returns c = λ n v w g h. c .answer-if .ensures ∙ ap answer (both-tests (c .before .before .same-attribute .ensures (v .attrs) (w .attrs) g h) (c .before .same-attribute2 .ensures (v .attrs) (w .attrs) g h))
+returns c = λ n v w g h.
+    let roots = c .before .before .same-attribute .ensures (v .attrs) (w .attrs) g h in
+    let extensions = c .before .same-attribute2 .ensures (v .attrs) (w .attrs) g h in
+    c .answer-if .ensures ∙ ap answer (both-tests roots extensions)
 
 pub compare-identifiers-spec : {M : Type 1} → statement M
 compare-identifiers-spec =

@@ -5,10 +5,6 @@ use Rattle.comparison.proofs.Answers.{both-tests}
 use borrow.Author.Needs.{needs}
 use Rattle.comparison.proofs.values.compare_money.Statement.{statement}
 use Rattle.comparison.proofs.values.compare_money.Tie as tie
-use Rattle.comparison.proofs.values.compare_money.Reads as reads
-use Rattle.comparison.proofs.values.compare_money.Lts as lts
-use Rattle.comparison.proofs.answer_if.Reads as answer-if-reads
-use Rattle.comparison.proofs.values.same_value.Reads as same-value-reads
 
 same-value-requires : tie.Need-same-value-requires
 same-value-requires c κs = search needs
@@ -20,7 +16,10 @@ answer-if-requires : tie.Need-answer-if-requires
 answer-if-requires c κs = search needs
 
 returns : tie.Need-returns
-returns c = λ n v w g h. c .answer-if .ensures ∙ ap answer (both-tests (c .before .before .same-value .ensures (v .attrs) (w .attrs) g h) (c .before .same-value2 .ensures (v .attrs) (w .attrs) g h))
+returns c = λ n v w g h.
+    let amounts = c .before .before .same-value .ensures (v .attrs) (w .attrs) g h in
+    let currencies = c .before .same-value2 .ensures (v .attrs) (w .attrs) g h in
+    c .answer-if .ensures ∙ ap answer (both-tests amounts currencies)
 
 pub compare-money-spec : {M : Type 1} → statement M
 compare-money-spec =

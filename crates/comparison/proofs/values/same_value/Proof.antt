@@ -4,11 +4,6 @@ use Rattle.comparison.proofs.Options.{carried}
 use borrow.Author.Needs.{needs}
 use Rattle.comparison.proofs.values.same_value.Statement.{statement}
 use Rattle.comparison.proofs.values.same_value.Tie as tie
-use Rattle.comparison.proofs.values.same_value.Reads as reads
-use Rattle.comparison.proofs.values.same_value.Lts as lts
-use Rattle.comparison.proofs.texts.same_attribute.Reads as same-attribute-reads
-use Rattle.comparison.proofs.values.amount_at.Reads as amount-at-reads
-use Rattle.comparison.proofs.values.same_amount.Reads as same-amount-reads
 
 enum-told : tie.Need-enum-told
 enum-told c = search needs
@@ -45,23 +40,14 @@ returns c = λ l m g h. rw (c .before .enum-told .given .1) (c .same-attribute .
 
 returns-2 : tie.Need-returns-2
 returns-2 c = λ l m g h.
-    let n = c .before .before .before .before .before .before .before .before .before .args .n in
-    let k = c .before .before .before .before .before .before .before .before .before .pre .1 .1 in
-    rw (c .before .before .before .before .before .enum-told2 .given .1) (carried sameAmount (c .same-amount .ensures) (c .before .before .before .amount-at .ensures _ (g .placed n k)) (c .before .amount-at2 .ensures _ (h .placed n k)))
+    let told = c .before .before .before .before .before in
+    let start = told .before .before .before .before in
+    let a = c .before .before .before .amount-at .ensures _ (g .placed (start .args .n) (start .pre .1 .1)) in
+    let b = c .before .amount-at2 .ensures _ (h .placed (start .args .n) (start .pre .1 .1)) in
+    rw (told .enum-told2 .given .1) (carried sameAmount (c .same-amount .ensures) a b)
 
 pub same-value-spec : {M : Type 1} → statement M
 same-value-spec =
     tie.close
-    (tie.spec
-    enum-told
-    same-attribute-requires
-    enum-told-2
-    mul-amount-at
-    element-copy-out-amount-at
-    amount-at-requires
-    mul-amount-at-2
-    element-copy-out-amount-at-2
-    amount-at-requires-2
-    same-amount-requires
-    returns
-    returns-2)
+    (tie.spec enum-told same-attribute-requires enum-told-2 mul-amount-at element-copy-out-amount-at amount-at-requires mul-amount-at-2
+    element-copy-out-amount-at-2 amount-at-requires-2 same-amount-requires returns returns-2)
