@@ -74,7 +74,7 @@ loop-less c =
     let asked = goes .before .before in
     let read = c .before .before .before .before .before .read in
     let p = part (read .result) (asked .before .before .skip-space .ensures) (asked .is-child .ensures) (both-true _ _ (not-false _ (goes .if1 .left)) .0)
-        (read .ensures) (c .before .before .before .past-element .ensures) in
+    (read .ensures) (c .before .before .before .past-element .ensures) in
     omega (arith, p .further, p .low)
 
 loop-again : tie.Need-loop-again Inv-loop μ-loop
@@ -86,9 +86,12 @@ loop-again c =
     let read2 = c .before .before .before .before .read2 in
     let (x, y) = both-true _ _ (not-false _ (goes .if1 .left)) in
     let p = part (read .result) (asked .before .before .skip-space .ensures) (asked .is-child .ensures) x (read .ensures) (c .before .before .before .past-element .ensures) in
-    let q = part (read2 .result) (asked .before .skip-space2 .ensures) (goes .before .is-child2 .ensures) y (read2 .ensures) (c .before .before .past-element2 .ensures) in
-    (p .high, q .high, λ r h. told-more (answerMeant (l .answer)) (answerMeant (c .before .compare-parts .result)) r (c .also2 .ensures)
-    (l .inv .2 _ (parts-more p q (c .before .compare-parts .ensures) r h)))
+    let q = part (read2 .result) (asked .before .skip-space2 .ensures) (goes .before .is-child2 .ensures) y (read2 .ensures) (c .before .before .past-element2 .ensures) in (
+      p .high,
+      q .high,
+      λ r h. told-more (answerMeant (l .answer)) (answerMeant (c .before .compare-parts .result)) r (c .also2 .ensures)
+          (l .inv .2 _ (parts-more p q (c .before .compare-parts .ensures) r h)),
+    )
 
 pub compare-all-parts-spec : {M : Type 1} → statement M
 compare-all-parts-spec =
