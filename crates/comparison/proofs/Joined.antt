@@ -1,18 +1,21 @@
 -- Names part by part: answers joined, and the answer on what is left.
 use Prim.Native.Nat.{ℕ}
 use mathlib.Core.Path.{_≡_, refl, sym, _∙_, ap}
-use mathlib.Core.Bool.{Bool, not}
+use mathlib.Core.Bool.{Bool, true, false, not, _&&_, _||_}
 use mathlib.Core.List.{List}
-use Rattle.rules.specs.Markup.{Nodes, end, node, Element}
+use lib.ListN.{drop}
+use Rattle.rules.specs.Markup.{Attribute, space, Nodes, end, node}
 use Rattle.rules.specs.Invariants.{hasChildren}
 use Rattle.rules.specs.Comparison.{Answer, Yes, No, Unknown, answer, _also_, compareParts, compareAllParts}
-use Rattle.element.specs.Places.{ElementAt, NodesAt, Steps}
-use Rattle.element.specs.declared.Step.{Step}
-use Rattle.element.specs.declared.Step.the-variants.{One, End}
-use Rattle.datatype.proofs.Kids.{steps-none, steps-some}
+use Rattle.rules.proofs.Tests.{clash}
+use Rattle.text.specs.Reads.{Good}
+use Rattle.element.specs.Tags.{Tells, Inner, empty, full}
+use Rattle.element.specs.Rows.{isChild}
+use Rattle.element.specs.declared.tag.Tag.{Tag}
 use Rattle.comparison.specs.Parts.{PartsFrom}
+use Rattle.comparison.proofs.Parts.{any-part, Part}
 
-pub also-assoc : (a b c : Answer) → ((a also b) also c) ≡ (a also (b also c))
+also-assoc : (a b c : Answer) → ((a also b) also c) ≡ (a also (b also c))
 also-assoc Yes b c = refl
 also-assoc No b c = refl
 also-assoc Unknown Yes c = refl
@@ -21,46 +24,45 @@ also-assoc Unknown Unknown Yes = refl
 also-assoc Unknown Unknown No = refl
 also-assoc Unknown Unknown Unknown = refl
 
-pub also-no : (a : Answer) → (a also No) ≡ No
-also-no Yes = refl
-also-no No = refl
-also-no Unknown = refl
-
--- no parts, and parts
-pub none-left : (l m : Nodes) → l ≡ end → answer (not (hasChildren m)) ≡ compareAllParts l m
+-- no parts
+pub none-left : (l m : Nodes) → (hasChildren l && hasChildren m) ≡ false → answer (not (hasChildren l || hasChildren m)) ≡ compareAllParts l m
 unfolding compareAllParts
-none-left l end z = rw z
-none-left l (node n bs ls more) z = rw z
+none-left end end e = refl
+none-left end (node n bs ls more) e = refl
+none-left (node n as′ ks rest) end e = refl
+none-left (node n as′ ks rest) (node m bs ls more) e = clash (cc)
 
-pub none-right : (l m : Nodes) → m ≡ end → answer (not (hasChildren l)) ≡ compareAllParts l m
-unfolding compareAllParts
-none-right end m z = rw z
-none-right (node n as′ ks rest) m z = rw z
+pub none-inside : {s t n o after rest : List ℕ} {d i f j : ℕ} {l m : Nodes} {a b : Bool} → (a && b) ≡ false → Inner s d n i after l a → Inner t f o j rest m b
+    → (hasChildren l && hasChildren m) ≡ false
+none-inside e (empty x) y = refl
+none-inside e (full l x) (empty y) = no-more (hasChildren l)
+  where
+    no-more : (c : Bool) → (c && false) ≡ false
+    no-more true = refl
+    no-more false = refl
+none-inside e (full l x) (full m y) = clash (cc)
 
 -- from two positions on
-module _ {s t : List ℕ} {depth i j : ℕ} {r p : Step} (f : (l : Nodes) → NodesAt s i depth l → Steps s depth l r) (g : (m : Nodes) → NodesAt t j depth m → Steps t depth m p) where
-  pub parts-end : {b : Bool} → r ≡ End → ((m : Nodes) → Steps t depth m p → b ≡ not (hasChildren m)) → PartsFrom s t depth i j (answer b)
-  parts-end z h l m x y = ap answer (h m (g m y)) ∙ none-left l m (steps-none z (f l x))
+pub parts-end : {s t : List ℕ} {depth i j p q : ℕ} {a b : Bool} → Good 0 space s i p → Good 0 space t j q → a ≡ isChild (drop p s) → b ≡ isChild (drop q t)
+    → (a && b) ≡ false → PartsFrom s t depth i j (answer (not (a || b)))
+parts-end g h e f z l m n o after rest x y =
+    let c = any-part g e x in
+    let d = any-part h f y in
+    rw (c, d) (none-left l m (rw (← c, ← d) z))
 
-  pub parts-fewer : {a e : ℕ} → r ≡ One a e → p ≡ End → PartsFrom s t depth i j No
-  parts-fewer z q l m x y = let (v, k, o, u, n) = steps-some z (f l x) in ap (λ (o′ : Nodes). answer (not (hasChildren o′))) (sym o) ∙ none-right l m (steps-none q (g m y))
-
-  pub parts-more : {a e b o : ℕ} {c : Answer} → r ≡ One a e → p ≡ One b o
-      → ((v w : Element) → ElementAt s a depth v → ElementAt t b depth w → c ≡ compareParts (v .attrs) (w .attrs))
-      → (x : Answer) → PartsFrom s t depth e o x → PartsFrom s t depth i j (c also x)
-  unfolding compareAllParts
-  parts-more z q h x n l m y u =
-      let (v, k, a, va, kn) = steps-some z (f l y) in
-      let (w, k′, a′, wa, kn′) = steps-some q (g m u) in
-      rw (a, a′, h v w va wa, n k k′ kn kn′)
+pub parts-more : {s t : List ℕ} {depth i j e o : ℕ} {a b : Tag} {c : Answer} → Part s depth i e a → Part t depth j o b
+    → ((l m : List Attribute) → Tells s l (a .places) → Tells t m (b .places) → c ≡ compareParts l m)
+    → (x : Answer) → PartsFrom s t depth e o x → PartsFrom s t depth i j (c also x)
+unfolding compareAllParts
+parts-more f g h x r l m n o after rest y u =
+    let (v, k, z, va, kr) = f .first n l after y in
+    let (w, k′, z′, wa, kr′) = g .first o m rest u in
+    rw (z, z′, h (v .attrs) (w .attrs) va wa, r k k′ n o after rest kr kr′)
 
 -- from the start on, by the answer so far
 module _ {s t : List ℕ} {depth i j : ℕ} (a : Answer) where
   pub told-end : {b c x : Answer} → b ≡ (a also c) → c ≡ x → PartsFrom s t depth i j (a also x) → PartsFrom s t depth i j b
-  told-end e z h l m y u = e ∙ ap (λ (o : Answer). a also o) z ∙ h l m y u
-
-  pub told-no : PartsFrom s t depth i j (a also No) → PartsFrom s t depth i j No
-  told-no h l m y u = sym (also-no a) ∙ h l m y u
+  told-end e z h l m n o after rest y u = e ∙ ap (λ (o : Answer). a also o) z ∙ h l m n o after rest y u
 
   pub told-more : {b : Answer} (c x : Answer) → b ≡ (a also c) → PartsFrom s t depth i j (a also (c also x)) → PartsFrom s t depth i j (b also x)
-  told-more c x e h l m y u = ap (λ (o : Answer). o also x) e ∙ also-assoc a c x ∙ h l m y u
+  told-more c x e h l m n o after rest y u = ap (λ (o : Answer). o also x) e ∙ also-assoc a c x ∙ h l m n o after rest y u

@@ -1,6 +1,9 @@
 pub mod Options
 pub mod Answers
 pub mod Signs
+pub mod Numbers
 pub mod Types
-pub mod Joined
+pub mod Parts
 pub mod Flags
+pub mod Sayings
+pub mod Joined

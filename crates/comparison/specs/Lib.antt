@@ -1,4 +1,5 @@
 pub mod Meaning
+pub mod Kinds
 pub mod Parts
 pub mod Sides
 pub mod Readings

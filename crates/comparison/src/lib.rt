@@ -1,17 +1,17 @@
 // Comparison of two records: yes, no or unknown.
 ghost use mathlib.Core.Path.{_≡_};
-ghost use mathlib.Core.Option.{some};
+ghost use mathlib.Core.List.{List};
 ghost use Prim.Native.Nat.{ℕ, _≤_};
-ghost use lib.ListN.{length};
 ghost use Rattle.rules.specs.Basics.{ifSome};
 ghost use Rattle.rules.specs.Refusal.{TYPE, answered};
-ghost use Rattle.rules.specs.Markup.{Element, document};
-ghost use Rattle.rules.specs.Types.{hasType};
+ghost use Rattle.rules.specs.Markup.{Element};
 ghost use Rattle.rules.specs.Comparison.{answer, _also_, comparerOf};
 ghost use Rattle.rules.specs.Services.{compared as isCompared, refusedSecond, compareChecked};
-ghost use Rattle.element.specs.Places.{ElementAt};
+ghost use Rattle.element.specs.Tags.{TagOf, TagIn};
 ghost use Rattle.datatype.specs.Meaning.{kindMeant};
+ghost use Rattle.datatype.specs.Records.{RecordOf};
 ghost use Rattle.comparison.specs.Meaning.{answerMeant, comparedMeant, unknownIf};
+ghost use Rattle.comparison.specs.Kinds.{Numbered};
 
 pub mod names;
 pub mod texts;
@@ -19,11 +19,10 @@ pub mod times;
 pub mod values;
 
 use datatype::kind::Kind;
-use datatype::kind::Named;
-use datatype::kind::type_of;
-use datatype::reading::has_text;
-use datatype::reading::is_null;
-use element::root;
+use datatype::record::Record;
+use element::name::NULL_FLAVOR;
+use element::tag::Tag;
+use element::tag::has;
 
 // Yes, no, or unknown.
 pub enum Answer {
@@ -63,23 +62,22 @@ pub enum Compared {
     Other,
 }
 
-// Whether the element at a position names the type of a kind.
-fn has_type(s: &[u8], at: usize, kind: Kind) -> bool
-    requires { ⌜ at ≤ length (now s) ⌝ }
-    ensures { λ r. ⌜ ((d : ℕ) (v : Element) → ElementAt (now (s .entry)) at d v → r ≡ hasType (v .attrs) (kindMeant kind)) ⌝ }
+// The number of a kind.
+fn number(kind: Kind) -> usize
+    ensures { λ r. ⌜ Numbered (kindMeant kind) r ⌝ }
 {
     match kind {
-        Kind::Ts => has_text(s, at, b"xsi:type", b"TS"),
-        Kind::IvlTs => has_text(s, at, b"xsi:type", b"IVL_TS"),
-        Kind::QsuTs => has_text(s, at, b"xsi:type", b"QSU_TS"),
-        Kind::QsiTs => has_text(s, at, b"xsi:type", b"QSI_TS"),
-        Kind::QsdTs => has_text(s, at, b"xsi:type", b"QSD_TS"),
-        Kind::Mo => has_text(s, at, b"xsi:type", b"MO"),
-        Kind::Ii => has_text(s, at, b"xsi:type", b"II"),
-        Kind::Cd => has_text(s, at, b"xsi:type", b"CD"),
-        Kind::En => has_text(s, at, b"xsi:type", b"EN"),
-        Kind::DisplayName => has_text(s, at, b"xsi:type", b"displayName"),
-        Kind::Part => has_text(s, at, b"xsi:type", b"part"),
+        Kind::Ts => 0,
+        Kind::IvlTs => 1,
+        Kind::QsuTs => 2,
+        Kind::QsiTs => 3,
+        Kind::QsdTs => 4,
+        Kind::Mo => 5,
+        Kind::Ii => 6,
+        Kind::Cd => 7,
+        Kind::En => 8,
+        Kind::DisplayName => 9,
+        Kind::Part => 10,
     }
 }
 
@@ -102,39 +100,37 @@ fn unknown_if(compared: Compared, null: bool) -> Compared
 const DEPTH: usize = 8;
 
 // The answer on two values of a kind, neither null, or that values of the kind are not compared.
-fn compare_kind(s: &[u8], at: usize, t: &[u8], other: usize, kind: Kind, shift: u64) -> Compared
-    requires { ⌜ at ≤ length (now s) ⌝ ∗ ⌜ other ≤ length (now t) ⌝ ∗ ⌜ shift ≤ 1680 ⌝ }
-    ensures { λ r. ⌜ ((v w : Element) → ElementAt (now (s .entry)) at 8 v → ElementAt (now (t .entry)) other 8 w → comparedMeant r ≡ ifSome (comparerOf (kindMeant kind)) (λ f. isCompared (f shift v w)) (refusedSecond TYPE)) ⌝ }
+fn compare_kind(s: &[u8], a: Tag, t: &[u8], b: Tag, kind: Kind, shift: u64) -> Compared
+    requires { ⌜ TagIn (now s) a ⌝ ∗ ⌜ TagIn (now t) b ⌝ ∗ ⌜ shift ≤ 1680 ⌝ }
+    ensures { λ r. ⌜ ((v w : Element) (after rest : List ℕ) → TagOf (now (s .entry)) 8 v after a → TagOf (now (t .entry)) 8 w rest b → comparedMeant r ≡ ifSome (comparerOf (kindMeant kind)) (λ f. isCompared (f shift v w)) (refusedSecond TYPE)) ⌝ }
 {
     match kind {
-        Kind::Ts => Compared::Is(times::compare_times(s, at, t, other, shift)),
-        Kind::IvlTs => Compared::Is(times::compare_intervals(s, at, t, other, DEPTH, shift)),
+        Kind::Ts => Compared::Is(times::compare_times(s, a, t, b, shift)),
+        Kind::IvlTs => Compared::Is(times::compare_intervals(s, a, t, b, DEPTH, shift)),
         Kind::QsuTs => Compared::Other,
         Kind::QsiTs => Compared::Other,
         Kind::QsdTs => Compared::Other,
-        Kind::Mo => Compared::Is(values::compare_money(s, at, t, other)),
-        Kind::Ii => Compared::Is(values::compare_identifiers(s, at, t, other)),
-        Kind::Cd => Compared::Is(values::compare_codes(s, at, t, other)),
-        Kind::En => Compared::Is(names::compare_names(s, at, t, other, DEPTH)),
+        Kind::Mo => Compared::Is(values::compare_money(s, a, t, b)),
+        Kind::Ii => Compared::Is(values::compare_identifiers(s, a, t, b)),
+        Kind::Cd => Compared::Is(values::compare_codes(s, a, t, b)),
+        Kind::En => Compared::Is(names::compare_names(s, a, t, b, DEPTH)),
         Kind::DisplayName => Compared::Other,
         Kind::Part => Compared::Other,
     }
 }
 
-// The answer on two documents, or that they are not compared; `shift` is 840 less the agreed offset in minutes.
-pub fn compare(s: &[u8], t: &[u8], shift: u64) -> Compared
-    requires { ⌜ shift ≤ 1680 ⌝ }
-    ensures { λ r. ⌜ ((v w : Element) → document (now (s .entry)) ≡ some v → document (now (t .entry)) ≡ some w → comparedMeant r ≡ compareChecked shift (answered v) (answered w)) ⌝ }
+// The answer on two records, or that they are not compared; `shift` is 840 less the agreed offset in minutes.
+pub fn compare(s: &[u8], a: Record, t: &[u8], b: Record, shift: u64) -> Compared
+    requires { ⌜ TagIn (now s) (a .tag) ⌝ ∗ ⌜ TagIn (now t) (b .tag) ⌝ ∗ ⌜ shift ≤ 1680 ⌝ }
+    ensures { λ r. ⌜ ((v w : Element) → RecordOf (now (s .entry)) v a → RecordOf (now (t .entry)) w b → comparedMeant r ≡ compareChecked shift (answered v) (answered w)) ⌝ }
 {
-    let at = root(s);
-    let other = root(t);
-    let named = type_of(s, at, true);
-    let Named::Is(kind) = named else {
+    let kind = a.kind;
+    let other = b.kind;
+    if number(kind) != number(other) {
         return Compared::Other;
-    };
-    if has_type(t, other, kind) {
-        let null = is_null(s, at) | is_null(t, other);
-        return unknown_if(compare_kind(s, at, t, other, kind, shift), null);
     }
-    Compared::Other
+    let first = a.tag;
+    let second = b.tag;
+    let null = has(first, NULL_FLAVOR) | has(second, NULL_FLAVOR);
+    unknown_if(compare_kind(s, first, t, second, kind, shift), null)
 }

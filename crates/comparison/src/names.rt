@@ -1,46 +1,38 @@
 // Names, compared part by part.
 ghost use mathlib.Core.Path.{_≡_};
-ghost use mathlib.Core.Bool.{not};
 ghost use mathlib.Core.List.{List};
 ghost use Prim.Native.Nat.{ℕ, _-_, _≤_};
 ghost use lib.ListN.{length};
-ghost use Rattle.rules.specs.Markup.{Nodes, Element};
+ghost use Rattle.rules.specs.Markup.{Attribute, Element};
 ghost use Rattle.rules.specs.Invariants.{hasChildren};
 ghost use Rattle.rules.specs.Comparison.{compareParts, compareNames};
-ghost use Rattle.element.specs.Places.{ElementAt, Steps};
+ghost use Rattle.element.specs.Tags.{Tells, TagOf, TagIn};
 ghost use Rattle.comparison.specs.Meaning.{answerMeant};
 ghost use Rattle.comparison.specs.Parts.{PartsFrom};
 use crate::Answer;
 use crate::also;
 use crate::answer_if;
 use crate::texts::same_attribute;
-use datatype::reading::has_children;
-use datatype::reading::is_null;
-use element::Step;
-use element::children;
-use element::next_element;
-use text::Read;
+use element::name::NULL_FLAVOR;
+use element::name::PART_TYPE;
+use element::name::VALUE;
+use element::row::is_child;
+use element::row::past_element;
+use element::tag;
+use element::tag::Tag;
+use element::tag::has;
+use markup::scan::skip_space;
 
 // Two parts: type and value; a null part is unknown.
-fn compare_parts(s: &[u8], at: usize, t: &[u8], other: usize) -> Answer
-    requires { ⌜ at ≤ length (now s) ⌝ ∗ ⌜ other ≤ length (now t) ⌝ }
-    ensures { λ r. ⌜ ((d e : ℕ) (v w : Element) → ElementAt (now (s .entry)) at d v → ElementAt (now (t .entry)) other e w → answerMeant r ≡ compareParts (v .attrs) (w .attrs)) ⌝ }
+fn compare_parts(s: &[u8], a: Tag, t: &[u8], b: Tag) -> Answer
+    requires { ⌜ TagIn (now s) a ⌝ ∗ ⌜ TagIn (now t) b ⌝ }
+    ensures { λ r. ⌜ ((l m : List Attribute) → Tells (now (s .entry)) l (a .places) → Tells (now (t .entry)) m (b .places) → answerMeant r ≡ compareParts l m) ⌝ }
 {
-    if is_null(s, at) | is_null(t, other) {
+    if has(a, NULL_FLAVOR) | has(b, NULL_FLAVOR) {
         return Answer::Unknown;
     }
-    let types = same_attribute(s, at, t, other, b"type");
-    answer_if(types & same_attribute(s, at, t, other, b"value"))
-}
-
-// Whether no element was found.
-fn is_end(step: Step) -> bool
-    ensures { λ r. ⌜ ((s : List ℕ) (depth : ℕ) (l : Nodes) → Steps s depth l step → r ≡ not (hasChildren l)) ⌝ }
-{
-    match step {
-        Step::One(_, _) => false,
-        Step::End => true,
-    }
+    let types = same_attribute(s, a, t, b, PART_TYPE);
+    answer_if(types & same_attribute(s, a, t, b, VALUE))
 }
 
 // The parts that stand from a position of a text on and those that stand from a position of another on, in order; differing counts give no.
@@ -52,32 +44,39 @@ fn compare_all_parts(s: &[u8], at: usize, t: &[u8], other: usize, depth: usize) 
     let mut i = at;
     let mut j = other;
     loop {
-        let first = next_element(s, i, depth);
-        let second = next_element(t, j, depth);
-        let Step::One(part, end) = first else {
-            return also(answer, answer_if(is_end(second)));
-        };
-        let Step::One(twin, stop) = second else {
-            return Answer::No;
-        };
+        let p = skip_space(s, i);
+        let q = skip_space(t, j);
+        let more = is_child(s, p);
+        let others = is_child(t, q);
+        if !(more & others) {
+            return also(answer, answer_if(!(more | others)));
+        }
+        let part = tag::read(s, p);
+        let twin = tag::read(t, q);
+        let end = past_element(s, part, depth);
+        let stop = past_element(t, twin, depth);
         answer = also(answer, compare_parts(s, part, t, twin));
         i = end;
         j = stop;
     }
 }
 
-// EN: differing part counts give no, else parts in order.
-pub fn compare_names(s: &[u8], at: usize, t: &[u8], other: usize, depth: usize) -> Answer
-    requires { ⌜ at ≤ length (now s) ⌝ ∗ ⌜ other ≤ length (now t) ⌝ ∗ ⌜ 1 ≤ depth ⌝ }
-    ensures { λ r. ⌜ ((n : ℕ) (v w : Element) → ElementAt (now (s .entry)) at depth v → ElementAt (now (t .entry)) other depth w → answerMeant r ≡ compareNames n v w) ⌝ }
+// Whether the element of a tag has parts.
+fn has_parts(s: &[u8], tag: Tag) -> bool
+    requires { ⌜ TagIn (now s) tag ⌝ }
+    ensures { λ r. ⌜ ((depth : ℕ) (v : Element) (after : List ℕ) → TagOf (now (s .entry)) depth v after tag → r ≡ hasChildren (v .kids)) ⌝ }
 {
-    let content = children(s, at);
-    let matter = children(t, other);
-    let Read::At(i) = content else {
-        return answer_if(!has_children(t, other, depth));
-    };
-    let Read::At(j) = matter else {
-        return answer_if(!has_children(s, at, depth));
-    };
-    compare_all_parts(s, i, t, j, depth - 1)
+    let i = skip_space(s, tag.end);
+    tag.full & is_child(s, i)
+}
+
+// EN: differing part counts give no, else parts in order.
+pub fn compare_names(s: &[u8], a: Tag, t: &[u8], b: Tag, depth: usize) -> Answer
+    requires { ⌜ TagIn (now s) a ⌝ ∗ ⌜ TagIn (now t) b ⌝ ∗ ⌜ 1 ≤ depth ⌝ }
+    ensures { λ r. ⌜ ((n : ℕ) (v w : Element) (after rest : List ℕ) → TagOf (now (s .entry)) depth v after a → TagOf (now (t .entry)) depth w rest b → answerMeant r ≡ compareNames n v w) ⌝ }
+{
+    if a.full & b.full {
+        return compare_all_parts(s, a.end, t, b.end, depth - 1);
+    }
+    answer_if(!(has_parts(s, a) | has_parts(t, b)))
 }

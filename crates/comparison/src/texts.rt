@@ -1,41 +1,26 @@
 // Attributes of two elements, compared as texts.
 ghost use mathlib.Core.Path.{_≡_};
-ghost use mathlib.Core.Bool.{not};
 ghost use mathlib.Core.List.{List};
-ghost use mathlib.Core.Option.{Option};
-ghost use Prim.Native.Nat.{ℕ, _≤_};
-ghost use lib.ListN.{length};
-ghost use Rattle.rules.specs.Basics.{isSome};
-ghost use Rattle.rules.specs.Markup.{Element};
+ghost use Prim.Native.Nat.{_<_};
+ghost use Rattle.rules.specs.Markup.{Attribute};
 ghost use Rattle.rules.specs.Comparison.{sameAttribute};
-ghost use Rattle.markup.specs.Attributes.{Finds};
-ghost use Rattle.element.specs.Places.{ElementAt};
-use element::find;
+ghost use Rattle.element.specs.Names.{known, nameAt};
+ghost use Rattle.element.specs.Tags.{Tells, TagIn};
+use element::tag::Tag;
 use element::value;
-use markup::tag::Found;
 
-// Whether no attribute was found.
-fn is_absent(found: Found) -> bool
-    ensures { λ r. ⌜ ((s : List ℕ) (o : Option (List ℕ)) → Finds s o found → r ≡ not (isSome o)) ⌝ }
+// Whether two elements say the same in the attribute of a number, decoded, or both lack it, by their tags.
+pub fn same_attribute(s: &[u8], a: Tag, t: &[u8], b: Tag, n: usize) -> bool
+    requires { ⌜ TagIn (now s) a ⌝ ∗ ⌜ TagIn (now t) b ⌝ ∗ ⌜ n < known ⌝ }
+    ensures { λ r. ⌜ ((l m : List Attribute) → Tells (now (s .entry)) l (a .places) → Tells (now (t .entry)) m (b .places) → r ≡ sameAttribute (nameAt n) l m) ⌝ }
 {
-    match found {
-        Found::Quoted(_, _) => false,
-        Found::Absent => true,
+    let p = a.places[n];
+    let q = b.places[n];
+    if p == 0 {
+        return q == 0;
     }
-}
-
-// Whether the element at a position of a text and the element at a position of another say the same in the attribute of a name, decoded, or both lack it.
-pub fn same_attribute(s: &[u8], at: usize, t: &[u8], other: usize, name: &[u8]) -> bool
-    requires { ⌜ at ≤ length (now s) ⌝ ∗ ⌜ other ≤ length (now t) ⌝ }
-    ensures { λ r. ⌜ ((d e : ℕ) (v w : Element) → ElementAt (now (s .entry)) at d v → ElementAt (now (t .entry)) other e w → r ≡ sameAttribute (now (name .entry)) (v .attrs) (w .attrs)) ⌝ }
-{
-    let first = find(s, at, name);
-    let second = find(t, other, name);
-    let Found::Quoted(p, _) = first else {
-        return is_absent(second);
-    };
-    let Found::Quoted(q, _) = second else {
+    if q == 0 {
         return false;
-    };
+    }
     value::is_same(s, p, t, q)
 }

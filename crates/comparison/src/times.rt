@@ -1,23 +1,31 @@
 // Comparison of timestamps and of intervals of times.
 ghost use mathlib.Core.Path.{_≡_};
 ghost use mathlib.Core.Bool.{true};
+ghost use mathlib.Core.List.{List};
 ghost use Prim.Native.Nat.{ℕ, _≤_};
-ghost use lib.ListN.{length};
 ghost use Rattle.rules.specs.Markup.{Element};
-ghost use Rattle.rules.specs.Comparison.{sameAttribute, compareMoments, compareEndpoints, compareTimes, compareSides, compareIntervals};
+ghost use Rattle.rules.specs.Comparison.{compareMoments, compareEndpoints, compareTimes, compareIntervals};
 ghost use Rattle.rules.specs.Invariants.{valued, infinite};
 ghost use Rattle.timestamp.specs.Moments.{momentOf};
-ghost use Rattle.element.specs.Places.{ElementAt};
-ghost use Rattle.datatype.specs.Bounds.{sideMeant, endpointMeant};
+ghost use Rattle.element.specs.Tags.{Tells, TagOf, TagIn};
+ghost use Rattle.datatype.specs.Bounds.{endpointMeant};
+ghost use Rattle.datatype.specs.Said.{saidMeant, endpointSaid};
 ghost use Rattle.comparison.specs.Meaning.{answerMeant};
 ghost use Rattle.comparison.specs.Sides.{isValued};
 use crate::Answer;
 use crate::also;
 use crate::answer_if;
 use crate::texts::same_attribute;
-use datatype::bounds;
 use datatype::bounds::Endpoint;
 use datatype::bounds::Side;
+use datatype::said::Said;
+use datatype::said::endpoint;
+use datatype::said::time_at;
+use datatype::sides::read_sides;
+use element::name::HIGH_CLOSED;
+use element::name::LOW_CLOSED;
+use element::name::VALUE;
+use element::tag::Tag;
 use timestamp::Moment;
 
 // Yes if precision and tick are the same; no if the spans share no tick; else unknown.
@@ -85,59 +93,39 @@ fn compare_flagged(flags: bool, a: Endpoint, b: Endpoint) -> Answer
     also(compare_endpoints(a, b), answer_if(flags | !asked))
 }
 
-// TS: the values of the elements at two positions.
-pub fn compare_times(s: &[u8], at: usize, t: &[u8], other: usize, shift: u64) -> Answer
-    requires { ⌜ at ≤ length (now s) ⌝ ∗ ⌜ other ≤ length (now t) ⌝ ∗ ⌜ shift ≤ 1680 ⌝ }
-    ensures { λ r. ⌜ ((d e : ℕ) (v w : Element) → ElementAt (now (s .entry)) at d v → ElementAt (now (t .entry)) other e w → answerMeant r ≡ compareTimes shift v w) ⌝ }
+// What two elements say on a side; `flags` says whether the flags are the same.
+fn compare_said(flags: bool, a: Said, b: Said, side: Side) -> Answer
+    ensures { λ r. ⌜ answerMeant r ≡ compareEndpoints flags (endpointSaid side (saidMeant a)) (endpointSaid side (saidMeant b)) ⌝ }
 {
-    let a = bounds::valued(s, at, shift);
-    let b = bounds::valued(t, other, shift);
-    compare_endpoints(a, b)
+    compare_flagged(flags, endpoint(a, side), endpoint(b, side))
 }
 
-// Whether the flags of two intervals on a side are the same.
-fn same_flag(s: &[u8], at: usize, t: &[u8], other: usize, side: Side) -> bool
-    requires { ⌜ at ≤ length (now s) ⌝ ∗ ⌜ other ≤ length (now t) ⌝ }
-    ensures { λ r. ⌜ ((d e : ℕ) (v w : Element) → ElementAt (now (s .entry)) at d v → ElementAt (now (t .entry)) other e w → r ≡ sameAttribute (sideMeant side .flag) (v .attrs) (w .attrs)) ⌝ }
+// TS: the values of two elements, by their tags.
+pub fn compare_times(s: &[u8], a: Tag, t: &[u8], b: Tag, shift: u64) -> Answer
+    requires { ⌜ TagIn (now s) a ⌝ ∗ ⌜ TagIn (now t) b ⌝ ∗ ⌜ shift ≤ 1680 ⌝ }
+    ensures { λ r. ⌜ ((v w : Element) → Tells (now (s .entry)) (v .attrs) (a .places) → Tells (now (t .entry)) (w .attrs) (b .places) → answerMeant r ≡ compareTimes shift v w) ⌝ }
 {
-    match side {
-        Side::Low => same_attribute(s, at, t, other, b"lowClosed"),
-        Side::High => same_attribute(s, at, t, other, b"highClosed"),
-    }
-}
-
-// A side of two intervals.
-fn compare_sides(
-    s: &[u8],
-    at: usize,
-    t: &[u8],
-    other: usize,
-    depth: usize,
-    side: Side,
-    shift: u64,
-) -> Answer
-    requires { ⌜ at ≤ length (now s) ⌝ ∗ ⌜ other ≤ length (now t) ⌝ ∗ ⌜ 1 ≤ depth ⌝ ∗ ⌜ shift ≤ 1680 ⌝ }
-    ensures { λ r. ⌜ ((v w : Element) → ElementAt (now (s .entry)) at depth v → ElementAt (now (t .entry)) other depth w → answerMeant r ≡ compareSides (sideMeant side) shift v w) ⌝ }
-{
-    let flags = same_flag(s, at, t, other, side);
-    let a = bounds::endpoint_of(s, at, depth, side, shift);
-    let b = bounds::endpoint_of(t, other, depth, side, shift);
-    compare_flagged(flags, a, b)
+    let first = time_at(s, a.places[VALUE], shift);
+    let second = time_at(t, b.places[VALUE], shift);
+    let x = first.said;
+    let y = second.said;
+    compare_said(true, x, y, Side::Low)
 }
 
 // IVL_TS: lows, highs, and flags of sides where both are valued.
-pub fn compare_intervals(
-    s: &[u8],
-    at: usize,
-    t: &[u8],
-    other: usize,
-    depth: usize,
-    shift: u64,
-) -> Answer
-    requires { ⌜ at ≤ length (now s) ⌝ ∗ ⌜ other ≤ length (now t) ⌝ ∗ ⌜ 1 ≤ depth ⌝ ∗ ⌜ shift ≤ 1680 ⌝ }
-    ensures { λ r. ⌜ ((v w : Element) → ElementAt (now (s .entry)) at depth v → ElementAt (now (t .entry)) other depth w → answerMeant r ≡ compareIntervals shift v w) ⌝ }
+pub fn compare_intervals(s: &[u8], a: Tag, t: &[u8], b: Tag, depth: usize, shift: u64) -> Answer
+    requires { ⌜ TagIn (now s) a ⌝ ∗ ⌜ TagIn (now t) b ⌝ ∗ ⌜ shift ≤ 1680 ⌝ }
+    ensures { λ r. ⌜ ((v w : Element) (after rest : List ℕ) → TagOf (now (s .entry)) depth v after a → TagOf (now (t .entry)) depth w rest b → answerMeant r ≡ compareIntervals shift v w) ⌝ }
 {
-    let low = compare_sides(s, at, t, other, depth, Side::Low, shift);
-    let high = compare_sides(s, at, t, other, depth, Side::High, shift);
+    let first = read_sides(s, a, depth, shift);
+    let second = read_sides(t, b, depth, shift);
+    let lows = same_attribute(s, a, t, b, LOW_CLOSED);
+    let highs = same_attribute(s, a, t, b, HIGH_CLOSED);
+    let x = first.low;
+    let y = second.low;
+    let low = compare_said(lows, x, y, Side::Low);
+    let x = first.high;
+    let y = second.high;
+    let high = compare_said(highs, x, y, Side::High);
     also(low, high)
 }

@@ -1,33 +1,44 @@
 // Amounts, identifiers and codes, compared.
 ghost use mathlib.Core.Path.{_≡_};
 ghost use mathlib.Core.Bool.{not};
-ghost use Prim.Native.Nat.{ℕ, _≤_};
+ghost use mathlib.Core.List.{List};
+ghost use mathlib.Core.Option.{Option, none};
+ghost use Prim.Native.Nat.{ℕ, _-_, _≤_, _<_};
 ghost use lib.ListN.{length};
-ghost use Rattle.rules.specs.Basics.{isSome};
-ghost use Rattle.rules.specs.Markup.{Element};
+ghost use Rattle.rules.specs.Basics.{isSome, ifSome};
+ghost use Rattle.rules.specs.Parsers.{whole};
+ghost use Rattle.rules.specs.Markup.{Attribute, Element};
+ghost use Rattle.rules.specs.Forms.{amountText};
 ghost use Rattle.rules.specs.Comparison.{sameOption, sameAmount, compareMoney, compareIdentifiers, compareCodes};
 ghost use Rattle.form.specs.Amounts.{amountOf};
-ghost use Rattle.element.specs.Places.{ElementAt};
+ghost use Rattle.element.specs.Names.{known, nameAt};
+ghost use Rattle.element.specs.Tags.{Place, Tells, TagIn};
 ghost use Rattle.comparison.specs.Meaning.{answerMeant};
-ghost use Rattle.comparison.specs.Readings.{amountNamed, sameRead};
+ghost use Rattle.comparison.specs.Readings.{sameRead};
 use crate::Answer;
 use crate::answer_if;
 use crate::texts::same_attribute;
-use datatype::reading::has;
-use element::find;
+use element::name::CODE;
+use element::name::CODE_SYSTEM;
+use element::name::CURRENCY;
+use element::name::EXTENSION;
+use element::name::ROOT;
+use element::name::VALUE;
+use element::tag::Tag;
+use element::tag::has;
+use element::value;
 use form::money::Amount;
-use markup::tag::Found;
 
-// The amount that the attribute of a name says of the element at a position.
-fn amount_at(s: &[u8], at: usize, name: &[u8]) -> Amount
-    requires { ⌜ at ≤ length (now s) ⌝ }
-    ensures { λ r. ⌜ ((d : ℕ) (v : Element) → ElementAt (now (s .entry)) at d v → amountOf r ≡ amountNamed (now (name .entry)) (v .attrs)) ⌝ }
+// The amount of the value at a place.
+fn amount_at(s: &[u8], place: usize) -> Amount
+    requires { ⌜ place ≤ length (now s) - 1 ⌝ }
+    ensures { λ r. ⌜ ((o : Option (List ℕ)) → Place (now (s .entry)) o place → amountOf r ≡ ifSome o (whole amountText) none) ⌝ }
 {
-    let found = find(s, at, name);
-    let Found::Quoted(q, e) = found else {
+    if place == 0 {
         return Amount::Bad;
-    };
-    form::amount(s, q, e)
+    }
+    let end = value::end(s, place);
+    form::amount(s, place, end)
 }
 
 // Whether there is no amount.
@@ -70,43 +81,43 @@ enum Reading {
     Amount,
 }
 
-// Whether the elements at two positions say the same in the attribute of a name, read so, or both lack it.
-fn same_value(s: &[u8], at: usize, t: &[u8], other: usize, name: &[u8], reading: Reading) -> bool
-    requires { ⌜ at ≤ length (now s) ⌝ ∗ ⌜ other ≤ length (now t) ⌝ }
-    ensures { λ r. ⌜ ((d e : ℕ) (v w : Element) → ElementAt (now (s .entry)) at d v → ElementAt (now (t .entry)) other e w → r ≡ sameRead reading (now (name .entry)) (v .attrs) (w .attrs)) ⌝ }
+// Whether two elements say the same in the attribute of a number, read so, or both lack it, by their tags.
+fn same_value(s: &[u8], a: Tag, t: &[u8], b: Tag, n: usize, reading: Reading) -> bool
+    requires { ⌜ TagIn (now s) a ⌝ ∗ ⌜ TagIn (now t) b ⌝ ∗ ⌜ n < known ⌝ }
+    ensures { λ r. ⌜ ((l m : List Attribute) → Tells (now (s .entry)) l (a .places) → Tells (now (t .entry)) m (b .places) → r ≡ sameRead reading (nameAt n) l m) ⌝ }
 {
     match reading {
-        Reading::Text => same_attribute(s, at, t, other, name),
-        Reading::Amount => same_amount(amount_at(s, at, name), amount_at(t, other, name)),
+        Reading::Text => same_attribute(s, a, t, b, n),
+        Reading::Amount => same_amount(amount_at(s, a.places[n]), amount_at(t, b.places[n])),
     }
 }
 
 // MO: amount, as a number, and currency.
-pub fn compare_money(s: &[u8], at: usize, t: &[u8], other: usize) -> Answer
-    requires { ⌜ at ≤ length (now s) ⌝ ∗ ⌜ other ≤ length (now t) ⌝ }
-    ensures { λ r. ⌜ ((d e n : ℕ) (v w : Element) → ElementAt (now (s .entry)) at d v → ElementAt (now (t .entry)) other e w → answerMeant r ≡ compareMoney n v w) ⌝ }
+pub fn compare_money(s: &[u8], a: Tag, t: &[u8], b: Tag) -> Answer
+    requires { ⌜ TagIn (now s) a ⌝ ∗ ⌜ TagIn (now t) b ⌝ }
+    ensures { λ r. ⌜ ((n : ℕ) (v w : Element) → Tells (now (s .entry)) (v .attrs) (a .places) → Tells (now (t .entry)) (w .attrs) (b .places) → answerMeant r ≡ compareMoney n v w) ⌝ }
 {
-    let amounts = same_value(s, at, t, other, b"value", Reading::Amount);
-    answer_if(amounts & same_value(s, at, t, other, b"currency", Reading::Text))
+    let amounts = same_value(s, a, t, b, VALUE, Reading::Amount);
+    answer_if(amounts & same_value(s, a, t, b, CURRENCY, Reading::Text))
 }
 
 // II: root and extension.
-pub fn compare_identifiers(s: &[u8], at: usize, t: &[u8], other: usize) -> Answer
-    requires { ⌜ at ≤ length (now s) ⌝ ∗ ⌜ other ≤ length (now t) ⌝ }
-    ensures { λ r. ⌜ ((d e n : ℕ) (v w : Element) → ElementAt (now (s .entry)) at d v → ElementAt (now (t .entry)) other e w → answerMeant r ≡ compareIdentifiers n v w) ⌝ }
+pub fn compare_identifiers(s: &[u8], a: Tag, t: &[u8], b: Tag) -> Answer
+    requires { ⌜ TagIn (now s) a ⌝ ∗ ⌜ TagIn (now t) b ⌝ }
+    ensures { λ r. ⌜ ((n : ℕ) (v w : Element) → Tells (now (s .entry)) (v .attrs) (a .places) → Tells (now (t .entry)) (w .attrs) (b .places) → answerMeant r ≡ compareIdentifiers n v w) ⌝ }
 {
-    let roots = same_attribute(s, at, t, other, b"root");
-    answer_if(roots & same_attribute(s, at, t, other, b"extension"))
+    let roots = same_attribute(s, a, t, b, ROOT);
+    answer_if(roots & same_attribute(s, a, t, b, EXTENSION))
 }
 
 // CD: code and codeSystem; unknown if either lacks a code.
-pub fn compare_codes(s: &[u8], at: usize, t: &[u8], other: usize) -> Answer
-    requires { ⌜ at ≤ length (now s) ⌝ ∗ ⌜ other ≤ length (now t) ⌝ }
-    ensures { λ r. ⌜ ((d e n : ℕ) (v w : Element) → ElementAt (now (s .entry)) at d v → ElementAt (now (t .entry)) other e w → answerMeant r ≡ compareCodes n v w) ⌝ }
+pub fn compare_codes(s: &[u8], a: Tag, t: &[u8], b: Tag) -> Answer
+    requires { ⌜ TagIn (now s) a ⌝ ∗ ⌜ TagIn (now t) b ⌝ }
+    ensures { λ r. ⌜ ((n : ℕ) (v w : Element) → Tells (now (s .entry)) (v .attrs) (a .places) → Tells (now (t .entry)) (w .attrs) (b .places) → answerMeant r ≡ compareCodes n v w) ⌝ }
 {
-    if has(s, at, b"code") & has(t, other, b"code") {
-        let codes = same_attribute(s, at, t, other, b"code");
-        return answer_if(codes & same_attribute(s, at, t, other, b"codeSystem"));
+    if has(a, CODE) & has(b, CODE) {
+        let codes = same_attribute(s, a, t, b, CODE);
+        return answer_if(codes & same_attribute(s, a, t, b, CODE_SYSTEM));
     }
     Answer::Unknown
 }

@@ -39,6 +39,11 @@ by-read side (answered m) = (refl, refl)
 by-read side (refused r) = (refl, refl)
 
 module _ (shift : ℕ) (side : Side) where
+  -- by its value
+  pub by-value : (value : Option (List ℕ)) → ifSome value (λ text. endpointRead (readTimestamp shift text)) unknown ≡ endpointSaid side (saidValue shift value)
+  by-value none = refl
+  by-value (some t) = by-read side (readTimestamp shift t) .0
+
   -- by its attributes
   pub by-attributes : (l : List Attribute) → Agrees side (endpointIn shift (sideMeant side) l) (hasFlavor (sideMeant side .wrong) l) (saidBy shift l)
   by-attributes l = go (lookup (bytes "nullFlavor") l) (lookup (bytes "value") l)

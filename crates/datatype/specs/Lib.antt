@@ -4,3 +4,4 @@ pub mod Children
 pub mod Bounds
 pub mod Said
 pub mod Records
+pub mod Sides

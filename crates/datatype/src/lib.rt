@@ -8,4 +8,5 @@ pub mod reading;
 pub mod record;
 pub mod rows;
 pub mod said;
+pub mod sides;
 pub mod table;

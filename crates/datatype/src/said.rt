@@ -61,7 +61,7 @@ fn fault_of(t: Timestamp) -> Verdict
 }
 
 // The time of the value at a place.
-fn time_at(s: &[u8], place: usize, shift: u64) -> Time
+pub fn time_at(s: &[u8], place: usize, shift: u64) -> Time
     requires { ⌜ place ≤ length (now s) - 1 ⌝ ∗ ⌜ shift ≤ 1680 ⌝ }
     ensures { λ r. ⌜ ((o : Option (List ℕ)) → Place (now (s .entry)) o place → (faultOf (r .fault) ≡ valueFault shift o) × (saidMeant (r .said) ≡ saidValue shift o)) ⌝ }
 {

@@ -1,86 +1,45 @@
 -- `comparison::compare` meets its contract.
-use mathlib.Core.Path.{sym, _∙_, ap}
-use Rattle.datatype.specs.Meaning.{typeMeant}
+use mathlib.Core.Path.{_∙_}
+use borrow.Author.Tests.{eq-eqb, ne-eqb}
 use Rattle.comparison.proofs.Answers.{either-test}
-use Rattle.comparison.proofs.Types.{no-type, types-differ, types-same}
+use Rattle.comparison.proofs.Numbers.{type-by-number}
+use Rattle.comparison.proofs.Types.{types-differ, types-same}
 use borrow.Author.Needs.{needs}
 use Rattle.comparison.proofs.compare.Statement.{statement}
 use Rattle.comparison.proofs.compare.Tie as tie
-use Rattle.comparison.proofs.compare.Reads as reads
-use Rattle.comparison.proofs.compare.Lts as lts
-use Rattle.comparison.proofs.compare_kind.Reads as compare-kind-reads
-use Rattle.comparison.proofs.has_type.Reads as has-type-reads
-use Rattle.comparison.proofs.unknown_if.Reads as unknown-if-reads
-use Rattle.datatype.proofs.kind.type_of.Reads as type-of-reads
-use Rattle.datatype.proofs.reading.is_null.Reads as is-null-reads
-use Rattle.element.proofs.root.Reads as root-reads
 
--- src/lib.rt:128:9
-root-requires : tie.Need-root-requires
-root-requires c κs = search needs
+number-requires : tie.Need-number-requires
+number-requires c κs = search needs
 
--- src/lib.rt:129:9
-root-requires-2 : tie.Need-root-requires-2
-root-requires-2 c κs = search needs
+number-requires-2 : tie.Need-number-requires-2
+number-requires-2 c κs = search needs
 
--- src/lib.rt:130:9
-type-of-requires : tie.Need-type-of-requires
-type-of-requires c κs = search needs
-
--- src/lib.rt:131:19
-enum-known-named : tie.Need-enum-known-named
-enum-known-named c = search needs
-
--- src/lib.rt:132:9
-enum-told : tie.Need-enum-told
-enum-told c = search needs
-
--- src/lib.rt:132:9
 returns : tie.Need-returns
-returns c = λ v w d f. no-type (c .before .before .before .before .before .before .before .args .shift) v w (sym (c .before .before .type-of .ensures _ v (c .before .before .before .before .root .ensures .1 v d)) ∙ ap typeMeant (c .enum-told .given .1))
+returns c = λ v w x y.
+    let types = type-by-number (w .attrs) (y .kind) (c .before .before .number .ensures) (c .before .number2 .ensures) in
+    types-differ (c .before .before .before .before .before .args .shift) v w (x .kind) (types ∙ ne-eqb _ _ (c .if1 .taken))
 
--- src/lib.rt:134:8
-has-type-requires : tie.Need-has-type-requires
-has-type-requires c κs = search needs
+has-requires : tie.Need-has-requires
+has-requires c κs = search needs
 
--- src/lib.rt:135:20
-is-null-requires : tie.Need-is-null-requires
-is-null-requires c κs = search needs
+has-requires-2 : tie.Need-has-requires-2
+has-requires-2 c κs = search needs
 
--- src/lib.rt:135:37
-is-null-requires-2 : tie.Need-is-null-requires-2
-is-null-requires-2 c κs = search needs
-
--- src/lib.rt:136:27
 compare-kind-requires : tie.Need-compare-kind-requires
 compare-kind-requires c κs = search needs
 
--- src/lib.rt:136:9
 unknown-if-requires : tie.Need-unknown-if-requires
 unknown-if-requires c κs = search needs
 
--- src/lib.rt:136:9
 returns-2 : tie.Need-returns-2
-returns-2 c = λ v w d f. types-same (c .before .before .before .before .before .before .before .before .before .before .before .before .before .before .args .shift) v w _ (sym (c .before .before .before .before .before .before .before .before .before .type-of .ensures _ v (c .before .before .before .before .before .before .before .before .before .before .before .root .ensures .1 v d)) ∙ ap typeMeant (c .before .before .before .before .before .before .before .named .given .1)) (sym (c .before .before .before .before .before .has-type .ensures _ w (c .before .before .before .before .before .before .before .before .before .before .root2 .ensures .1 w f)) ∙ c .before .before .before .before .if1 .taken) (either-test (c .before .before .before .is-null .ensures _ v (c .before .before .before .before .before .before .before .before .before .before .before .root .ensures .1 v d)) (c .before .before .is-null2 .ensures _ w (c .before .before .before .before .before .before .before .before .before .before .root2 .ensures .1 w f))) (c .before .compare-kind .ensures v w (c .before .before .before .before .before .before .before .before .before .before .before .root .ensures .1 v d) (c .before .before .before .before .before .before .before .before .before .before .root2 .ensures .1 w f)) (c .unknown-if .ensures)
-
--- src/lib.rt:124:1
-returns-3 : tie.Need-returns-3
-returns-3 c = λ v w d f. types-differ (c .before .before .before .before .before .before .before .before .before .before .args .shift) v w _ (sym (c .before .before .before .before .before .type-of .ensures _ v (c .before .before .before .before .before .before .before .root .ensures .1 v d)) ∙ ap typeMeant (c .before .before .before .named .given .1)) (sym (c .before .has-type .ensures _ w (c .before .before .before .before .before .before .root2 .ensures .1 w f)) ∙ c .if1 .left)
+returns-2 c = λ v w x y.
+    let alike = c .before .before .before .before .before .before in
+    let start = alike .before .before .before .before .before in
+    let types = type-by-number (w .attrs) (y .kind) (alike .before .before .number .ensures) (alike .before .number2 .ensures) in
+    types-same (start .args .shift) v w (x .kind) (types ∙ eq-eqb _ _ (alike .if1 .left))
+    (either-test (c .before .before .before .has .ensures _ (v .attrs) (x .tag .tells)) (c .before .before .has2 .ensures _ (w .attrs) (y .tag .tells)))
+    (c .before .compare-kind .ensures v w (x .after) (y .after) (x .tag) (y .tag)) (c .unknown-if .ensures)
 
 pub compare-spec : {M : Type 1} → statement M
 compare-spec =
-    tie.close
-    (tie.spec
-    root-requires
-    root-requires-2
-    type-of-requires
-    enum-known-named
-    enum-told
-    returns
-    has-type-requires
-    is-null-requires
-    is-null-requires-2
-    compare-kind-requires
-    unknown-if-requires
-    returns-2
-    returns-3)
+    tie.close (tie.spec number-requires number-requires-2 returns has-requires has-requires-2 compare-kind-requires unknown-if-requires returns-2)

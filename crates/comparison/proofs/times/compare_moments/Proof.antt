@@ -4,20 +4,15 @@ use Rattle.rules.specs.Comparison.{compareMoments}
 use Rattle.comparison.proofs.Answers.{chosen, left-over}
 use Rattle.comparison.proofs.times.compare_moments.Statement.{statement}
 use Rattle.comparison.proofs.times.compare_moments.Tie as tie
-use Rattle.comparison.proofs.times.compare_moments.Reads as reads
-use Rattle.comparison.proofs.times.compare_moments.Lts as lts
 
--- src/times.rt:25:9
 returns : tie.Need-returns
 unfolding compareMoments
 returns c = chosen refl _ (c .if1 .taken) refl
 
--- src/times.rt:28:9
 returns-2 : tie.Need-returns-2
 unfolding compareMoments
 returns-2 c = left-over refl _ (c .before .before .before .before .before .if1 .left) (chosen refl _ (c .if2 .taken) refl)
 
--- src/times.rt:21:1
 returns-3 : tie.Need-returns-3
 unfolding compareMoments
 returns-3 c = left-over refl _ (c .before .before .before .before .before .if1 .left) (left-over refl _ (c .if2 .left) refl)

@@ -4,46 +4,28 @@ use Rattle.comparison.proofs.Flags.{also-yes}
 use borrow.Author.Needs.{needs}
 use Rattle.comparison.proofs.times.compare_valued.Statement.{statement}
 use Rattle.comparison.proofs.times.compare_valued.Tie as tie
-use Rattle.comparison.proofs.times.compare_valued.Reads as reads
-use Rattle.comparison.proofs.times.compare_valued.Lts as lts
-use Rattle.comparison.proofs.times.compare_moments.Reads as compare-moments-reads
 
--- src/times.rt:41:26
 enum-known-b : tie.Need-enum-known-b
 enum-known-b c = search needs
 
--- src/times.rt:41:32
 compare-moments-requires : tie.Need-compare-moments-requires
 compare-moments-requires c κs = search needs
 
--- src/times.rt:42:31
 enum-told : tie.Need-enum-told
 enum-told c = search needs
 
--- src/times.rt:43:30
 enum-told-2 : tie.Need-enum-told-2
 enum-told-2 c = search needs
 
--- src/times.rt:37:1
 returns : tie.Need-returns
 returns c = rw (c .before .before .b .given .1) (c .compare-moments .ensures ∙ sym (also-yes _))
 
--- src/times.rt:37:1
 returns-2 : tie.Need-returns-2
 returns-2 c = search needs
 
--- src/times.rt:37:1
 returns-3 : tie.Need-returns-3
 returns-3 c = search needs
 
 pub compare-valued-spec : {M : Type 1} → statement M
 compare-valued-spec =
-    tie.close
-    (tie.spec
-    enum-known-b
-    compare-moments-requires
-    enum-told
-    enum-told-2
-    returns
-    returns-2
-    returns-3)
+    tie.close (tie.spec enum-known-b compare-moments-requires enum-told enum-told-2 returns returns-2 returns-3)

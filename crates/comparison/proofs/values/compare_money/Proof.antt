@@ -5,42 +5,22 @@ use Rattle.comparison.proofs.Answers.{both-tests}
 use borrow.Author.Needs.{needs}
 use Rattle.comparison.proofs.values.compare_money.Statement.{statement}
 use Rattle.comparison.proofs.values.compare_money.Tie as tie
-use Rattle.comparison.proofs.values.compare_money.Reads as reads
-use Rattle.comparison.proofs.values.compare_money.Lts as lts
-use Rattle.comparison.proofs.answer_if.Reads as answer-if-reads
-use Rattle.comparison.proofs.values.same_value.Reads as same-value-reads
 
--- src/values.rt:89:47
-slice-aggregate-same-value : tie.Need-slice-aggregate-same-value
-slice-aggregate-same-value c = search needs
-
--- src/values.rt:89:9
 same-value-requires : tie.Need-same-value-requires
 same-value-requires c κs = search needs
 
--- src/values.rt:90:53
-slice-aggregate-same-value-2 : tie.Need-slice-aggregate-same-value-2
-slice-aggregate-same-value-2 c = search needs
-
--- src/values.rt:90:25
 same-value-requires-2 : tie.Need-same-value-requires-2
 same-value-requires-2 c κs = search needs
 
--- src/values.rt:90:5
 answer-if-requires : tie.Need-answer-if-requires
 answer-if-requires c κs = search needs
 
--- src/values.rt:85:1
 returns : tie.Need-returns
-returns c = λ d e n v w g h. c .answer-if .ensures ∙ ap answer (both-tests (c .before .before .before .same-value .ensures d e v w g h) (c .before .same-value2 .ensures d e v w g h))
+returns c = λ n v w g h.
+    let amounts = c .before .before .same-value .ensures (v .attrs) (w .attrs) g h in
+    let currencies = c .before .same-value2 .ensures (v .attrs) (w .attrs) g h in
+    c .answer-if .ensures ∙ ap answer (both-tests amounts currencies)
 
 pub compare-money-spec : {M : Type 1} → statement M
 compare-money-spec =
-    tie.close
-    (tie.spec
-    slice-aggregate-same-value
-    same-value-requires
-    slice-aggregate-same-value-2
-    same-value-requires-2
-    answer-if-requires
-    returns)
+    tie.close (tie.spec same-value-requires same-value-requires-2 answer-if-requires returns)
