@@ -96,9 +96,9 @@ module _ {s : List ℕ} {t : Tag} {depth at i : ℕ} {P : (all left : Nodes) →
     from = omega (arith, w .from, g .low, l);
     within = m;
     row = λ v after h.
-      let (k, c, p) = walk-child u z tells v after h in
-      let (q, n) = next (v .kids) (c .others) (c .element) (c .left) (c .tag) p in
-      (c .others, c .rest e l q, n);
+        let (k, c, p) = walk-child u z tells v after h in
+        let (q, n) = next (v .kids) (c .others) (c .element) (c .left) (c .tag) p in
+        (c .others, c .rest e l q, n);
   }
 
   -- the end tag
