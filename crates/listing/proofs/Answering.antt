@@ -3,14 +3,11 @@ use Prim.Native.Nat.{ℕ, suc, _/_, _≤_, _<_}
 use mathlib.Core.Path.{_≡_, refl, sym, ap, _∙_}
 use mathlib.Core.Bool.{true, false}
 use mathlib.Core.List.{List, [], _∷_, flatMap, map}
-use mathlib.Core.Option.{Option}
 use native.Mathlib.Omega.{arith}
 use lib.ListN.{length, length-take}
-use Rattle.rules.specs.Basics.{isSome}
 use Rattle.rules.specs.Refusal.{UNKNOWN-BOUND, TOO-MANY, NO-ROOM, Outcome, answered, refused}
 use Rattle.rules.specs.Markup.{Element}
 use Rattle.rules.specs.Judge.{topFaults}
-use Rattle.rules.specs.Types.{Kind as RulesKind}
 use Rattle.rules.specs.Sets.{Interval as PageInterval, Expression}
 use Rattle.rules.specs.Stretches.{stretches}
 use Rattle.rules.specs.Listing.{setOf, intervalsWritten, listElement, listNumbers}
@@ -24,22 +21,10 @@ use Rattle.interval.specs.declared.Interval.{Interval}
 use Rattle.interval.specs.declared.Stretches.{Stretches}
 use Rattle.interval.specs.Meaning.{intervalOf, used, stretchesOf}
 use Rattle.interval.proofs.Unique.{stretches-meant}
-use Rattle.datatype.specs.declared.kind.Kind.{Kind}
-use Rattle.datatype.specs.declared.kind.Named.{Named}
-use Rattle.datatype.specs.declared.kind.Named.the-variants.{Is, Nothing}
-use Rattle.datatype.specs.Meaning.{typeMeant}
 use Rattle.listing.specs.declared.Listed.the-variants.{Count, Refused}
 use Rattle.listing.specs.declared.set.Evaluated.{Evaluated}
 use Rattle.listing.specs.Sets.{Formed, IsSet, Says, is-set, is-unknown}
 use Rattle.listing.specs.Answers.{Answers}
-
--- whether a type can be listed
-module _ {r : Named} {o : Option RulesKind} (told : typeMeant r ≡ o) where
-  pub named-some : {k : Kind} → r ≡ Is k → true ≡ isSome o
-  named-some z = ap isSome (sym (ap typeMeant z) ∙ told)
-
-  pub named-none : r ≡ Nothing → false ≡ isSome o
-  named-none z = ap isSome (sym (ap typeMeant z) ∙ told)
 
 -- the stretches in use are as many as are counted
 length-mapped : (l : List Interval) → length (map intervalOf l) ≡ length l

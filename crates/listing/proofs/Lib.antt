@@ -1,7 +1,7 @@
 pub mod Bounds
 pub mod Shapes
 pub mod Joining
-pub mod Walking
+pub mod Evaluating
 pub mod Placing
 pub mod Answering
 pub mod Serving

@@ -3,11 +3,10 @@ use Prim.Native.Nat.{ℕ}
 use mathlib.Core.Path.{_≡_, refl, ap}
 use mathlib.Core.Bool.{true}
 use mathlib.Core.List.{List, []}
-use mathlib.Core.Option.{some}
 use lib.ListN.{length}
 use lib.IntN.{ℤ}
 use Rattle.rules.specs.Refusal.{number, Outcome, answered, refused, _andThen_}
-use Rattle.rules.specs.Markup.{Element, document}
+use Rattle.rules.specs.Markup.{Element}
 use Rattle.rules.specs.Judge.{topFaults}
 use Rattle.rules.specs.Check.{shiftBy, check}
 use Rattle.rules.specs.Sets.{Interval}
@@ -15,7 +14,6 @@ use Rattle.rules.specs.Listing.{listElement}
 use Rattle.rules.specs.Services.{packed, listing, roomOf, listAnswer, listAfter}
 use Rattle.rules.specs.ListingPromise.{isListed}
 use Rattle.rules.proofs.Tests.{clash}
-use Rattle.rules.proofs.Precedence.{check-answered}
 use Rattle.rules.proofs.ListingCases.{check-faultless, listing-listed}
 use Rattle.refusal.specs.Meaning.{refusalOf}
 use Rattle.listing.specs.declared.Listed.{Listed}
@@ -35,9 +33,9 @@ module _ (offset : ℤ) (input list : List ℕ) where
     pub leaves : after ≡ listAfter offset input list
 
   pub serves-list : (e : Element) → check offset input ≡ answered e → isListed e ≡ true → (r : Listed) (after : List ℕ)
-      → ((e : Element) → document input ≡ some e → topFaults (shiftBy offset) e ≡ [] → isListed e ≡ true → Answers (listElement (shiftBy offset) (roomOf list) e) list r after)
+      → (topFaults (shiftBy offset) e ≡ [] → isListed e ≡ true → Answers (listElement (shiftBy offset) (roomOf list) e) list r after)
       → Serves (packed (λ n. n) (listedMeant r)) after
   serves-list e accepted l r after h =
-      let a = h e (check-answered offset input e .0 accepted .0) (check-faultless offset input accepted) l in
+      let a = h (check-faultless offset input accepted) l in
       let z = listing-listed offset (roomOf list) input e accepted l in
       record { answers = rw z (packed-answer r (listElement (shiftBy offset) (roomOf list) e) (a .answer)); leaves = rw z (a .lent) }

@@ -3,19 +3,37 @@ use Prim.Native.Nat.{ℕ, _≤_, min}
 use mathlib.Core.Path.{_≡_}
 use mathlib.Core.Bool.{true, false}
 use mathlib.Core.List.{List}
-use mathlib.Core.Option.{none, some}
-use lib.ListN.{length}
-use Rattle.rules.specs.Refusal.{Refusal, Outcome, answered, refused, _andThen_}
-use Rattle.rules.specs.Markup.{Attribute, Nodes, Element}
+use mathlib.Core.Option.{Option, none, some}
+use lib.ListN.{length, drop}
+use Rattle.rules.specs.Refusal.{Refusal, Outcome, answered, refused, both, _andThen_}
+use Rattle.rules.specs.Markup.{Attribute, Element}
 use Rattle.rules.specs.Types.{IVL-TS, hasType}
-use Rattle.rules.specs.Sets.{Place, Expression, interval, meant, intervals, isIn}
-use Rattle.rules.specs.Listing.{intervalOf, operationOf, setFrom, membersOf, joined}
+use Rattle.rules.specs.Sets.{Place, Op as PageOp, Interval as PageInterval, Expression, interval, combine, meant, intervals, isIn}
+use Rattle.rules.specs.Listing.{operationOf, setOf, membersOf}
 use Rattle.interval.specs.declared.Op.{Op}
+use Rattle.interval.specs.declared.Op.the-variants.{Union, Intersection, Difference}
 use Rattle.interval.specs.Meaning.{opOf, stretchesOf, Canonical}
-use Rattle.element.specs.Places.{ElementAt, NodesAt}
+use Rattle.element.specs.Tags.{TagOf}
+use Rattle.element.specs.declared.tag.Tag.{Tag}
+use Rattle.datatype.specs.declared.kind.Kind.{Kind}
+use Rattle.datatype.specs.declared.kind.Kind.the-variants.{Ts, IvlTs, QsuTs, QsiTs, QsdTs, Mo, Ii, Cd, En, DisplayName, Part}
 use Rattle.listing.specs.declared.set.Shape.{Shape}
 use Rattle.listing.specs.declared.set.Shape.the-variants.{Single, Members, Other}
 use Rattle.listing.specs.declared.set.Evaluated.{Evaluated}
+
+-- what an element of a kind writes
+abbrev pub shapeOf : Kind → Shape
+shapeOf Ts = Other
+shapeOf IvlTs = Single
+shapeOf QsuTs = Members Union
+shapeOf QsiTs = Members Intersection
+shapeOf QsdTs = Members Difference
+shapeOf Mo = Other
+shapeOf Ii = Other
+shapeOf Cd = Other
+shapeOf En = Other
+shapeOf DisplayName = Other
+shapeOf Part = Other
 
 -- what an element of these attributes writes
 abbrev pub WritesAs : List Attribute → Shape → Type 0
@@ -40,18 +58,25 @@ pub data Says : Outcome Expression → Evaluated → Type 0 where
   is-set : {x : Expression} {r : Evaluated} → IsSet x r → Says (answered x) r
   is-unknown : {q : Refusal} {r : Evaluated} → r .known ≡ false → Says (refused q) r
 
--- the answer on the element at a position: its interval, the set that it writes
-abbrev pub SaysInterval : List ℕ → (at depth shift : ℕ) → Evaluated → Type 0
-SaysInterval s at depth shift r =
-    (v : Element) → ElementAt s at depth v → Says (intervalOf shift (v .attrs) (v .kids) andThen λ i. answered (interval i)) r
+-- the set of the members so far: there is none yet, or it is x
+pub data SoFar : Option Expression → Evaluated → Type 0 where
+  none-yet : {r : Evaluated} → r .count ≡ 0 → SoFar none r
+  so-far : {x : Expression} {r : Evaluated} → IsSet x r → SoFar (some x) r
 
-abbrev pub SaysElement : List ℕ → (at depth shift : ℕ) → Evaluated → Type 0
-SaysElement s at depth shift r =
-    (v : Element) → ElementAt s at depth v → Says (setFrom shift (v .attrs) (v .kids) (λ o. membersOf shift o (v .kids))) r
+-- it, put together with the next set
+abbrev pub put : PageOp → Option Expression → Outcome Expression → Outcome Expression
+put op none next = next
+put op (some x) next = both (combine op) (answered x) next
 
--- the answer on the members that stand from a position on; and on those that come after others
-abbrev pub SaysMembers : List ℕ → (at depth shift : ℕ) → Op → Evaluated → Type 0
-SaysMembers s at depth shift op r = (l : Nodes) → NodesAt s at depth l → Says (membersOf shift (opOf op) l) r
+-- the set of an interval
+abbrev pub expressed : Outcome PageInterval → Outcome Expression
+expressed o = o andThen λ i. answered (interval i)
 
-abbrev pub SaysJoined : List ℕ → (at depth shift : ℕ) → Op → (soFar : Evaluated) → Evaluated → Type 0
-SaysJoined s at depth shift op soFar r = (o : Outcome Expression) → Says o soFar → (l : Nodes) → NodesAt s at depth l → Says (joined shift (opOf op) o l) r
+-- the answer on the element of a tag, put together with a set; and on the members in it
+abbrev pub SaysElement : List ℕ → Tag → (depth shift : ℕ) → Op → Evaluated → Evaluated → Type 0
+SaysElement s t depth shift op a r = (x : Option Expression) → SoFar x a → (v : Element) (after : List ℕ) → TagOf s depth v after t
+    → Says (put (opOf op) x (setOf shift v)) r × (r .known ≡ true → after ≡ drop (r .end) s)
+
+abbrev pub SaysMembers : List ℕ → Tag → (depth shift : ℕ) → Op → Evaluated → Type 0
+SaysMembers s t depth shift op r = (v : Element) (after : List ℕ) → TagOf s depth v after t
+    → Says (membersOf shift (opOf op) (v .kids)) r × (r .known ≡ true → after ≡ drop (r .end) s)

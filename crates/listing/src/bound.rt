@@ -1,18 +1,26 @@
 // The bounds of an interval of times, and the interval that an element writes.
 ghost use mathlib.Core.Path.{_≡_};
-ghost use Prim.Native.Nat.{_^_, _≤_};
+ghost use mathlib.Core.Bool.{false};
+ghost use mathlib.Core.List.{List};
+ghost use Prim.Native.Nat.{ℕ, _^_, _≤_};
 ghost use lib.Dec.{ltb};
-ghost use lib.ListN.{length};
+ghost use lib.ListN.{length, drop};
 ghost use Rattle.rules.specs.Markup.{Element};
-ghost use Rattle.rules.specs.Listing.{boundRead, boundOf, intervalOf};
-ghost use Rattle.interval.specs.Meaning.{tick};
-ghost use Rattle.element.specs.Places.{ElementAt};
-ghost use Rattle.datatype.specs.Bounds.{sideMeant, endpointMeant};
-ghost use Rattle.listing.specs.Bounds.{limitMeant, LimitOn, writtenMeant, WrittenOn};
+ghost use Rattle.rules.specs.Listing.{boundRead, intervalOf};
+ghost use Rattle.interval.specs.Meaning.{tick, Ticked};
+ghost use Rattle.element.specs.Tags.{TagOf, TagIn};
+ghost use Rattle.datatype.specs.Bounds.{endpointMeant};
+ghost use Rattle.datatype.specs.Said.{saidMeant};
+ghost use Rattle.listing.specs.Bounds.{limitMeant, LimitOn, writtenMeant, BoundSaid};
 use datatype::bounds::Endpoint;
 use datatype::bounds::Side;
-use datatype::bounds::endpoint_of;
-use datatype::bounds::is_closed;
+use datatype::places::has_text;
+use datatype::said::Said;
+use datatype::said::endpoint;
+use datatype::sides::read_sides;
+use element::name::HIGH_CLOSED;
+use element::name::LOW_CLOSED;
+use element::tag::Tag;
 use interval::Bound;
 use interval::Interval;
 
@@ -22,10 +30,11 @@ pub enum Limit {
     Unknown,
 }
 
-// An interval, or that a bound of it is not known.
-pub enum Written {
-    Is(Interval),
-    Unknown,
+// An element of an interval: whether its bounds are known, the interval, if they are, and the position past the element.
+pub struct Written {
+    pub known: bool,
+    pub interval: Interval,
+    pub end: usize,
 }
 
 // The bound that a side means, by what it says and whether it is closed.
@@ -59,14 +68,12 @@ fn is_ticked(b: Bound) -> bool
     }
 }
 
-// The bound on a side of the interval at a position.
-fn bound_of(s: &[u8], at: usize, depth: usize, side: Side, shift: u64) -> Limit
-    requires { ⌜ at ≤ length (now s) ⌝ ∗ ⌜ 1 ≤ depth ⌝ ∗ ⌜ shift ≤ 1680 ⌝ }
+// The bound of what is said on a side.
+fn bound_of(said: Said, side: Side, closed: bool) -> Limit
     ensures on { λ r. ⌜ LimitOn r ⌝ }
-    ensures tells { λ r. ⌜ ((v : Element) → ElementAt (now (s .entry)) at depth v → limitMeant r ≡ boundOf shift (sideMeant side) (v .attrs) (v .kids)) ⌝ }
+    ensures tells { λ r. ⌜ BoundSaid (saidMeant said) side closed r ⌝ }
 {
-    let end = endpoint_of(s, at, depth, side, shift);
-    let closed = is_closed(s, at, side);
+    let end = endpoint(said, side);
     let limit = read_bound(end, closed);
     let Limit::Is(b) = limit else {
         return Limit::Unknown;
@@ -77,19 +84,49 @@ fn bound_of(s: &[u8], at: usize, depth: usize, side: Side, shift: u64) -> Limit
     Limit::Unknown
 }
 
-// The interval that the element at a position writes.
-pub fn interval_of(s: &[u8], at: usize, depth: usize, shift: u64) -> Written
-    requires { ⌜ at ≤ length (now s) ⌝ ∗ ⌜ 1 ≤ depth ⌝ ∗ ⌜ shift ≤ 1680 ⌝ }
-    ensures on { λ r. ⌜ WrittenOn r ⌝ }
-    ensures tells { λ r. ⌜ ((v : Element) → ElementAt (now (s .entry)) at depth v → writtenMeant r ≡ intervalOf shift (v .attrs) (v .kids)) ⌝ }
+// An element of which a bound is not known.
+fn unwritten(end: usize) -> Written
+    ensures { λ r. ⌜ (r .known ≡ false) × (r .end ≡ end) × Ticked (r .interval .low) × Ticked (r .interval .high) ⌝ }
 {
-    let first = bound_of(s, at, depth, Side::Low, shift);
+    let low = Bound::Unbounded;
+    let high = Bound::Unbounded;
+    Written {
+        known: false,
+        interval: Interval { low, high },
+        end,
+    }
+}
+
+// The interval that the element of a tag writes, where `depth` may be open at once.
+pub fn interval_of(s: &[u8], tag: Tag, depth: usize, shift: u64) -> Written
+    requires { ⌜ TagIn (now s) tag ⌝ ∗ ⌜ shift ≤ 1680 ⌝ }
+    ensures ticked { λ r. ⌜ Ticked (r .interval .low) × Ticked (r .interval .high) ⌝ }
+    ensures within { λ r. ⌜ (tag .end ≤ r .end) × (r .end ≤ length (now (s .entry))) ⌝ }
+    ensures tells { λ r. ⌜ ((v : Element) (after : List ℕ) → TagOf (now (s .entry)) depth v after tag → (writtenMeant r ≡ intervalOf shift (v .attrs) (v .kids)) × (after ≡ drop (r .end) (now (s .entry)))) ⌝ }
+{
+    let sides = read_sides(s, tag, depth, shift);
+    let end = sides.end;
+    let from = sides.low;
+    let to = sides.high;
+    let first = bound_of(
+        from,
+        Side::Low,
+        has_text(s, tag.places[LOW_CLOSED], b"true"),
+    );
     let Limit::Is(low) = first else {
-        return Written::Unknown;
+        return unwritten(end);
     };
-    let second = bound_of(s, at, depth, Side::High, shift);
+    let second = bound_of(
+        to,
+        Side::High,
+        has_text(s, tag.places[HIGH_CLOSED], b"true"),
+    );
     let Limit::Is(high) = second else {
-        return Written::Unknown;
+        return unwritten(end);
     };
-    Written::Is(Interval { low, high })
+    Written {
+        known: true,
+        interval: Interval { low, high },
+        end,
+    }
 }

@@ -1,36 +1,31 @@
 // Whether a place is in the set of times that an element writes: place by place, set within set, with no list.
 ghost use mathlib.Core.Path.{_≡_};
+ghost use mathlib.Core.Bool.{cond};
 ghost use mathlib.Core.List.{[]};
 ghost use Prim.Native.Nat.{_^_, _≤_, _<_};
 ghost use lib.ListN.{length};
-ghost use Rattle.rules.specs.Markup.{Element};
-ghost use Rattle.rules.specs.Listing.{intervalOf};
-ghost use Rattle.rules.specs.ListingPromise.{isWithin, together};
+ghost use Rattle.rules.specs.Sets.{apply as pageApply};
+ghost use Rattle.rules.specs.ListingPromise.{together};
 ghost use Rattle.interval.specs.Meaning.{opOf, placeOf};
-ghost use Rattle.element.specs.Places.{ElementAt};
+ghost use Rattle.element.specs.Tags.{TagIn};
 ghost use Rattle.listing.specs.Places.{MeansElement, MeansMembers};
-use crate::bound::Written;
 use crate::bound::interval_of;
 use crate::set::Shape;
 use crate::set::shape_of;
-use element::Step;
-use element::children;
-use element::next_element;
+use element::row::is_child;
+use element::row::past_element;
+use element::row::past_end_tag;
+use element::tag;
+use element::tag::Tag;
 use interval::Op;
 use interval::apply;
 use interval::is_in;
-use text::Read;
+use markup::scan::skip_space;
 
-// Whether a tick, or the gap after it, is in the interval that the element at a position writes.
-fn in_single(s: &[u8], at: usize, depth: usize, shift: u64, n: u64, gap: bool) -> bool
-    requires { ⌜ at ≤ length (now s) ⌝ ∗ ⌜ 1 ≤ depth ⌝ ∗ ⌜ shift ≤ 1680 ⌝ ∗ ⌜ n < 2 ^ 60 ⌝ }
-    ensures { λ r. ⌜ ((v : Element) → ElementAt (now (s .entry)) at depth v → r ≡ isWithin (intervalOf shift (v .attrs) (v .kids)) (placeOf n gap)) ⌝ }
-{
-    let read = interval_of(s, at, depth, shift);
-    let Written::Is(v) = read else {
-        return false;
-    };
-    is_in(v, n, gap)
+// Whether a place is in the set that an element writes, and the position past the element.
+pub struct Meant {
+    pub is: bool,
+    pub end: usize,
 }
 
 // Whether a place is in a set of no members.
@@ -44,46 +39,68 @@ fn in_none(op: Op) -> bool
     }
 }
 
-// Whether a tick, or the gap after it, is in the set that the element at a position writes, where `depth` may be open at once. It calls the
-// reader of members, which calls it, with `depth` falling.
-pub fn is_meant_at(s: &[u8], at: usize, depth: usize, shift: u64, n: u64, gap: bool) -> bool
-    requires { ⌜ at ≤ length (now s) ⌝ ∗ ⌜ shift ≤ 1680 ⌝ ∗ ⌜ n < 2 ^ 60 ⌝ }
-    ensures { λ r. ⌜ MeansElement (now (s .entry)) at depth shift (placeOf n gap) r ⌝ }
+// Whether a place is in a set put together with the next one, which it is where there was none.
+fn in_both(op: Op, any: bool, first: bool, next: bool) -> bool
+    ensures { λ r. ⌜ r ≡ cond any (pageApply (opOf op) first next) next ⌝ }
 {
-    if depth == 0 {
-        return false;
+    if any {
+        return apply(op, first, next);
     }
-    let shape = shape_of(s, at);
+    next
+}
+
+// Whether a tick, or the gap after it, is in the set that the element of a tag writes, where `depth` may be open at once. It calls the
+// reader of members, which calls it, with `depth` falling.
+pub fn is_meant_at(s: &[u8], tag: Tag, depth: usize, shift: u64, n: u64, gap: bool) -> Meant
+    requires { ⌜ TagIn (now s) tag ⌝ ∗ ⌜ shift ≤ 1680 ⌝ ∗ ⌜ n < 2 ^ 60 ⌝ }
+    ensures within { λ r. ⌜ (tag .end ≤ r .end) × (r .end ≤ length (now (s .entry))) ⌝ }
+    ensures tells { λ r. ⌜ MeansElement (now (s .entry)) tag depth shift (placeOf n gap) r ⌝ }
+{
+    let shape = shape_of(s, tag);
     match shape {
-        Shape::Single => in_single(s, at, depth, shift, n, gap),
-        Shape::Members(op) => {
-            let content = children(s, at);
-            let Read::At(i) = content else {
-                return in_none(op);
-            };
-            in_members(s, i, depth - 1, shift, op, n, gap)
+        Shape::Single => {
+            let w = interval_of(s, tag, depth, shift);
+            let v = w.interval;
+            Meant {
+                is: is_in(v, n, gap) & w.known,
+                end: w.end,
+            }
         }
-        Shape::Other => false,
+        Shape::Members(op) => in_members(s, tag, depth, shift, op, n, gap),
+        Shape::Other => Meant {
+            is: false,
+            end: past_element(s, tag, depth),
+        },
     }
 }
 
-// Whether a tick, or the gap after it, is in the set that members write, which stand side by side from a position on.
-fn in_members(s: &[u8], at: usize, depth: usize, shift: u64, op: Op, n: u64, gap: bool) -> bool
-    requires { ⌜ at ≤ length (now s) ⌝ ∗ ⌜ shift ≤ 1680 ⌝ ∗ ⌜ n < 2 ^ 60 ⌝ }
-    ensures { λ r. ⌜ MeansMembers (now (s .entry)) at depth shift op (placeOf n gap) r ⌝ }
+// Whether a tick, or the gap after it, is in the set that the members in the element of a tag write.
+fn in_members(s: &[u8], tag: Tag, depth: usize, shift: u64, op: Op, n: u64, gap: bool) -> Meant
+    requires { ⌜ TagIn (now s) tag ⌝ ∗ ⌜ shift ≤ 1680 ⌝ ∗ ⌜ n < 2 ^ 60 ⌝ }
+    ensures within { λ r. ⌜ (tag .end ≤ r .end) × (r .end ≤ length (now (s .entry))) ⌝ }
+    ensures tells { λ r. ⌜ MeansMembers (now (s .entry)) tag depth shift op (placeOf n gap) r ⌝ }
 {
-    let first = next_element(s, at, depth);
-    let Step::One(member, end) = first else {
-        return in_none(op);
-    };
-    let mut so_far = is_meant_at(s, member, depth, shift, n, gap);
-    let mut i = end;
-    loop {
-        let next = next_element(s, i, depth);
-        let Step::One(member, end) = next else {
-            return so_far;
+    let mut so_far = in_none(op);
+    let mut any = false;
+    let mut at = tag.end;
+    if !(tag.full & (depth != 0)) {
+        return Meant {
+            is: so_far,
+            end: at,
         };
-        so_far = apply(op, so_far, is_meant_at(s, member, depth, shift, n, gap));
-        i = end;
+    }
+    loop {
+        let i = skip_space(s, at);
+        if !is_child(s, i) {
+            return Meant {
+                is: so_far,
+                end: past_end_tag(s, i, tag),
+            };
+        }
+        let child = tag::read(s, i);
+        let member = is_meant_at(s, child, depth - 1, shift, n, gap);
+        so_far = in_both(op, any, so_far, member.is);
+        any = true;
+        at = member.end;
     }
 }

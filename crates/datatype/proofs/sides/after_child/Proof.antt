@@ -40,8 +40,7 @@ time-of-requires c κs = search needs
 
 returns-3 : tie.Need-returns-3
 returns-3 c =
-    let at-is-same = c .before .before in
-    let at-if1 = at-is-same .before .before in
+    let at-is-same = c .before .before in let at-if1 = at-is-same .before .before in
     let start = at-if1 .before .before .before in (
       (λ h e. clash (cc)),
       λ d v after h.
