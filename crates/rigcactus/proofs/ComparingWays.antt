@@ -6,11 +6,11 @@ use mathlib.Core.List.{List}
 use mathlib.Core.Option.{Option, none, some}
 use lib.IntN.{ℤ}
 use Rattle.rules.specs.Refusal.{Refusal, OFFSET, firstOf, Outcome, answered, refused}
-use Rattle.rules.specs.Markup.{Element, document}
+use Rattle.rules.specs.Markup.{Element}
 use Rattle.rules.specs.Check.{isOffset, shiftBy, recordFaults, check}
 use Rattle.rules.specs.Services.{Compared, refusedFirst, refusedSecond, compareChecked, comparison, comparedNumber, compareAnswer}
 use Rattle.rules.proofs.Tests.{clash}
-use Rattle.rules.proofs.Precedence.{check-refused, check-answered}
+use Rattle.rules.proofs.Precedence.{check-refused}
 use Rattle.judge.specs.Faults.{inputFaults}
 use Rattle.rigcactus.proofs.Checking.{record-offset, record-input}
 
@@ -44,7 +44,7 @@ module _ (offset : ℤ) (first second : List ℕ) where
     compare-second r f = rw (accepted, f)
 
     pub compare-both : (b : Element) → check offset second ≡ answered b → {shift : ℕ} → shift ≡ shiftBy offset → {c : Compared}
-        → ((v w : Element) → document first ≡ some v → document second ≡ some w → c ≡ compareChecked shift (answered v) (answered w))
+        → c ≡ compareChecked shift (answered a) (answered b)
         → comparedNumber c ≡ compareAnswer offset first second
     unfolding comparison
-    compare-both b f by h = rw (accepted, f, h a b (check-answered offset first a .0 accepted .0) (check-answered offset second b .0 f .0), by)
+    compare-both b f by h = rw (accepted, f, h, by)

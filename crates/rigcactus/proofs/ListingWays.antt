@@ -3,6 +3,7 @@ use Prim.Native.Nat.{ℕ}
 use mathlib.Core.Path.{_≡_, refl, sym, _∙_, ap}
 use mathlib.Core.Bool.{Bool, true, false, not}
 use mathlib.Core.List.{List, [], _∷_, _++_}
+use mathlib.Core.Logic.{_⊎_, inl, inr}
 use mathlib.Core.Option.{Option, none, some}
 use native.Mathlib.Omega.{arith}
 use lib.IntN.{ℤ}
@@ -26,35 +27,44 @@ use Rattle.rigcactus.specs.Faults.{listingFaults}
 use Rattle.rigcactus.proofs.Checking.{record-offset, record-input}
 
 -- the first fault of what is to be listed, from the first as a record and from whether its type can be listed
-module _ (shift : ℕ) (input : List ℕ) {b : Bool} {x : Option Refusal} (told : (e : Element) → document input ≡ some e → b ≡ isListed e)
+module _ (shift : ℕ) (input : List ℕ) {b : Bool} {x : Option Refusal} (told : (e : Element) → document input ≡ some e → (b ≡ isListed e) ⊎ (earlier (firstOf (inputFaults shift input)) (some TYPE) ≡ firstOf (inputFaults shift input)))
     (fault : x ≡ firstOf (inputFaults shift input)) where
-  outer : List Refusal
-  outer = TOO-LONG when isTooLong input ++ NOT-UTF-8 when not (isUtf8 input)
+  abbrev first : Option Refusal
+  first = firstOf (inputFaults shift input)
 
-  -- MARKUP is there once more
-  twice : (q : Refusal) → earlier (some MARKUP) (some q) ≡ some MARKUP → (a : List Refusal) → earlier (firstOf (a ++ (MARKUP ∷ []))) (some q) ≡ firstOf (a ++ (MARKUP ∷ []))
+  -- with MARKUP once more, and with TYPE where the type can't be listed
+  no-document : document input ≡ none → (q : Refusal) → earlier (some MARKUP) (some q) ≡ some MARKUP → earlier first (some q) ≡ first
   unfolding firstOf
-  twice q h a = rw (firstOf-append a (MARKUP ∷ [])) (earlier-assoc (firstOf a) (some MARKUP) (some q) ∙ ap (earlier (firstOf a)) h)
+  no-document d q h =
+      rw (d, firstOf-append (TOO-LONG when isTooLong input ++ NOT-UTF-8 when not (isUtf8 input)) (MARKUP ∷ []))
+      (earlier-assoc _ (some MARKUP) (some q) ∙ ap (earlier (firstOf (TOO-LONG when isTooLong input ++ NOT-UTF-8 when not (isUtf8 input)))) h)
+
+  typeless : (c : Bool) → earlier first (some TYPE) ≡ first → earlier first (firstOf (TYPE when c)) ≡ first
+  unfolding firstOf
+  typeless true h = h
+  typeless false h = earlier-none-right first
 
   pub fault-listed : b ≡ true → x ≡ firstOf (listingFaults shift input)
-  unfolding firstOf rankIn outer
+  unfolding firstOf rankIn
   fault-listed t = fault ∙ sym (firstOf-append (inputFaults shift input) _ ∙ go (document input) refl)
     where
-      go : (o : Option Element) → document input ≡ o
-          → earlier (firstOf (outer ++ faultsIn (topFaults shift) (ifSome o answered (refused MARKUP)))) (firstOf (faultsIn unlisted (ifSome o answered (refused MARKUP))))
-          ≡ firstOf (outer ++ faultsIn (topFaults shift) (ifSome o answered (refused MARKUP)))
-      go none d = twice MARKUP refl outer
-      go (some e) d = rw (sym (told e d) ∙ t) (earlier-none-right _)
+      go : (o : Option Element) → document input ≡ o → earlier first (firstOf (faultsIn unlisted (ifSome o answered (refused MARKUP)))) ≡ first
+      go none d = no-document d MARKUP refl
+      go (some e) d = elim (told e d) [
+        | inl w ↦ rw (sym w ∙ t) (earlier-none-right first)
+        | inr w ↦ typeless (not (isListed e)) w
+      ]
 
   pub fault-unlisted : b ≡ false → {y : Option Refusal} → y ≡ earlier x (some TYPE) → y ≡ firstOf (listingFaults shift input)
-  unfolding firstOf rankIn outer
+  unfolding firstOf rankIn
   fault-unlisted t {y} h = h ∙ ap (λ (z : Option Refusal). earlier z (some TYPE)) fault ∙ sym (firstOf-append (inputFaults shift input) _ ∙ go (document input) refl)
     where
-      go : (o : Option Element) → document input ≡ o
-          → earlier (firstOf (outer ++ faultsIn (topFaults shift) (ifSome o answered (refused MARKUP)))) (firstOf (faultsIn unlisted (ifSome o answered (refused MARKUP))))
-          ≡ earlier (firstOf (outer ++ faultsIn (topFaults shift) (ifSome o answered (refused MARKUP)))) (some TYPE)
-      go none d = twice MARKUP refl outer ∙ sym (twice TYPE refl outer)
-      go (some e) d = rw (sym (told e d) ∙ t)
+      go : (o : Option Element) → document input ≡ o → earlier first (firstOf (faultsIn unlisted (ifSome o answered (refused MARKUP)))) ≡ earlier first (some TYPE)
+      go none d = no-document d MARKUP refl ∙ sym (no-document d TYPE refl)
+      go (some e) d = elim (told e d) [
+        | inl w ↦ rw (sym w ∙ t)
+        | inr w ↦ typeless (not (isListed e)) w ∙ sym w
+      ]
 
 module _ (offset : ℤ) (input list : List ℕ) where
   serves : {q : Refusal} → listing offset (roomOf list) input ≡ refused q → Serves offset input list (number q) list
@@ -86,7 +96,7 @@ module _ (offset : ℤ) (input list : List ℕ) where
         go (answered e) a = typed e a (isListed e) refl (type-fault e a h)
 
     pub list-answered : {r : Listed} {after : List ℕ} → none ≡ firstOf (listingFaults shift input)
-        → ((e : Element) → document input ≡ some e → topFaults shift e ≡ [] → isListed e ≡ true → Answers (listElement shift (roomOf list) e) list r after)
+        → ((e : Element) → check offset input ≡ answered e → topFaults shift e ≡ [] → isListed e ≡ true → Answers (listElement shift (roomOf list) e) list r after)
         → Serves offset input list (packed (λ n. n) (listedMeant r)) after
     unfolding firstOf
     list-answered {r} {after} h tells = go (check offset input) refl
@@ -101,4 +111,4 @@ module _ (offset : ℤ) (input list : List ℕ) where
 
         go : (o : Outcome Element) → check offset input ≡ o → Serves offset input list (packed (λ n. n) (listedMeant r)) after
         go (refused q) f = some-earlier q (firstOf (faultsIn unlisted (elementOf input))) (split h ∙ rw (check-refused offset input q .0 f))
-        go (answered e) a = serves-list offset input list e a (typed (isListed e) (type-fault e a h)) r after (rw (← by) tells)
+        go (answered e) a = serves-list offset input list e a (typed (isListed e) (type-fault e a h)) r after (rw (← by) (tells e a))

@@ -1,7 +1,8 @@
 // The services, as a host in C calls them. Each asks nothing of its caller, and its answer is the rules' for every input.
 ghost use mathlib.Core.Path.{_≡_};
 ghost use mathlib.Core.Bool.{true};
-ghost use Prim.Native.Nat.{_+_, _*_, _^_, _<_, _≤_};
+ghost use mathlib.Core.List.{List};
+ghost use Prim.Native.Nat.{ℕ, _+_, _*_, _^_, _<_, _≤_};
 ghost use lib.IntN.{subℕ};
 ghost use Rattle.rules.specs.Basics.{ifSome};
 ghost use Rattle.rules.specs.Refusal.{number as pageNumber, firstOf};
@@ -13,9 +14,11 @@ ghost use Rattle.timestamp.specs.Moments.{outcomeOf};
 ghost use Rattle.comparison.specs.Meaning.{answerMeant, comparedMeant};
 ghost use Rattle.listing.specs.Answers.{Few, listedMeant};
 ghost use Rattle.demands.specs.Services.{services};
+ghost use Rattle.judge.specs.Checks.{CheckedAs};
 ghost use Rattle.rigcactus.specs.Faults.{listingFaults};
 use comparison::Answer;
 use comparison::Compared;
+use judge::Checked;
 use listing::Listed;
 use refusal::Refusal;
 use refusal::Verdict;
@@ -73,16 +76,18 @@ pub extern "C" fn rigcactus_check(record: &[u8], offset: i64) -> u64
     if !is_offset(offset) {
         return refusal::number(Refusal::Offset);
     }
-    verdict_number(judge::fault(record, shift_of(offset)))
+    let checked = judge::check(record, shift_of(offset));
+    let fault = checked.fault;
+    verdict_number(fault)
 }
 
-// The first fault of a record that is to be listed; `shift` is 840 less the agreed offset in minutes.
-fn listing_fault(record: &[u8], shift: u64) -> Verdict
-    requires { ⌜ shift ≤ 1680 ⌝ }
-    ensures { λ r. ⌜ faultOf r ≡ firstOf (listingFaults shift (now («record» .entry))) ⌝ }
+// The first fault of a checked record that is to be listed.
+fn listing_fault(checked: Checked) -> Verdict
+    ensures { λ r. ⌜ ((shift : ℕ) (input : List ℕ) → CheckedAs input shift checked → faultOf r ≡ firstOf (listingFaults shift input)) ⌝ }
 {
-    let fault = judge::fault(record, shift);
-    if listing::is_listed(record) {
+    let fault = checked.fault;
+    let held = checked.record;
+    if listing::is_listed(held) {
         return fault;
     }
     refusal::first(fault, Verdict::Refused(Refusal::Type))
@@ -110,11 +115,13 @@ pub extern "C" fn rigcactus_list(record: &[u8], offset: i64, list: &mut [u8]) ->
         return refusal::number(Refusal::Offset);
     }
     let shift = shift_of(offset);
-    let fault = listing_fault(record, shift);
+    let checked = judge::check(record, shift);
+    let fault = listing_fault(checked);
     if let Verdict::Refused(r) = fault {
         return refusal::number(r);
     }
-    let listed = listing::list(record, shift, list);
+    let held = checked.record;
+    let listed = listing::list(record, held, shift, list);
     listed_number(listed)
 }
 
@@ -181,15 +188,19 @@ pub extern "C" fn rigcactus_compare(first: &[u8], second: &[u8], offset: i64) ->
         return first_refused(Refusal::Offset);
     }
     let shift = shift_of(offset);
-    let one = judge::fault(first, shift);
-    if let Verdict::Refused(r) = one {
+    let one = judge::check(first, shift);
+    let fault = one.fault;
+    if let Verdict::Refused(r) = fault {
         return first_refused(r);
     }
-    let other = judge::fault(second, shift);
-    if let Verdict::Refused(r) = other {
+    let other = judge::check(second, shift);
+    let fault = other.fault;
+    if let Verdict::Refused(r) = fault {
         return second_refused(r);
     }
-    compared_number(comparison::compare(first, second, shift))
+    let a = one.record;
+    let b = other.record;
+    compared_number(comparison::compare(first, a, second, b, shift))
 }
 
 // The page's signed tick of a moment's start.
