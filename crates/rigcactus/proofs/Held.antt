@@ -13,6 +13,7 @@ use Rattle.rules.specs.Types.{Kind, allTypes, typeAmong}
 use Rattle.rules.specs.Judge.{elementFaults, topFaults}
 use Rattle.rules.specs.Utf8.{isUtf8}
 use Rattle.rules.specs.Check.{isOffset, shiftBy, isTooLong, elementOf, recordFaults, check}
+use Rattle.rules.specs.ListingPromise.{isListed}
 use Rattle.rules.proofs.Tests.{clash}
 use Rattle.rules.proofs.Precedence.{earlier-assoc, earlier-comm, check-answered}
 use Rattle.datatype.specs.Records.{RecordOf}
@@ -20,9 +21,13 @@ use Rattle.judge.specs.Faults.{inputFaults}
 use Rattle.judge.specs.Checks.{CheckedAs}
 use Rattle.judge.specs.declared.Checked.{Checked}
 
-unless : (r : Refusal) (b : Bool) (l : List Refusal) → ((r when b) ++ l) ≡ [] → (b ≡ false) × (l ≡ [])
-unless r true l e = clash (cc)
-unless r false l e = (refl, e)
+none-of : (a b : List Refusal) → (a ++ b) ≡ [] → (a ≡ []) × (b ≡ [])
+none-of [] b e = (refl, e)
+none-of (r ∷ a) b e = clash (cc)
+
+not-so : (r : Refusal) (b : Bool) → (r when b) ≡ [] → b ≡ false
+not-so r true e = clash (cc)
+not-so r false e = refl
 
 module _ {shift : ℕ} {input : List ℕ} (r : Checked) (h : CheckedAs input shift r) where
   -- a record that is accepted
@@ -30,10 +35,10 @@ module _ {shift : ℕ} {input : List ℕ} (r : Checked) (h : CheckedAs input shi
   unfolding recordFaults elementFaults
   accepted-held offset e a =
       let (d, n) = check-answered offset input e .0 a in
-      let (o, n₁) = unless OFFSET (not (isOffset offset)) _ n in
-      let (p, n₂) = unless TOO-LONG (isTooLong input) _ n₁ in
-      let (q, n₃) = unless NOT-UTF-8 (not (isUtf8 input)) _ n₂ in
-      go (typeAmong allTypes (e .attrs)) refl p (not-false _ q) d (rw d at n₃)
+      let (n₁, n₂) = none-of (OFFSET when not (isOffset offset) ++ TOO-LONG when isTooLong input ++ NOT-UTF-8 when not (isUtf8 input)) (faultsIn (topFaults (shiftBy offset)) (elementOf input)) n in
+      let (n₃, n₄) = none-of (OFFSET when not (isOffset offset) ++ TOO-LONG when isTooLong input) (NOT-UTF-8 when not (isUtf8 input)) n₁ in
+      let (n₅, n₆) = none-of (OFFSET when not (isOffset offset)) (TOO-LONG when isTooLong input) n₃ in
+      go (typeAmong allTypes (e .attrs)) refl (not-so TOO-LONG (isTooLong input) n₆) (not-false (isUtf8 input) (not-so NOT-UTF-8 (not (isUtf8 input)) n₄)) d (rw d at n₂)
     where
       go : (k : Option Kind) → typeAmong allTypes (e .attrs) ≡ k → isTooLong input ≡ false → isUtf8 input ≡ true → document input ≡ some e → topFaults (shiftBy offset) e ≡ [] → RecordOf input e (r .«record»)
       go none t p q d n = let z = rw t at n in clash (cc)
@@ -56,9 +61,17 @@ module _ {shift : ℕ} {input : List ℕ} (r : Checked) (h : CheckedAs input shi
       typed (some k) t p q = inl (h .held e k p q d t)
 
       whole : (b : Bool) → isUtf8 input ≡ b → isTooLong input ≡ false → RecordOf input e (r .«record») ⊎ Typeless (firstOf (inputFaults shift input))
-      whole false q p = inr (rw (p, q) (before NOT-UTF-8 _ refl))
+      whole false q p = inr (rw (p, q) (before NOT-UTF-8 (firstOf (faultsIn (topFaults shift) (elementOf input))) refl))
       whole true q p = typed (typeAmong allTypes (e .attrs)) refl p q
 
       long : (b : Bool) → isTooLong input ≡ b → RecordOf input e (r .«record») ⊎ Typeless (firstOf (inputFaults shift input))
-      long true p = inr (rw p (before TOO-LONG _ refl))
+      long true p = inr (rw p (before TOO-LONG (firstOf (NOT-UTF-8 when not (isUtf8 input) ++ faultsIn (topFaults shift) (elementOf input))) refl))
       long false p = whole (isUtf8 input) refl p
+
+  -- whether its type can be listed
+  pub listed-or-typeless : {b : Bool} → ((s : List ℕ) (e : Element) → RecordOf s e (r .«record») → b ≡ isListed e) → (e : Element) → document input ≡ some e
+      → (b ≡ isListed e) ⊎ Typeless (firstOf (inputFaults shift input))
+  listed-or-typeless told e d = elim (held-or-typeless e d) [
+    | inl x ↦ inl (told input e x)
+    | inr x ↦ inr x
+  ]

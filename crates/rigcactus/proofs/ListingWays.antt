@@ -37,7 +37,7 @@ module _ (shift : ℕ) (input : List ℕ) {b : Bool} {x : Option Refusal} (told 
   unfolding firstOf
   no-document d q h =
       rw (d, firstOf-append (TOO-LONG when isTooLong input ++ NOT-UTF-8 when not (isUtf8 input)) (MARKUP ∷ []))
-      (earlier-assoc _ (some MARKUP) (some q) ∙ ap (earlier (firstOf (TOO-LONG when isTooLong input ++ NOT-UTF-8 when not (isUtf8 input)))) h)
+      (earlier-assoc (firstOf (TOO-LONG when isTooLong input ++ NOT-UTF-8 when not (isUtf8 input))) (some MARKUP) (some q) ∙ ap (earlier (firstOf (TOO-LONG when isTooLong input ++ NOT-UTF-8 when not (isUtf8 input)))) h)
 
   typeless : (c : Bool) → earlier first (some TYPE) ≡ first → earlier first (firstOf (TYPE when c)) ≡ first
   unfolding firstOf
