@@ -70,14 +70,15 @@ pub fn shape_of(s: &[u8], tag: Tag) -> Shape
     shape_of_kind(kind)
 }
 
-// A set that is not known.
-fn unknown(end: usize) -> Evaluated
+// A set that is not known, whatever was.
+fn unknown(a: Evaluated, end: usize) -> Evaluated
+    requires { ⌜ Formed a ⌝ }
     ensures { λ r. ⌜ Formed r × (r .known ≡ false) × (r .end ≡ end) ⌝ }
 {
-    let set = interval::empty();
+    let set = a.set;
     Evaluated {
         known: false,
-        count: 0,
+        count: a.count,
         set,
         end,
     }
@@ -164,7 +165,7 @@ fn with_single(op: Op, a: Evaluated, w: Written) -> Evaluated
     ensures tells { λ r. ⌜ ((x : Option Expression) → SoFar x a → Says (put (opOf op) x (expressed (writtenMeant w))) r) ⌝ }
 {
     if !w.known {
-        return unknown(w.end);
+        return unknown(a, w.end);
     }
     let v = w.interval;
     with_interval(op, a, v, w.end)
@@ -179,13 +180,13 @@ fn with_element(s: &[u8], tag: Tag, depth: usize, shift: u64, op: Op, a: Evaluat
     ensures tells { λ r. ⌜ SaysElement (now (s .entry)) tag depth shift op a r ⌝ }
 {
     if tag::has(tag, NULL_FLAVOR) {
-        return unknown(tag.end);
+        return unknown(a, tag.end);
     }
     let shape = shape_of(s, tag);
     match shape {
         Shape::Single => with_single(op, a, interval_of(s, tag, depth, shift)),
         Shape::Members(inner) => join(op, a, set_of_members(s, tag, depth, shift, inner)),
-        Shape::Other => unknown(tag.end),
+        Shape::Other => unknown(a, tag.end),
     }
 }
 
@@ -196,17 +197,17 @@ fn set_of_members(s: &[u8], tag: Tag, depth: usize, shift: u64, op: Op) -> Evalu
     ensures within { λ r. ⌜ (tag .end ≤ r .end) × (r .end ≤ length (now (s .entry))) ⌝ }
     ensures tells { λ r. ⌜ SaysMembers (now (s .entry)) tag depth shift op r ⌝ }
 {
-    if !(tag.full & (depth != 0)) {
-        return unknown(tag.end);
-    }
     let mut so_far = no_members();
     let mut at = tag.end;
+    if !(tag.full & (depth != 0)) {
+        return unknown(so_far, at);
+    }
     loop {
         let i = skip_space(s, at);
         if !is_child(s, i) {
             let end = past_end_tag(s, i, tag);
             if so_far.count == 0 {
-                return unknown(end);
+                return unknown(so_far, end);
             }
             so_far.end = end;
             return so_far;

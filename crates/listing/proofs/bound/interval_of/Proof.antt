@@ -92,7 +92,8 @@ returns-2 c =
         λ v after h.
             let (l, r, e) = at-read-sides .read-sides .ensures .1 v after h in (
               interval-high (start .args .shift) (v .attrs) (v .kids)
-                  (at-bound-of .bound-of .ensures .1 (start .args .shift) (start .pre .1) (v .attrs) (v .kids) l (at-has-text .has-text .ensures _ (h .tells .placed 3 (omega arith)))) (at-first .first .given .1) _
+                  (at-bound-of .bound-of .ensures .1 (start .args .shift) (start .pre .1) (v .attrs) (v .kids) l (at-has-text .has-text .ensures _ (h .tells .placed 3 (omega arith))))
+                  (at-first .first .given .1) _
                   (at-bound-of2 .bound-of2 .ensures .1 (start .args .shift) (start .pre .1) (v .attrs) (v .kids) r (at-has-text2 .has-text2 .ensures _ (h .tells .placed 4 (omega arith))))
                   (c .before .enum-told2 .given .1) (c .unwritten2 .result) (c .unwritten2 .ensures .0),
               rw (c .unwritten2 .ensures .1) e,
@@ -111,7 +112,8 @@ returns-3 c =
         λ v after h.
             let (l, r, e) = at-read-sides .read-sides .ensures .1 v after h in (
               interval-both (start .args .shift) (v .attrs) (v .kids)
-                  (at-bound-of .bound-of .ensures .1 (start .args .shift) (start .pre .1) (v .attrs) (v .kids) l (at-has-text .has-text .ensures _ (h .tells .placed 3 (omega arith)))) (at-first .first .given .1) _
+                  (at-bound-of .bound-of .ensures .1 (start .args .shift) (start .pre .1) (v .attrs) (v .kids) l (at-has-text .has-text .ensures _ (h .tells .placed 3 (omega arith))))
+                  (at-first .first .given .1) _
                   (at-bound-of2 .bound-of2 .ensures .1 (start .args .shift) (start .pre .1) (v .attrs) (v .kids) r (at-has-text2 .has-text2 .ensures _ (h .tells .placed 4 (omega arith))))
                   (c .before .second .given .1),
               e,

@@ -6,9 +6,9 @@ use mathlib.Core.Path.{sym, ap, _∙_}
 use borrow.Author.Needs.{needs}
 use borrow.Author.Tests.{not-true, not-false}
 use lib.ListN.{length}
+use Rattle.rules.proofs.Tests.{clash}
 use Rattle.datatype.proofs.Walks.{deep, no-row, Walked, walk-begins, walk-child, walk-goes, walk-ends}
 use Rattle.listing.specs.Sets.{Formed, expressed}
-use Rattle.rules.proofs.Tests.{clash}
 use Rattle.listing.proofs.Joining.{put-unknown, put-set, ends-formed}
 use Rattle.listing.proofs.Evaluating.{null-set, single-set, other-set, members-set, Evaluating, no-member-yet, member-known, member-unknown, all-known, no-member, empty-row}
 use borrow.Fn.Kinds.{In}
@@ -53,10 +53,10 @@ with-element-below t = and 1 with-element-kinds.ps (falls 1 with-element-kinds.p
 
 abbrev set-of-members-claims : ℕ → set-of-members-lts.Claims
 set-of-members-claims t = (
-  unknown-reads.Asked,
-  unknown-reads.Learnt,
   no-members-reads.Asked,
   no-members-reads.Learnt,
+  unknown-reads.Asked,
+  unknown-reads.Learnt,
   skip-space-reads.Asked,
   skip-space-reads.Learnt,
   is-child-reads.Asked,
@@ -93,12 +93,16 @@ set-of-members-Inv-loop s tag depth shift op so-far₀ at₀ so-far at = Formed 
 abbrev set-of-members-μ-loop : set-of-members-lts.MeasureT-loop
 set-of-members-μ-loop s tag depth shift op so-far₀ at₀ so-far at = length s - at
 
+set-of-members-no-members-requires : (t : ℕ) → set-of-members-lts.Need-no-members-requires (set-of-members-claims t) (set-of-members-at t)
+    set-of-members.Post set-of-members-Inv-loop set-of-members-μ-loop
+set-of-members-no-members-requires t c κs = search needs
+
 set-of-members-unknown-requires : (t : ℕ) → set-of-members-lts.Need-unknown-requires (set-of-members-claims t) (set-of-members-at t) set-of-members.Post set-of-members-Inv-loop set-of-members-μ-loop
-set-of-members-unknown-requires t c κs = search needs
+set-of-members-unknown-requires t c κs = c .before .before .no-members .ensures .0
 
 set-of-members-returns : (t : ℕ) → set-of-members-lts.Need-returns (set-of-members-claims t) (set-of-members-at t) set-of-members.Post set-of-members-Inv-loop set-of-members-μ-loop
 set-of-members-returns t c =
-    let start = c .before .before .before .before in (
+    let start = c .before .before .before .before .before in (
       c .unknown .ensures .0,
       (
         (omega (arith, c .unknown .ensures .2), omega (arith, c .unknown .ensures .2, start .pre .1 .0 .end)),
@@ -107,16 +111,12 @@ set-of-members-returns t c =
       ),
     )
 
-set-of-members-no-members-requires : (t : ℕ) → set-of-members-lts.Need-no-members-requires (set-of-members-claims t) (set-of-members-at t)
-    set-of-members.Post set-of-members-Inv-loop set-of-members-μ-loop
-set-of-members-no-members-requires t c κs = search needs
-
 set-of-members-loop-holds : (t : ℕ) → set-of-members-lts.Need-loop-holds (set-of-members-claims t) (set-of-members-at t) set-of-members.Post set-of-members-Inv-loop set-of-members-μ-loop
 set-of-members-loop-holds t c =
-    let start = c .before .before .before .before in (
-      c .no-members .ensures .0,
-      walk-begins (start .args .tag) (start .args .depth) (start .pre .1 .0 .end) (c .before .if1 .left) (no-member-yet (start .args .shift) (start .args .op)
-          (c .no-members .ensures .1)),
+    let at-no-members = c .before .before in let start = at-no-members .before .before in (
+      at-no-members .no-members .ensures .0,
+      walk-begins (start .args .tag) (start .args .depth) (start .pre .1 .0 .end) (c .if1 .left) (no-member-yet (start .args .shift) (start .args .op)
+          (at-no-members .no-members .ensures .1)),
     )
 
 set-of-members-skip-space-requires : (t : ℕ) → set-of-members-lts.Need-skip-space-requires (set-of-members-claims t) (set-of-members-at t)
@@ -126,9 +126,13 @@ set-of-members-skip-space-requires t c κs = c .loop .inv .1 .within
 set-of-members-is-child-requires : (t : ℕ) → set-of-members-lts.Need-is-child-requires (set-of-members-claims t) (set-of-members-at t) set-of-members.Post set-of-members-Inv-loop set-of-members-μ-loop
 set-of-members-is-child-requires t c κs = c .skip-space .ensures .high
 
+set-of-members-past-end-tag-requires : (t : ℕ) → set-of-members-lts.Need-past-end-tag-requires (set-of-members-claims t) (set-of-members-at t)
+    set-of-members.Post set-of-members-Inv-loop set-of-members-μ-loop
+set-of-members-past-end-tag-requires t c κs = (c .before .before .skip-space .ensures .high, c .before .before .before .before .before .before .before .before .pre .1 .0)
+
 set-of-members-unknown-requires-2 : (t : ℕ) → set-of-members-lts.Need-unknown-requires-2 (set-of-members-claims t) (set-of-members-at t)
     set-of-members.Post set-of-members-Inv-loop set-of-members-μ-loop
-set-of-members-unknown-requires-2 t c κs = search needs
+set-of-members-unknown-requires-2 t c κs = c .before .before .before .before .before .before .loop .inv .0
 
 set-of-members-returns-2 : (t : ℕ) → set-of-members-lts.Need-returns-2 (set-of-members-claims t) (set-of-members-at t) set-of-members.Post set-of-members-Inv-loop set-of-members-μ-loop
 set-of-members-returns-2 t c =
@@ -146,10 +150,6 @@ set-of-members-returns-2 t c =
             (no-member (start .args .shift) (start .args .op) (v .kids) p (c .before .if3 .taken) (c .unknown2 .ensures .1), λ k. clash (cc (k, c .unknown2 .ensures .1))),
       ),
     )
-
-set-of-members-past-end-tag-requires : (t : ℕ) → set-of-members-lts.Need-past-end-tag-requires (set-of-members-claims t) (set-of-members-at t)
-    set-of-members.Post set-of-members-Inv-loop set-of-members-μ-loop
-set-of-members-past-end-tag-requires t c κs = (c .before .before .skip-space .ensures .high, c .before .before .before .before .before .before .before .before .pre .1 .0)
 
 set-of-members-returns-3 : (t : ℕ) → set-of-members-lts.Need-returns-3 (set-of-members-claims t) (set-of-members-at t) set-of-members.Post set-of-members-Inv-loop set-of-members-μ-loop
 set-of-members-returns-3 t c =
@@ -173,20 +173,21 @@ set-of-members-read-requires t c κs = c .before .before .skip-space .ensures .h
 
 set-of-members-sub-with-element : (t : ℕ) → set-of-members-lts.Need-sub-with-element (set-of-members-claims t) (set-of-members-at t) set-of-members.Post set-of-members-Inv-loop set-of-members-μ-loop
 set-of-members-sub-with-element t c =
-    let at-if1 = c .before .before .before .before .before .before in let start = at-if1 .before .before .before in
+    let at-if1 = c .before .before .before .before .before in let start = at-if1 .before .before .before .before in
     deep (start .args .tag .full) (start .args .depth) (at-if1 .if1 .left)
 
 set-of-members-with-element-requires : (t : ℕ) → set-of-members-lts.Need-with-element-requires (set-of-members-claims t) (set-of-members-at t)
     set-of-members.Post set-of-members-Inv-loop set-of-members-μ-loop
 set-of-members-with-element-requires t c κs =
-    let at-loop = c .before .before .before .before in let at-if1 = at-loop .before .before in let start = at-if1 .before .before .before in
+    let at-loop = c .before .before .before .before in let at-if1 = at-loop .before in let start = at-if1 .before .before .before .before in
     (omega (arith, start .pre .0, deep (start .args .tag .full) (start .args .depth) (at-if1 .if1 .left)), (c .read .ensures .0 .0, (start .pre .1 .1, at-loop .loop .inv .0)))
 
 set-of-members-returns-4 : (t : ℕ) → set-of-members-lts.Need-returns-4 (set-of-members-claims t) (set-of-members-at t) set-of-members.Post set-of-members-Inv-loop set-of-members-μ-loop
 set-of-members-returns-4 t c =
     let at-with-element = c .before .before in let at-read = at-with-element .before in let at-if2 = at-read .before in let at-is-child = at-if2 .before in
     let at-skip-space = at-is-child .before in let at-loop = at-skip-space .before in let start = at-loop .before .before .before .before .before in
-    let l = at-is-child .is-child .ensures .1 (not-false _ (at-if2 .if2 .left)) in (
+    let l = at-is-child .is-child .ensures .1 (not-false _ (at-if2 .if2 .left)) in
+    let z = not-true (at-with-element .with-element .result .known) (c .if4 .taken) in (
       at-with-element .with-element .ensures .0,
       (
         (
@@ -202,9 +203,8 @@ set-of-members-returns-4 t c =
         λ v after h.
             let (all, m, p) = walk-child (at-loop .loop .inv .1) (at-skip-space .skip-space .ensures) (at-is-child .is-child .ensures .0) (at-read .read .result) (at-if2 .if2 .left)
             (at-read .read .ensures .1) v after h in (
-              member-unknown (start .args .shift) (start .args .op) (m .element) (λ x s. at-with-element .with-element .ensures .1 .1 x s (m .element) (m .left) (m .tag) .0) (v .kids) (m .others)
-                  p (not-true _ (c .if4 .taken)),
-              λ k. clash (cc (k, not-true (at-with-element .with-element .result .known) (c .if4 .taken))),
+              member-unknown (start .args .shift) (start .args .op) (m .element) (λ x s. at-with-element .with-element .ensures .1 .1 x s (m .element) (m .left) (m .tag) .0) (v .kids) (m .others) p z,
+              λ k. clash (cc (k, z)),
             ),
       ),
     )
@@ -237,7 +237,7 @@ with-element-has-requires : (t : ℕ) → with-element-lts.Need-has-requires (wi
 with-element-has-requires t c κs = search needs
 
 with-element-unknown-requires : (t : ℕ) → with-element-lts.Need-unknown-requires (with-element-claims t) (with-element-at t) with-element.Post
-with-element-unknown-requires t c κs = search needs
+with-element-unknown-requires t c κs = c .before .before .before .pre .1 .1 .1
 
 with-element-returns : (t : ℕ) → with-element-lts.Need-returns (with-element-claims t) (with-element-at t) with-element.Post
 with-element-returns t c =
@@ -279,7 +279,7 @@ with-element-enum-told-2 : (t : ℕ) → with-element-lts.Need-enum-told-2 (with
 with-element-enum-told-2 t c = search needs
 
 with-element-unknown-requires-2 : (t : ℕ) → with-element-lts.Need-unknown-requires-2 (with-element-claims t) (with-element-at t) with-element.Post
-with-element-unknown-requires-2 t c κs = search needs
+with-element-unknown-requires-2 t c κs = c .before .before .before .before .before .before .pre .1 .1 .1
 
 with-element-returns-2 : (t : ℕ) → with-element-lts.Need-returns-2 (with-element-claims t) (with-element-at t) with-element.Post
 with-element-returns-2 t c =
@@ -338,7 +338,7 @@ pub +set-of-members+with-element-spec : {M : Type 1} → statement M
     set-of-members.Post
     set-of-members-Inv-loop
     set-of-members-μ-loop
-    (set-of-members-unknown-requires t) (set-of-members-returns t) (set-of-members-no-members-requires t) (set-of-members-loop-holds t) (set-of-members-skip-space-requires t)
+    (set-of-members-no-members-requires t) (set-of-members-unknown-requires t) (set-of-members-returns t) (set-of-members-loop-holds t) (set-of-members-skip-space-requires t)
     (set-of-members-is-child-requires t) (set-of-members-past-end-tag-requires t) (set-of-members-unknown-requires-2 t) (set-of-members-returns-2 t) (set-of-members-returns-3 t)
     (set-of-members-read-requires t) (set-of-members-sub-with-element t) (set-of-members-with-element-requires t) (set-of-members-returns-4 t) (set-of-members-loop-less t)
     (set-of-members-loop-again t))
