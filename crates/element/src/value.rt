@@ -9,6 +9,7 @@ ghost use Rattle.rules.specs.Markup.{value};
 ghost use Rattle.element.specs.Texts.{TextAt, CharOn, Chars, isNothing};
 use markup::scan::read_byte;
 use markup::value::Char;
+use markup::value::is_simple;
 use markup::value::read_char;
 use text::Read;
 
@@ -47,6 +48,12 @@ pub fn next(s: &[u8], at: usize) -> Char
     ensures on { λ r. ⌜ CharOn (now (s .entry)) at r ⌝ }
     ensures tells { λ r. ⌜ ((v : List ℕ) → TextAt (now (s .entry)) at v → Chars (now (s .entry)) v r) ⌝ }
 {
+    if at < s.len() {
+        let c = s[at];
+        if is_simple(c) {
+            return Char::Is(c, at + 1);
+        }
+    }
     let closing = read_byte(s, at, b'"');
     if let Read::At(_) = closing {
         return Char::Nothing;

@@ -1,7 +1,7 @@
 -- The characters of a value, one at a time and up to the quote that ends them.
 use Prim.Native.Nat.{ℕ, zero, suc, _+_, _≤_, _<_}
 use mathlib.Core.Path.{_≡_, refl, sym, subst}
-use mathlib.Core.Bool.{Bool, true, false}
+use mathlib.Core.Bool.{Bool, true, false, not, _&&_}
 use mathlib.Core.List.{List}
 use native.Mathlib.Omega.{arith}
 use borrow.Author.Tests.{not-true}
@@ -108,9 +108,17 @@ module _ (s : List ℕ) (i : ℕ) (h : i < length s) (e : isSimple (getD s i 0) 
   unfolding noncharacter literal
   inside d = second _ _ (then-not _ _ (differs 0xEF d)) (then-not _ _ (differs 0xEF d))
 
+  pub not-quote : Reads 1 (byte 34) s i Bad
+  not-quote =
+      let (m, n) = both-true (isPlain (getD s i 0) && not (eqb (getD s i 0) 34)) (not (eqb (getD s i 0) 0xEF)) e in
+      let (p, q) = both-true (isPlain (getD s i 0)) (not (eqb (getD s i 0) 34)) m in
+      differs 34 (not-true _ q)
+
+  pub simple-char : CharBy char s i (Is (getD s i 0) (i + 1))
+  simple-char =
+      let (m, n) = both-true (isPlain (getD s i 0) && not (eqb (getD s i 0) 34)) (not (eqb (getD s i 0) 0xEF)) e in
+      let (p, q) = both-true (isPlain (getD s i 0)) (not (eqb (getD s i 0) 34)) m in
+      char-inside (inside (not-true _ n)) (char-first _ _ (char-one isPlain s i h p))
+
   pub on-simple : {at : ℕ} → TextOn s at i → TextOn s at (i + 1)
-  on-simple a =
-      let (m, n) = both-true _ _ e in
-      let (p, q) = both-true _ _ m in
-      on-more a (on-none s i (omega arith)) (differs 34 (not-true _ q))
-      (char-good (char-inside (inside (not-true _ n)) (char-first _ _ (char-one isPlain s i h p))))
+  on-simple a = on-more a (on-none s i (omega arith)) not-quote (char-good simple-char)

@@ -102,7 +102,7 @@ pub fn read_char(s: &[u8], at: usize) -> Char
 }
 
 // Whether a byte is a character by itself, whatever follows it, and is not the quote. Most are letters and digits.
-fn is_simple(c: u8) -> bool
+pub fn is_simple(c: u8) -> bool
     ensures { λ r. ⌜ r ≡ isSimple c ⌝ }
 {
     if b'<' < c {
