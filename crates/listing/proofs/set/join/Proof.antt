@@ -13,8 +13,7 @@ add-count c = search needs
 
 returns-2 : tie.Need-returns-2
 returns-2 c =
-    let at-if1 = c .before .before .before .before in
-    let start = at-if1 .before .before in
+    let at-if1 = c .before .before .before .before in let start = at-if1 .before .before in
     (many-formed _ (start .pre .0), join-many (start .args .op) (start .args .a) (start .args .b) (at-if1 .if1 .left) (c .if2 .taken) _ _)
 
 combine-requires : tie.Need-combine-requires
@@ -22,10 +21,11 @@ combine-requires c κs = search needs
 
 returns-3 : tie.Need-returns-3
 returns-3 c =
-    let at-if2 = c .before .before in
-    let at-if1 = at-if2 .before .before .before .before in
-    let start = at-if1 .before .before in
-    (join-formed _ (start .pre .0) (start .pre .1) (omega (arith, at-if2 .if2 .left)) (c .combine .ensures), join-set (start .args .op) (start .args .a) (start .args .b) (at-if1 .if1 .left) (omega (arith, at-if2 .if2 .left)) _ (c .combine .ensures))
+    let at-if2 = c .before .before in let at-if1 = at-if2 .before .before .before .before in let start = at-if1 .before .before in (
+      join-formed _ (start .pre .0) (start .pre .1) (omega (arith, at-if2 .if2 .left)) (c .combine .ensures),
+      join-set (start .args .op) (start .args .a) (start .args .b) (at-if1 .if1 .left)
+          (omega (arith, at-if2 .if2 .left)) _ (c .combine .ensures),
+    )
 
 pub join-spec : {M : Type 1} → statement M
 join-spec = tie.close (tie.spec returns add-count returns-2 combine-requires returns-3)
