@@ -5,7 +5,7 @@ use mathlib.Core.Bool.{true, false}
 use mathlib.Core.List.{List}
 use mathlib.Core.Option.{Option, none, some}
 use lib.ListN.{length, drop}
-use Rattle.rules.specs.Refusal.{Refusal, Outcome, answered, refused, both, _andThen_}
+use Rattle.rules.specs.Refusal.{Refusal, Outcome, answered, refused, _andThen_}
 use Rattle.rules.specs.Markup.{Attribute, Element}
 use Rattle.rules.specs.Types.{IVL-TS, hasType}
 use Rattle.rules.specs.Sets.{Place, Op as PageOp, Interval as PageInterval, Expression, interval, combine, meant, intervals, isIn}
@@ -60,22 +60,21 @@ pub data Says : Outcome Expression → Evaluated → Type 0 where
 
 -- the set of the members so far: there is none yet, or it is x
 pub data SoFar : Option Expression → Evaluated → Type 0 where
-  none-yet : {r : Evaluated} → r .count ≡ 0 → SoFar none r
+  none-yet : {r : Evaluated} → r .known ≡ false → r .count ≡ 0 → SoFar none r
   so-far : {x : Expression} {r : Evaluated} → IsSet x r → SoFar (some x) r
 
 -- it, put together with the next set
-abbrev pub put : PageOp → Option Expression → Outcome Expression → Outcome Expression
-put op none next = next
-put op (some x) next = both (combine op) (answered x) next
+abbrev pub put : PageOp → Option Expression → Expression → Expression
+put op none y = y
+put op (some x) y = combine op x y
 
 -- the set of an interval
 abbrev pub expressed : Outcome PageInterval → Outcome Expression
 expressed o = o andThen λ i. answered (interval i)
 
--- the answer on the element of a tag, put together with a set; and on the members in it
-abbrev pub SaysElement : List ℕ → Tag → (depth shift : ℕ) → Op → Evaluated → Evaluated → Type 0
-SaysElement s t depth shift op a r = (x : Option Expression) → SoFar x a → (v : Element) (after : List ℕ) → TagOf s depth v after t
-    → Says (put (opOf op) x (setOf shift v)) r × (r .known ≡ true → after ≡ drop (r .end) s)
+-- the answer on the element of a tag; and on the members in it
+abbrev pub SaysElement : List ℕ → Tag → (depth shift : ℕ) → Evaluated → Type 0
+SaysElement s t depth shift r = (v : Element) (after : List ℕ) → TagOf s depth v after t → Says (setOf shift v) r × (r .known ≡ true → after ≡ drop (r .end) s)
 
 abbrev pub SaysMembers : List ℕ → Tag → (depth shift : ℕ) → Op → Evaluated → Type 0
 SaysMembers s t depth shift op r = (v : Element) (after : List ℕ) → TagOf s depth v after t

@@ -5,14 +5,12 @@ ghost use mathlib.Core.List.{List};
 ghost use mathlib.Core.Option.{Option, none};
 ghost use Prim.Native.Nat.{ℕ, _≤_};
 ghost use lib.ListN.{length};
-ghost use Rattle.rules.specs.Refusal.{Outcome, answered};
 ghost use Rattle.rules.specs.Markup.{Element};
 ghost use Rattle.rules.specs.Sets.{Expression, interval};
-ghost use Rattle.rules.specs.Listing.{setOf};
-ghost use Rattle.interval.specs.Meaning.{Ticked, intervalOf, opOf};
+ghost use Rattle.interval.specs.Meaning.{Ticked, opOf};
 ghost use Rattle.element.specs.Tags.{TagOf, TagIn};
 ghost use Rattle.listing.specs.Bounds.{writtenMeant};
-ghost use Rattle.listing.specs.Sets.{shapeOf, WritesAs, Formed, Says, SoFar, put, expressed, SaysElement, SaysMembers};
+ghost use Rattle.listing.specs.Sets.{shapeOf, WritesAs, Formed, IsSet, Says, SoFar, put, expressed, SaysElement, SaysMembers};
 use crate::bound::Written;
 use crate::bound::interval_of;
 use datatype::kind::Kind;
@@ -37,7 +35,7 @@ pub enum Shape {
 }
 
 // A set of times: whether all of it is known, how many intervals are written in it, 33 for more than 32, and, up to 32, its stretches; and,
-// if it is known, the position past the element that writes it. No interval is written in the set of no members.
+// if it is known, the position past the element that writes it.
 pub struct Evaluated {
     pub known: bool,
     pub count: usize,
@@ -70,30 +68,31 @@ pub fn shape_of(s: &[u8], tag: Tag) -> Shape
     shape_of_kind(kind)
 }
 
-// A set that is not known, whatever was.
-fn unknown(a: Evaluated, end: usize) -> Evaluated
-    requires { ⌜ Formed a ⌝ }
-    ensures { λ r. ⌜ Formed r × (r .known ≡ false) × (r .end ≡ end) ⌝ }
+// The set of no members, which is not known.
+fn nothing(end: usize) -> Evaluated
+    ensures { λ r. ⌜ Formed r × (r .known ≡ false) × (r .count ≡ 0) × (r .end ≡ end) ⌝ }
 {
-    let set = a.set;
+    let set = interval::empty();
     Evaluated {
         known: false,
-        count: a.count,
+        count: 0,
         set,
         end,
     }
 }
 
-// The set of no members.
-fn no_members() -> Evaluated
-    ensures { λ r. ⌜ Formed r × SoFar none r ⌝ }
+// The set of the one interval that an element writes.
+fn of_single(w: Written) -> Evaluated
+    requires { ⌜ Ticked (w .interval .low) ⌝ ∗ ⌜ Ticked (w .interval .high) ⌝ }
+    ensures { λ r. ⌜ Formed r × Says (expressed (writtenMeant w)) r × (r .end ≡ w .end) ⌝ }
 {
-    let set = interval::empty();
+    let v = w.interval;
+    let set = interval::single(v);
     Evaluated {
-        known: true,
-        count: 0,
+        known: w.known,
+        count: 1,
         set,
-        end: 0,
+        end: w.end,
     }
 }
 
@@ -102,10 +101,9 @@ fn no_members() -> Evaluated
 fn join(op: Op, a: Evaluated, b: Evaluated) -> Evaluated
     requires { ⌜ Formed a ⌝ ∗ ⌜ Formed b ⌝ }
     ensures formed { λ r. ⌜ Formed r ⌝ }
-    ensures ends { λ r. ⌜ (r .known ≡ b .known) × (r .end ≡ b .end) ⌝ }
-    ensures tells { λ r. ⌜ ((x : Option Expression) (o : Outcome Expression) → SoFar x a → Says o b → Says (put (opOf op) x o) r) ⌝ }
+    ensures tells { λ r. ⌜ ((x : Option Expression) (y : Expression) → SoFar x a → IsSet y b → IsSet (put (opOf op) x y) r) ⌝ }
 {
-    if (a.count == 0) | !b.known {
+    if a.count == 0 {
         return b;
     }
     let first = a.set;
@@ -128,105 +126,49 @@ fn join(op: Op, a: Evaluated, b: Evaluated) -> Evaluated
     }
 }
 
-// A set put together with the next interval. The union takes it as it is.
-fn with_interval(op: Op, a: Evaluated, v: Interval, end: usize) -> Evaluated
-    requires { ⌜ Formed a ⌝ ∗ ⌜ Ticked (v .low) ⌝ ∗ ⌜ Ticked (v .high) ⌝ }
-    ensures formed { λ r. ⌜ Formed r ⌝ }
-    ensures ends { λ r. ⌜ (r .known ≡ true) × (r .end ≡ end) ⌝ }
-    ensures tells { λ r. ⌜ ((x : Option Expression) → SoFar x a → Says (put (opOf op) x (answered (interval (intervalOf v)))) r) ⌝ }
-{
-    if let Op::Union = op {
-        if a.count < 32 {
-            let so_far = a.set;
-            let set = interval::with_interval(so_far, v);
-            return Evaluated {
-                known: true,
-                count: a.count + 1,
-                set,
-                end,
-            };
-        }
-    }
-    let set = interval::single(v);
-    let one = Evaluated {
-        known: true,
-        count: 1,
-        set,
-        end,
-    };
-    join(op, a, one)
-}
-
-// A set put together with the one interval that an element writes.
-fn with_single(op: Op, a: Evaluated, w: Written) -> Evaluated
-    requires { ⌜ Formed a ⌝ ∗ ⌜ Ticked (w .interval .low) ⌝ ∗ ⌜ Ticked (w .interval .high) ⌝ }
-    ensures formed { λ r. ⌜ Formed r ⌝ }
-    ensures ends { λ r. ⌜ r .end ≡ w .end ⌝ }
-    ensures tells { λ r. ⌜ ((x : Option Expression) → SoFar x a → Says (put (opOf op) x (expressed (writtenMeant w))) r) ⌝ }
-{
-    if !w.known {
-        return unknown(a, w.end);
-    }
-    let v = w.interval;
-    with_interval(op, a, v, w.end)
-}
-
-// A set put together with the set that the element of a tag writes, where `depth` may be open at once. It calls the reader of members, which
-// calls it, with `depth` falling.
-fn with_element(s: &[u8], tag: Tag, depth: usize, shift: u64, op: Op, a: Evaluated) -> Evaluated
-    requires { ⌜ TagIn (now s) tag ⌝ ∗ ⌜ shift ≤ 1680 ⌝ ∗ ⌜ Formed a ⌝ }
+// The set that the element of a tag writes, where `depth` may be open at once. It calls the reader of members, which calls it, with `depth`
+// falling.
+pub fn evaluate(s: &[u8], tag: Tag, depth: usize, shift: u64) -> Evaluated
+    requires { ⌜ TagIn (now s) tag ⌝ ∗ ⌜ shift ≤ 1680 ⌝ }
     ensures formed { λ r. ⌜ Formed r ⌝ }
     ensures within { λ r. ⌜ (tag .end ≤ r .end) × (r .end ≤ length (now (s .entry))) ⌝ }
-    ensures tells { λ r. ⌜ SaysElement (now (s .entry)) tag depth shift op a r ⌝ }
+    ensures tells { λ r. ⌜ SaysElement (now (s .entry)) tag depth shift r ⌝ }
 {
     if tag::has(tag, NULL_FLAVOR) {
-        return unknown(a, tag.end);
+        return nothing(tag.end);
     }
     let shape = shape_of(s, tag);
     match shape {
-        Shape::Single => with_single(op, a, interval_of(s, tag, depth, shift)),
-        Shape::Members(inner) => join(op, a, set_of_members(s, tag, depth, shift, inner)),
-        Shape::Other => unknown(a, tag.end),
+        Shape::Single => of_single(interval_of(s, tag, depth, shift)),
+        Shape::Members(op) => evaluate_members(s, tag, depth, shift, op),
+        Shape::Other => nothing(tag.end),
     }
 }
 
 // The set that the members in the element of a tag write, put together from the first on. The first that is not known ends it.
-fn set_of_members(s: &[u8], tag: Tag, depth: usize, shift: u64, op: Op) -> Evaluated
+fn evaluate_members(s: &[u8], tag: Tag, depth: usize, shift: u64, op: Op) -> Evaluated
     requires { ⌜ TagIn (now s) tag ⌝ ∗ ⌜ shift ≤ 1680 ⌝ }
     ensures formed { λ r. ⌜ Formed r ⌝ }
     ensures within { λ r. ⌜ (tag .end ≤ r .end) × (r .end ≤ length (now (s .entry))) ⌝ }
     ensures tells { λ r. ⌜ SaysMembers (now (s .entry)) tag depth shift op r ⌝ }
 {
-    let mut so_far = no_members();
+    let mut so_far = nothing(tag.end);
     let mut at = tag.end;
     if !(tag.full & (depth != 0)) {
-        return unknown(so_far, at);
+        return so_far;
     }
     loop {
         let i = skip_space(s, at);
         if !is_child(s, i) {
-            let end = past_end_tag(s, i, tag);
-            if so_far.count == 0 {
-                return unknown(so_far, end);
-            }
-            so_far.end = end;
+            so_far.end = past_end_tag(s, i, tag);
             return so_far;
         }
         let child = tag::read(s, i);
-        so_far = with_element(s, child, depth - 1, shift, op, so_far);
-        if !so_far.known {
-            return so_far;
+        let member = evaluate(s, child, depth - 1, shift);
+        if !member.known {
+            return member;
         }
-        at = so_far.end;
+        so_far = join(op, so_far, member);
+        at = member.end;
     }
-}
-
-// The set that the element of a tag writes, where `depth` may be open at once.
-pub fn evaluate(s: &[u8], tag: Tag, depth: usize, shift: u64) -> Evaluated
-    requires { ⌜ TagIn (now s) tag ⌝ ∗ ⌜ shift ≤ 1680 ⌝ }
-    ensures formed { λ r. ⌜ Formed r ⌝ }
-    ensures tells { λ r. ⌜ ((v : Element) (after : List ℕ) → TagOf (now (s .entry)) depth v after tag → Says (setOf shift v) r) ⌝ }
-{
-    let none = no_members();
-    with_element(s, tag, depth, shift, Op::Union, none)
 }

@@ -18,7 +18,7 @@ returns c =
       refl,
       (
         λ e d f l.
-            answers-unknown (start .args .shift) e (start .args .out .now) f l (at-evaluate .evaluate .ensures .1 e _ (d .tag)) (not-true _ (c .if1 .taken)),
+            answers-unknown (start .args .shift) e (start .args .out .now) f l (at-evaluate .evaluate .ensures .1 .1 e _ (d .tag) .0) (not-true _ (c .if1 .taken)),
         tt,
       ),
     )
@@ -29,7 +29,7 @@ returns-2 c =
       refl,
       (
         λ e d f l.
-            answers-many (start .args .shift) e (start .args .out .now) f l (at-evaluate .evaluate .ensures .1 e _ (d .tag)) (not-false _ (at-if1 .if1 .left)) (c .if2 .taken),
+            answers-many (start .args .shift) e (start .args .out .now) f l (at-evaluate .evaluate .ensures .1 .1 e _ (d .tag) .0) (not-false _ (at-if1 .if1 .left)) (c .if2 .taken),
         tt,
       ),
     )
@@ -40,7 +40,7 @@ returns-3 c =
     let g : length (at-evaluate .evaluate .result .set .items) ≡ 32 = search (length-mapped, at-evaluate .evaluate .ok .1 .1 .1 .1 .0) in (
       refl,
       (
-        λ e d f l. answers-no-room (start .args .shift) e (start .args .out .now) f l (at-evaluate .evaluate .ensures .1 e _ (d .tag)) (not-false _ (at-if1 .if1 .left))
+        λ e d f l. answers-no-room (start .args .shift) e (start .args .out .now) f l (at-evaluate .evaluate .ensures .1 .1 e _ (d .tag) .0) (not-false _ (at-if1 .if1 .left))
             (at-evaluate .evaluate .ensures .0) (omega (arith, at-if2 .if2 .left)) g (c .if3 .taken),
         tt,
       ),
@@ -59,7 +59,7 @@ returns-4 c =
     let g : length (at-evaluate .evaluate .result .set .items) ≡ 32 = search (length-mapped, at-evaluate .evaluate .ok .1 .1 .1 .1 .0) in (
       tt,
       (
-        λ e d f l. answers-count (start .args .shift) e (start .args .out .now) f l (at-evaluate .evaluate .ensures .1 e _ (d .tag)) (not-false _ (at-if1 .if1 .left))
+        λ e d f l. answers-count (start .args .shift) e (start .args .out .now) f l (at-evaluate .evaluate .ensures .1 .1 e _ (d .tag) .0) (not-false _ (at-if1 .if1 .left))
             (at-evaluate .evaluate .ensures .0) (omega (arith, at-if2 .if2 .left)) g (omega (arith, at-if3 .if3 .left)) (at-write-list .write-list .ensures),
         omega (
           arith,

@@ -49,36 +49,10 @@ abbrev is-meant-at-below : ℕ → In 1 is-meant-at-kinds.ps
 is-meant-at-below t = and 1 is-meant-at-kinds.ps (falls 1 is-meant-at-kinds.ps _<_ μ-is-meant-at t) is-meant-at.Pre
 
 abbrev in-members-claims : ℕ → in-members-lts.Claims
-in-members-claims t = (
-  in-none-reads.Asked,
-  in-none-reads.Learnt,
-  skip-space-reads.Asked,
-  skip-space-reads.Learnt,
-  is-child-reads.Asked,
-  is-child-reads.Learnt,
-  past-end-tag-reads.Asked,
-  past-end-tag-reads.Learnt,
-  read-reads.Asked,
-  read-reads.Learnt,
-  is-meant-at-below t,
-  is-meant-at.Post,
-  in-both-reads.Asked,
-  in-both-reads.Learnt,
-)
+in-members-claims t = (in-none-reads.Asked, in-none-reads.Learnt, skip-space-reads.Asked, skip-space-reads.Learnt, is-child-reads.Asked, is-child-reads.Learnt, past-end-tag-reads.Asked, past-end-tag-reads.Learnt, read-reads.Asked, read-reads.Learnt, is-meant-at-below t, is-meant-at.Post, in-both-reads.Asked, in-both-reads.Learnt)
 
 abbrev is-meant-at-claims : ℕ → is-meant-at-lts.Claims
-is-meant-at-claims t = (
-  shape-of-reads.Asked,
-  shape-of-reads.Learnt,
-  interval-of-reads.Asked,
-  interval-of-reads.Learnt,
-  is-in-reads.Asked,
-  is-in-reads.Learnt,
-  in-members-below t,
-  in-members.Post,
-  past-element-reads.Asked,
-  past-element-reads.Learnt,
-)
+is-meant-at-claims t = (shape-of-reads.Asked, shape-of-reads.Learnt, interval-of-reads.Asked, interval-of-reads.Learnt, is-in-reads.Asked, is-in-reads.Learnt, in-members-below t, in-members.Post, past-element-reads.Asked, past-element-reads.Learnt)
 
 abbrev in-members-Inv-loop : in-members-lts.InvT-loop
 in-members-Inv-loop s tag depth shift op n gap so-far₀ any₀ at₀ so-far any at = Begun op any so-far × Walked s tag depth at (Placing shift op (placeOf n gap) any so-far)
