@@ -1,6 +1,5 @@
 pub mod Naming
 pub mod Standings
-pub mod Kids
 pub mod Sayings
 pub mod Walks
 pub mod Finding

@@ -1,6 +1,5 @@
 pub mod Meaning
 pub mod Tables
-pub mod Children
 pub mod Bounds
 pub mod Said
 pub mod Records

@@ -4,15 +4,12 @@ ghost use mathlib.Core.List.{List};
 ghost use Prim.Native.Nat.{ℕ, _≤_};
 ghost use lib.ListN.{length, drop};
 ghost use Rattle.rules.specs.Parsers.{ok};
-ghost use Rattle.rules.specs.Markup.{Attribute, Element, value, lookup};
+ghost use Rattle.rules.specs.Markup.{Attribute, value, lookup};
 ghost use Rattle.rules.specs.Types.{memberTypes, allTypes, typeAmong};
 ghost use Rattle.element.specs.Names.{nameAt};
-ghost use Rattle.element.specs.Places.{ElementAt};
 ghost use Rattle.element.specs.Tags.{Place};
 ghost use Rattle.datatype.specs.Meaning.{typeMeant, namedAmong, typesFor};
-use element::find;
 use element::value::is;
-use markup::tag::Found;
 
 // The nine types, and the two kinds of element inside them that have no type.
 pub enum Kind {
@@ -76,22 +73,6 @@ fn named_type(s: &[u8], at: usize) -> Named
         return Named::Is(Kind::En);
     }
     named_member(s, at)
-}
-
-// The type that the element at a position names: one that a record may have, or one that a member of a set may have.
-pub fn type_of(s: &[u8], at: usize, top: bool) -> Named
-    requires { ⌜ at ≤ length (now s) ⌝ }
-    ensures { λ r. ⌜ ((d : ℕ) (v : Element) → ElementAt (now (s .entry)) at d v → typeMeant r ≡ typeAmong (typesFor top) (v .attrs)) ⌝ }
-{
-    let found = find(s, at, b"xsi:type");
-    let Found::Quoted(q, _) = found else {
-        return Named::Nothing;
-    };
-    if top {
-        named_type(s, q)
-    } else {
-        named_member(s, q)
-    }
 }
 
 // The type that an element names whose `xsi:type` has its value at a place: one that a record may have, or one that a member of a set may have.

@@ -4,7 +4,6 @@ pub mod bounds;
 pub mod columns;
 pub mod kind;
 pub mod places;
-pub mod reading;
 pub mod record;
 pub mod rows;
 pub mod said;

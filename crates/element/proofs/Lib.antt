@@ -1,8 +1,5 @@
-pub mod Within
-pub mod Siblings
-pub mod Turns
+pub mod Documents
 pub mod Decoded
-pub mod Ends
 pub mod Asked
 pub mod Numbers
 pub mod Placing

@@ -105,12 +105,15 @@ module _ {s : List ℕ} {at n m : ℕ} (h : HeadTo s at n m) (c : Carried) (t : 
           })))
 
   pub tag-in : TagIn s t × (at < length s → at < t .end)
-  tag-in = (record {
-    placed = λ k. subst (λ (p : List ℕ). getD p k 0 ≤ length s - 1) (sym (closed .places)) (i .placed k);
-    name = omega (arith, closed .name-is, closed .past-is, h .named .low);
-    past = omega (arith, closed .past-is, h .named .high);
-    end = closed .high;
-  }, λ l. omega (arith, h .less .low, h .named .low, i .low, closed .low))
+  tag-in = (
+    record {
+      placed = λ k. subst (λ (p : List ℕ). getD p k 0 ≤ length s - 1) (sym (closed .places)) (i .placed k);
+      name = omega (arith, closed .name-is, closed .past-is, h .named .low);
+      past = omega (arith, closed .past-is, h .named .high);
+      end = closed .high;
+    },
+    λ l. omega (arith, h .less .low, h .named .low, i .low, closed .low),
+  )
 
 -- there is none
 pub no-tag : {P : Type 0} {s : List ℕ} {at depth : ℕ} {v : Element} {after : List ℕ} → ((f d : ℕ) → element f d (drop at s) ≡ bad) → ElementTo s at depth v after → P

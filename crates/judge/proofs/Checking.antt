@@ -17,7 +17,6 @@ use Rattle.rules.proofs.Tests.{clash}
 use Rattle.refusal.specs.Meaning.{faultOf}
 use Rattle.refusal.specs.declared.Refusal.the-variants.{«Type», TooLong, NotUtf8, Markup}
 use Rattle.element.specs.Names.{nameAt}
-use Rattle.element.specs.Places.{ElementAt}
 use Rattle.element.specs.Tags.{ElementTo, Place, TagOf, TagIn}
 use Rattle.element.specs.declared.tag.Tag.{Tag}
 use Rattle.element.proofs.Placing.{noPlaces, none-there}
@@ -35,11 +34,11 @@ use Rattle.judge.proofs.Inputs.{input-long, input-not-utf8, input-no-do
 pub no-tag : (s : List ℕ) → TagIn s (record { places = noPlaces; others = 0; spaces = 0; name = 0; past = 0; end = 0; full = false })
 no-tag s = record { placed = λ k. rw (none-there k) (omega arith); name = omega arith; past = omega arith; end = omega arith }
 
-module _ {s : List ℕ} {at : ℕ} (shift : ℕ) (t : Tag) (root : (v : Element) → document s ≡ some v → ElementAt s at 8 v)
+module _ {s : List ℕ} {at : ℕ} (shift : ℕ) (t : Tag) (root : (v : Element) → document s ≡ some v → (after : List ℕ) × ElementTo s at 8 v after)
     (tag : (depth : ℕ) (v : Element) (after : List ℕ) → ElementTo s at depth v after → TagOf s depth v after t)
     (n : Named) (named : (l : List Attribute) → Place s (lookup (nameAt 2) l) (getD (t .places) 2 0) → typeMeant n ≡ typeAmong allTypes l) where
   rooted : (v : Element) → document s ≡ some v → (after : List ℕ) × TagOf s 8 v after t
-  rooted v d = let x = root v d in (x .after, tag 8 v (x .after) (record { fuel = x .fuel; enough = x .enough; reads = x .reads }))
+  rooted v d = let (after, x) = root v d in (after, tag 8 v after x)
 
   typed : (v : Element) → document s ≡ some v → typeMeant n ≡ typeAmong allTypes (v .attrs)
   typed v d = named (v .attrs) (rooted v d .1 .tells .placed 2 (omega arith))

@@ -6,25 +6,18 @@ use mathlib.Core.List.{List, [], _∷_, _++_, flatMap}
 use mathlib.Core.Option.{Option, some}
 use Rattle.rules.specs.Basics.{ifSome, exists, same, isFrom}
 use Rattle.rules.specs.Refusal.{Refusal, SHAPE, RULE, earlier, firstOf, _when_}
-use Rattle.rules.specs.Markup.{Nodes, end, node, Element}
+use Rattle.rules.specs.Markup.{Nodes, node, Element}
 use Rattle.rules.specs.Types.{Kind, Child, lineOf}
 use Rattle.rules.specs.Judge.{Standing, attributeFaults, lacks, breaksNull, elementFaults, kindOf, standingOf, childFaults}
 use Rattle.rules.specs.Invariants.{isNull}
 use Rattle.rules.proofs.Precedence.{firstOf-append, earlier-assoc, earlier-comm}
-use Rattle.element.specs.Places.{ElementAt, NodesAt, Steps}
-use Rattle.element.specs.declared.Step.{Step as Stepped}
-use Rattle.element.specs.declared.Step.the-variants.{One, End}
 use Rattle.datatype.specs.Tables.{Step, stepAmong}
-use Rattle.datatype.proofs.Kids.{steps-none, steps-some}
-use Rattle.judge.specs.Faults.{ownFaults, judged, childJudged, ChildFaultsFrom}
+use Rattle.judge.specs.Faults.{ownFaults, judged, childJudged}
 use Rattle.judge.proofs.AttributeFaults.{picked}
 
 -- a refusal that is given exactly if something is so
 pub when-so : (r : Refusal) {o : Option Refusal} {a b : Bool} → o ≡ firstOf (r when a) → a ≡ b → o ≡ firstOf (r when b)
 when-so r e f = e ∙ ap (λ (x : Bool). firstOf (r when x)) f
-
-pub or-both : {a b c d : Bool} → a ≡ c → b ≡ d → (a || b) ≡ (c || d)
-or-both e f = rw (e, f)
 
 -- the first of an element's own faults, from the first of each kind of them
 pub own-first : (shift : ℕ) (p : Standing) (k : Kind) (v : Element) {x y z : Option Refusal} → x ≡ firstOf (flatMap (attributeFaults shift p k) (v .attrs))
@@ -51,14 +44,6 @@ own-and-children shift p k v e f =
     (RULE when (lineOf k .invariant shift (v .attrs) (v .kids) || breaksNull k (v .attrs) (v .kids)))
     (childFaults shift k (isNull (v .attrs)) 0 (v .kids)))
 
--- what an element's children give, from what is known of them and of the element
-module _ (shift : ℕ) (k : Kind) {m n : Bool} {o : Option Refusal} (e : m ≡ n) where
-  pub no-children : {l : Nodes} → l ≡ end → o ≡ firstOf (childFaults shift k m 0 end) → o ≡ firstOf (childFaults shift k n 0 l)
-  no-children z h = rw (z, ← e) h
-
-  pub some-children : (l : Nodes) → o ≡ firstOf (childFaults shift k m 0 l) → o ≡ firstOf (childFaults shift k n 0 l)
-  some-children l h = rw (← e) h
-
 -- a child's faults and those of the children after it
 pub child-and-rest : (shift : ℕ) (k : Kind) (null : Bool) (stage : ℕ) (v : Element) (j : Nodes)
     → firstOf (childFaults shift k null stage (node (v .name) (v .attrs) (v .kids) j))
@@ -77,18 +62,3 @@ child-and-rest shift k null stage v j =
 
     step : Child → Step
     step c = record { kind = c .kind; to = c .to }
-
-module _ (shift depth : ℕ) (k : Kind) (null : Bool) (stage : ℕ) {s : List ℕ} {at : ℕ} {r : Stepped}
-    (tells : (l : Nodes) → NodesAt s at depth l → Steps s depth l r) where
-  pub row-end : {o : Option Refusal} → r ≡ End → o ≡ firstOf (childFaults shift k null stage end) → ChildFaultsFrom s shift depth k null stage at o
-  row-end z h l x = rw (steps-none z (tells l x)) h
-
-  pub row-more : {c e : ℕ} (t : Option Step) {after : ℕ} {o rest : Option Refusal} → r ≡ One c e
-      → ((d : ℕ) (v : Element) → ElementAt s c d v → t ≡ stepAmong (lineOf k .children) stage (v .name))
-      → ((v : Element) → ElementAt s c depth v → o ≡ firstOf (childJudged shift t v))
-      → after ≡ ifSome t (λ t. t .to) stage
-      → ChildFaultsFrom s shift depth k null after e rest → ChildFaultsFrom s shift depth k null stage at (earlier o rest)
-  unfolding childFaults
-  row-more t z next here a further l x =
-      let (v, j, q, g, h) = steps-some z (tells l x) in
-      rw (q, child-and-rest shift k null stage v j, here v g, sym (next depth v g), sym a, further j h)

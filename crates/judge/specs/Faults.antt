@@ -1,32 +1,17 @@
--- The first fault of what stands from a position of a record on, in the words of the rules ("The refusal ladder").
+-- The faults of an element and of any bytes, put together, in the words of the rules ("The refusal ladder").
 use Prim.Native.Nat.{ℕ}
-use mathlib.Core.Path.{_≡_}
-use mathlib.Core.Bool.{Bool, not, _||_}
+use mathlib.Core.Bool.{not, _||_}
 use mathlib.Core.List.{List, [], _∷_, _++_, flatMap}
 use mathlib.Core.Option.{Option}
 use Rattle.rules.specs.Basics.{ifSome, exists}
-use Rattle.rules.specs.Refusal.{Refusal, TOO-LONG, NOT-UTF-8, SHAPE, RULE, firstOf, faultsIn, _when_}
-use Rattle.rules.specs.Markup.{Attribute, Nodes, Element}
+use Rattle.rules.specs.Refusal.{Refusal, TOO-LONG, NOT-UTF-8, SHAPE, RULE, faultsIn, _when_}
+use Rattle.rules.specs.Markup.{Element}
 use Rattle.rules.specs.Invariants.{isNull}
 use Rattle.rules.specs.Types.{Kind, lineOf}
-use Rattle.rules.specs.Judge.{Standing, attributeFaults, carries, lacks, breaksNull, elementFaults, kindOf, standingOf, childFaults, topFaults}
+use Rattle.rules.specs.Judge.{Standing, attributeFaults, lacks, breaksNull, elementFaults, kindOf, standingOf, childFaults, topFaults}
 use Rattle.rules.specs.Utf8.{isUtf8}
 use Rattle.rules.specs.Check.{isTooLong, elementOf}
-use Rattle.markup.specs.Attributes.{AttributesAt}
-use Rattle.element.specs.Places.{NodesAt}
 use Rattle.datatype.specs.Tables.{Step}
-
--- the first fault of the attributes of an element of a kind, from a position on
-abbrev pub AttributeFaultsFrom : List ℕ → (shift : ℕ) → Standing → Kind → (at : ℕ) → Option Refusal → Type 0
-AttributeFaultsFrom s shift p k at o = (l : List Attribute) → AttributesAt s at l → o ≡ firstOf (flatMap (attributeFaults shift p k) l)
-
--- whether one of the attributes from a position on is on the line of a kind
-abbrev pub OwnFrom : List ℕ → Kind → (at : ℕ) → Bool → Type 0
-OwnFrom s k at b = (l : List Attribute) → AttributesAt s at l → b ≡ exists (carries l) (lineOf k .columns)
-
--- the first fault of the children from a position on, of an element of a kind, where its row stands at a stage
-abbrev pub ChildFaultsFrom : List ℕ → (shift depth : ℕ) → Kind → (null : Bool) → (stage at : ℕ) → Option Refusal → Type 0
-ChildFaultsFrom s shift depth k null stage at o = (l : Nodes) → NodesAt s at depth l → o ≡ firstOf (childFaults shift k null stage l)
 
 -- the faults of an element of a kind, but for those of its children
 abbrev pub ownFaults : (shift : ℕ) → Standing → Kind → Element → List Refusal

@@ -2,8 +2,10 @@
 // in four digits, and a record. For each bound of its stretches it is printed whether the bound's tick and the gap after it are meant.
 ghost use Prim.Native.Nat.{_+_, _*_, _≤_};
 ghost use lib.ListN.{length};
+ghost use Rattle.element.specs.Tags.{TagIn};
 use crate::put;
 use crate::put_answer;
+use datatype::record::Record;
 use listing::Listed;
 use text::digits::Number;
 use timestamp::tick::Tick;
@@ -29,26 +31,27 @@ fn number_at(list: &[u8], at: usize) -> u64
 }
 
 // Prints whether a tick and the gap after it are meant.
-fn put_place(record: &[u8], shift: u64, n: u64)
-    requires { ⌜ shift ≤ 1680 ⌝ }
+fn put_place(s: &[u8], held: Record, shift: u64, n: u64)
+    requires { ⌜ TagIn (now s) (held .tag) ⌝ ∗ ⌜ shift ≤ 1680 ⌝ }
 {
     put(b" ");
     if n < MOST {
-        put_answer(listing::is_meant(record, shift, n, false));
-        put_answer(listing::is_meant(record, shift, n, true));
+        put_answer(listing::is_meant(s, held, shift, n, false));
+        put_answer(listing::is_meant(s, held, shift, n, true));
     }
 }
 
 // Prints what is meant at the first bounds of a list.
-fn put_places(record: &[u8], shift: u64, list: &[u8], bounds: usize)
-    requires { ⌜ shift ≤ 1680 ⌝ ∗ ⌜ 16 * bounds ≤ length (now list) ⌝ }
+fn put_places(s: &[u8], held: Record, shift: u64, list: &[u8], bounds: usize)
+    requires { ⌜ TagIn (now s) (held .tag) ⌝ ∗ ⌜ shift ≤ 1680 ⌝ ∗ ⌜ 16 * bounds ≤ length (now list) ⌝ }
 {
     let mut k = 0;
     while k < bounds {
         if number_at(list, 16 * k) != 0 {
             let tick = number_at(list, 16 * k + 8);
             put_place(
-                record,
+                s,
+                held,
                 shift,
                 std::num::wrapping_add_u64(tick, Tick::ORIGIN.0),
             );
@@ -58,17 +61,19 @@ fn put_places(record: &[u8], shift: u64, list: &[u8], bounds: usize)
 }
 
 // Prints the count of stretches of a record and what is meant at their bounds, if it is listed.
-fn put_record(record: &[u8], shift: u64)
+fn put_record(s: &[u8], shift: u64)
     requires { ⌜ shift ≤ 1680 ⌝ }
 {
+    let checked = judge::check(s, shift);
+    let held = checked.record;
     let mut list = io::buffer();
-    let answer = listing::list(record, shift, &mut list);
+    let answer = listing::list(s, held, shift, &mut list);
     let Listed::Count(n) = answer else {
         return;
     };
     if n <= 32 {
         io::print_decimal(1, n as u64);
-        put_places(record, shift, &list, 2 * n);
+        put_places(s, held, shift, &list, 2 * n);
     }
 }
 

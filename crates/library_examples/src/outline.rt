@@ -1,10 +1,16 @@
-// The outline of documents, by the second pass over markup: a line for each element, indented by its level, with its attributes and their decoded values.
+// The outline of documents, by their start tags: a line for each element, indented by its level, with its attributes and their decoded values.
 ghost use Prim.Native.Nat.{_≤_};
 ghost use lib.ListN.{length};
+ghost use Rattle.element.specs.Tags.{TagIn};
 use crate::put;
-use element::Step;
-use element::attribute::Turn;
-use markup::tag::Head;
+use element::row::is_child;
+use element::row::past_element;
+use element::tag::Tag;
+use element::tag::read;
+use markup::scan::read_some_space;
+use markup::scan::skip_space;
+use markup::tag::Parts;
+use markup::tag::read_attribute;
 use markup::value::Char;
 use text::Read;
 
@@ -34,20 +40,22 @@ fn write_value(s: &[u8], at: usize)
     }
 }
 
-// The attributes of the element at a position.
+// The attributes that stand from a position on.
 fn write_attributes(s: &[u8], at: usize)
     requires { ⌜ at ≤ length (now s) ⌝ }
 {
-    let start = element::attributes(s, at);
-    let mut i = start;
+    let mut i = at;
     loop {
-        let first = element::attribute::next(s, i);
-        let Turn::One {
-            name,
+        let gap = read_some_space(s, i);
+        let Read::At(name) = gap else {
+            return;
+        };
+        let parts = read_attribute(s, name);
+        let Parts::Attribute {
             name_end,
             value,
             end,
-        } = first
+        } = parts
         else {
             return;
         };
@@ -59,53 +67,52 @@ fn write_attributes(s: &[u8], at: usize)
     }
 }
 
-// The name of the element at a position.
-fn write_name(s: &[u8], at: usize)
-    requires { ⌜ at ≤ length (now s) ⌝ }
+// The line of the element of a tag.
+fn write_element(s: &[u8], tag: Tag, levels: usize)
+    requires { ⌜ TagIn (now s) tag ⌝ }
 {
-    let head = markup::tag::read_head(s, at);
-    if let Head::Named { name, name_end } = head {
-        put(&s[name..name_end]);
-    }
-}
-
-// The lines of the element at a position and of those inside it, where `depth` may be open at once.
-fn outline(s: &[u8], at: usize, depth: usize)
-    requires { ⌜ at ≤ length (now s) ⌝ ∗ ⌜ depth ≤ 8 ⌝ }
-{
-    write_indent(8 - depth);
-    write_name(s, at);
-    write_attributes(s, at);
+    write_indent(levels);
+    let name = tag.name;
+    let past = tag.past;
+    put(&s[name..past]);
+    write_attributes(s, past);
     put(b"\n");
-    let inside = element::children(s, at);
-    let Read::At(i) = inside else {
-        return;
-    };
-    if 0 < depth {
-        outline_all(s, i, depth - 1);
+}
+
+// The lines of the element of a tag and of those inside it, where `depth` may be open at once.
+fn outline(s: &[u8], tag: Tag, depth: usize)
+    requires { ⌜ TagIn (now s) tag ⌝ ∗ ⌜ depth ≤ 8 ⌝ }
+{
+    write_element(s, tag, 8 - depth);
+    if tag.full {
+        if 0 < depth {
+            outline_all(s, tag.end, depth - 1);
+        }
     }
 }
 
-// The lines of elements side by side.
+// The lines of the elements side by side that stand from a position on.
 fn outline_all(s: &[u8], at: usize, depth: usize)
     requires { ⌜ at ≤ length (now s) ⌝ ∗ ⌜ depth ≤ 8 ⌝ }
 {
     let mut i = at;
     loop {
-        let first = element::next_element(s, i, depth);
-        let Step::One(j, e) = first else {
+        let j = skip_space(s, i);
+        if !is_child(s, j) {
             return;
-        };
-        outline(s, j, depth);
-        i = e;
+        }
+        let tag = read(s, j);
+        outline(s, tag, depth);
+        i = past_element(s, tag, depth);
     }
 }
 
 // The outline of a text, if it is a document.
 fn show(s: &[u8]) {
     if markup::is_document(s) {
-        let i = element::root(s);
-        outline(s, i, 8);
+        let at = element::root(s);
+        let tag = read(s, at);
+        outline(s, tag, 8);
     } else {
         put(b"no document\n");
     }

@@ -1,5 +1,5 @@
 -- `element::root` meets its contract.
-use Rattle.element.proofs.Within.{root-at}
+use Rattle.element.proofs.Documents.{root-at}
 use borrow.Author.Needs.{needs}
 use Rattle.element.proofs.root.Statement.{statement}
 use Rattle.element.proofs.root.Tie as tie

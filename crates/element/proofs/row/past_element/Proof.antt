@@ -29,9 +29,10 @@ past-end-tag-requires c κs = (content-within (c .before .before .before .before
 -- src/row.rt:48:9
 returns : tie.Need-returns
 returns c =
-    let w = content-within (c .before .before .before .before .before .args .depth - 1) (c .before .read-content .ensures) in
-    ((omega (arith, w .0, c .past-end-tag .ensures .0 .0), c .past-end-tag .ensures .0 .1),
-    λ v after x. let (k, y) = content-past v after (c .before .before .before .before .before .args .tag) (both-true (c .before .before .before .before .before .args .tag .full) (not (eqb (c .before .before .before .before .before .args .depth) 0)) (c .before .before .if1 .taken) .0) (c .before .read-content .ensures) x in c .past-end-tag .ensures .1 k after y)
+    let w = content-within (c .before .before .before .before .before .args .depth - 1) (c .before .read-content .ensures) in (
+      (omega (arith, w .0, c .past-end-tag .ensures .0 .0), c .past-end-tag .ensures .0 .1),
+      λ v after x. let (k, y) = content-past v after (c .before .before .before .before .before .args .tag) (both-true (c .before .before .before .before .before .args .tag .full) (not (eqb (c .before .before .before .before .before .args .depth) 0)) (c .before .before .if1 .taken) .0) (c .before .read-content .ensures) x in c .past-end-tag .ensures .1 k after y,
+    )
 
 -- src/row.rt:41:1
 returns-2 : tie.Need-returns-2

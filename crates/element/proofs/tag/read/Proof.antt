@@ -36,9 +36,10 @@ close-requires c κs = c .read-carried .ensures .0 .high
 -- src/tag.rt:164:1
 returns-2 : tie.Need-returns-2
 returns-2 c =
-    let h = head-found (c .before .before .before .head .given .1) (c .before .before .before .before .before .read-head .ensures) in
-    (tag-in h (c .before .read-carried .result) (c .close .result) (c .before .read-carried .ensures .0) (c .before .read-carried .ensures .1) (c .close .ensures),
-    tag-of h (c .before .read-carried .result) (c .close .result) (c .before .read-carried .ensures .0) (c .before .read-carried .ensures .1) (c .close .ensures))
+    let h = head-found (c .before .before .before .head .given .1) (c .before .before .before .before .before .read-head .ensures) in (
+      tag-in h (c .before .read-carried .result) (c .close .result) (c .before .read-carried .ensures .0) (c .before .read-carried .ensures .1) (c .close .ensures),
+      tag-of h (c .before .read-carried .result) (c .close .result) (c .before .read-carried .ensures .0) (c .before .read-carried .ensures .1) (c .close .ensures),
+    )
 
 pub read-spec : {M : Type 1} → statement M
 read-spec =
