@@ -101,9 +101,11 @@ module _ {s : List ℕ} (shift : ℕ) (k : Kind) (depth : ℕ) (t : Tag) (row : 
       go v after l w false z x = clash (cc)
       go v after l w true z (row-goes u left rest x next) =
           let y = tag u left x in
-          let a = judged u left y in
-          (rest, subst (λ (n : ℕ). RowTo s (v .name) n depth rest after) (sym f) (next (r .end) low (a .ends)),
-          rw (m, a .fault, a .said, step u left y) w)
+          let a = judged u left y in (
+            rest,
+            subst (λ (n : ℕ). RowTo s (v .name) n depth rest after) (sym f) (next (r .end) low (a .ends)),
+            rw (m, a .fault, a .said, step u left y) w,
+          )
 
   -- no child is left
   pub going-end : isChild (drop i s) ≡ false → (e : ℕ) → ((c : ℕ) (after : List ℕ) → endTag (take (t .past - t .name) (drop (t .name) s)) (drop i s) ≡ ok c after → after ≡ drop e s)

@@ -69,7 +69,14 @@ fn is_broken(s: &[u8], tag: Tag, kind: Kind, row: Row) -> bool
 }
 
 // An element of a kind judged, by its tag and the row of its children.
-pub fn judge_with(s: &[u8], tag: Tag, kind: Kind, standing: Standing, row: Row, shift: u64) -> Judged
+pub fn judge_with(
+    s: &[u8],
+    tag: Tag,
+    kind: Kind,
+    standing: Standing,
+    row: Row,
+    shift: u64,
+) -> Judged
     requires { ⌜ TagIn (now s) tag ⌝ ∗ ⌜ shift ≤ 1680 ⌝ }
     ensures { λ r. ⌜ (r .end ≡ row .end) × ((depth : ℕ) (v : Element) (after : List ℕ) → TagOf (now (s .entry)) depth v after tag → RowAs (now (s .entry)) shift (kindMeant kind) v after row → JudgedAs (now (s .entry)) shift (standingMeant standing) (kindMeant kind) v after r) ⌝ }
 {

@@ -206,9 +206,10 @@ judge-element-returns : (t : ℕ) → judge-element-lts.Need-returns (
 ) (judge-element-at t) judge-element.Post
 judge-element-returns t c =
     let d = deeper (c .before .before .before .before .before .args .tag .full) (c .before .before .before .before .before .args .depth) (c .before .before .if1 .taken) in
-    let w = c .before .judge-row .ensures .0 in
-    ((omega (arith, c .judge-with .ensures .0, w .0), omega (arith, c .judge-with .ensures .0, w .1)),
-    λ v after x. c .judge-with .ensures .1 (c .before .before .before .before .before .args .depth) v after x (c .before .judge-row .ensures .1 v after (subst (λ (n : ℕ). TagOf (c .before .before .before .before .before .args .s .now) n v after (c .before .before .before .before .before .args .tag)) (omega (arith, d)) x) (both-true (c .before .before .before .before .before .args .tag .full) (not (eqb (c .before .before .before .before .before .args .depth) 0)) (c .before .before .if1 .taken) .0)))
+    let w = c .before .judge-row .ensures .0 in (
+      (omega (arith, c .judge-with .ensures .0, w .0), omega (arith, c .judge-with .ensures .0, w .1)),
+      λ v after x. c .judge-with .ensures .1 (c .before .before .before .before .before .args .depth) v after x (c .before .judge-row .ensures .1 v after (subst (λ (n : ℕ). TagOf (c .before .before .before .before .before .args .s .now) n v after (c .before .before .before .before .before .args .tag)) (omega (arith, d)) x) (both-true (c .before .before .before .before .before .args .tag .full) (not (eqb (c .before .before .before .before .before .args .depth) 0)) (c .before .before .if1 .taken) .0)),
+    )
 
 -- src/lib.rt:75:33
 judge-element-begin-requires : (t : ℕ) → judge-element-lts.Need-begin-requires (
@@ -262,9 +263,10 @@ judge-element-returns-2 : (t : ℕ) → judge-element-lts.Need-returns-2 (
 ) (judge-element-at t) judge-element.Post
 judge-element-returns-2 t c =
     let e = c .judge-with2 .ensures .0 in
-    let f = c .before .finish .ensures .0 in
-    ((omega (arith, e, f), omega (arith, e, f, c .before .before .before .before .before .before .pre .1 .0 .end)),
-    λ v after x. c .judge-with2 .ensures .1 (c .before .before .before .before .before .before .args .depth) v after x (judged-none (c .before .before .before .before .before .before .args .shift) (kindMeant (c .before .before .before .before .before .before .args .kind)) (c .before .before .before .before .before .before .args .tag) v after (c .before .before .begin .result) (c .before .finish .result) (c .before .before .before .if1 .left) x (c .before .before .begin .ensures .0) (c .before .finish .ensures .1 (c .before .before .before .before .before .before .args .s .now) (v .attrs) (x .tells))))
+    let f = c .before .finish .ensures .0 in (
+      (omega (arith, e, f), omega (arith, e, f, c .before .before .before .before .before .before .pre .1 .0 .end)),
+      λ v after x. c .judge-with2 .ensures .1 (c .before .before .before .before .before .before .args .depth) v after x (judged-none (c .before .before .before .before .before .before .args .shift) (kindMeant (c .before .before .before .before .before .before .args .kind)) (c .before .before .before .before .before .before .args .tag) v after (c .before .before .begin .result) (c .before .finish .result) (c .before .before .before .if1 .left) x (c .before .before .begin .ensures .0) (c .before .finish .ensures .1 (c .before .before .before .before .before .before .args .s .now) (v .attrs) (x .tells))),
+    )
 
 abbrev judge-row-Inv-loop : judge-row-lts.InvT-loop
 judge-row-Inv-loop s tag depth kind shift row₀ row = Going s shift (kindMeant kind) depth tag row
@@ -434,9 +436,10 @@ judge-row-returns : (t : ℕ) → judge-row-lts.Need-returns (
 ) (judge-row-at t) judge-row.Post judge-row-Inv-loop judge-row-μ-loop
 judge-row-returns t c =
     let f = c .finish .ensures .0 in
-    let p = c .before .past-end-tag .ensures .0 in
-    ((omega (arith, f, p .0, c .before .before .before .before .skip-space .ensures .low, c .before .before .before .before .before .loop .inv .low), omega (arith, f, p .1)),
-    going-end (c .before .before .before .before .before .before .before .before .args .shift) (kindMeant (c .before .before .before .before .before .before .before .before .args .kind)) (c .before .before .before .before .before .before .before .before .args .depth) (c .before .before .before .before .before .before .before .before .args .tag) (c .before .before .before .before .before .loop .row) (c .before .before .before .before .before .loop .inv) (c .before .before .before .before .skip-space .ensures) (sym (c .before .before .before .is-child .ensures .0) ∙ not-true _ (c .before .before .if1 .taken)) (c .before .past-end-tag .result) (c .before .past-end-tag .ensures .1) (c .finish .result) (λ v after x. c .finish .ensures .1 (c .before .before .before .before .before .before .before .before .args .s .now) (v .attrs) (x .tells)))
+    let p = c .before .past-end-tag .ensures .0 in (
+      (omega (arith, f, p .0, c .before .before .before .before .skip-space .ensures .low, c .before .before .before .before .before .loop .inv .low), omega (arith, f, p .1)),
+      going-end (c .before .before .before .before .before .before .before .before .args .shift) (kindMeant (c .before .before .before .before .before .before .before .before .args .kind)) (c .before .before .before .before .before .before .before .before .args .depth) (c .before .before .before .before .before .before .before .before .args .tag) (c .before .before .before .before .before .loop .row) (c .before .before .before .before .before .loop .inv) (c .before .before .before .before .skip-space .ensures) (sym (c .before .before .before .is-child .ensures .0) ∙ not-true _ (c .before .before .if1 .taken)) (c .before .past-end-tag .result) (c .before .past-end-tag .ensures .1) (c .finish .result) (λ v after x. c .finish .ensures .1 (c .before .before .before .before .before .before .before .before .args .s .now) (v .attrs) (x .tells)),
+    )
 
 -- src/lib.rt:91:13
 judge-row-read-requires : (t : ℕ) → judge-row-lts.Need-read-requires (

@@ -55,23 +55,25 @@ first-requires-3 c κs = search needs
 
 -- src/own.rt:72:1
 returns : tie.Need-returns
-returns c =
-    (refl, λ depth v after t x.
-    let n = c .before .before .before .before .before .before .before .before .time-in .ensures (v .attrs) (t .tells) in
-    record {
-      fault =
-          rw (c .first3 .ensures, c .before .first2 .ensures, c .before .before .first .ensures, c .before .before .before .refused-if2 .ensures)
-          (all-faults (c .before .before .before .before .before .before .before .before .before .before .args .shift) (standingMeant (c .before .before .before .before .before .before .before .before .before .before .args .standing)) (kindMeant (c .before .before .before .before .before .before .before .before .before .before .args .kind)) v (c .before .before .before .before .is-broken .result)
-          (c .before .before .before .before .before .before .before .attributes-fault .ensures depth v after t (n .0))
-          (c .before .before .before .before .before .refused-if .ensures ∙ ap (λ (b : Bool). firstOf (SHAPE when b)) (c .before .before .before .before .before .before .lacks .ensures _ (v .attrs) (t .tells)))
-          (x .fault)
-          (elim (x .sides) [
-            | inl h ↦ inl h
-            | inr h ↦ inr (c .before .before .before .before .is-broken .ensures (c .before .before .before .before .before .before .before .before .before .before .args .shift) (v .attrs) (v .kids) (t .tells) (x .any) h)
-          ]));
-      said = n .1;
-      ends = x .ends;
-    })
+returns c = (
+  refl,
+  λ depth v after t x.
+      let n = c .before .before .before .before .before .before .before .before .time-in .ensures (v .attrs) (t .tells) in
+      record {
+        fault =
+            rw (c .first3 .ensures, c .before .first2 .ensures, c .before .before .first .ensures, c .before .before .before .refused-if2 .ensures)
+            (all-faults (c .before .before .before .before .before .before .before .before .before .before .args .shift) (standingMeant (c .before .before .before .before .before .before .before .before .before .before .args .standing)) (kindMeant (c .before .before .before .before .before .before .before .before .before .before .args .kind)) v (c .before .before .before .before .is-broken .result)
+            (c .before .before .before .before .before .before .before .attributes-fault .ensures depth v after t (n .0))
+            (c .before .before .before .before .before .refused-if .ensures ∙ ap (λ (b : Bool). firstOf (SHAPE when b)) (c .before .before .before .before .before .before .lacks .ensures _ (v .attrs) (t .tells)))
+            (x .fault)
+            (elim (x .sides) [
+              | inl h ↦ inl h
+              | inr h ↦ inr (c .before .before .before .before .is-broken .ensures (c .before .before .before .before .before .before .before .before .before .before .args .shift) (v .attrs) (v .kids) (t .tells) (x .any) h)
+            ]));
+        said = n .1;
+        ends = x .ends;
+      },
+)
 
 pub judge-with-spec : {M : Type 1} → statement M
 judge-with-spec =
