@@ -27,8 +27,8 @@
  * - Lengths. A length is a size_t of 64 bits and at most PTRDIFF_MAX, as of any memory. A longer input than
  *   RIGCACTUS_MOST_BYTES is refused unread, and a longer list than RIGCACTUS_MOST_LIST_BYTES is refused by rigcactus_print. For
  *   what a service writes, RIGCACTUS_MOST_LIST_BYTES or RIGCACTUS_MOST_PRINTED_BYTES is enough, and more is no use.
- * - Time. A call ends, after work that grows with the length of the input and stops at these limits. One start tag with many
- *   attributes takes work that grows with their square: docs/BENCH.md has the worst case.
+ * - Time. A call ends, after work that grows with the length of the input and stops at these limits; in a start tag whose names
+ *   are chosen to look alike to the reader, with the square of their count.
  * - Stack. docs/C-API.md says how much a service takes. There is no recursion beyond the 8 levels of a record.
  *
  * Link with librigcactus.a (Linux, x86-64). The header is C11 and C++. docs/C-API.md has a complete program.
