@@ -17,7 +17,7 @@ use Rattle.text.specs.declared.Read.the-variants.{At}
 use Rattle.text.proofs.Reading.{good, here}
 use Rattle.markup.specs.Elements.{ReadsContent}
 use Rattle.element.specs.Tags.{ElementTo, closed, RowTo, Inner, empty, full, TagOf}
-use Rattle.element.specs.Rows.{isChild, RowSteps, row-ends, row-goes}
+use Rattle.element.specs.Rows.{isChild, RowSteps, row-ends, row-goes, Stands}
 use Rattle.element.specs.declared.tag.Tag.{Tag}
 
 abbrev joined : Element → Nodes → Nodes
@@ -75,6 +75,9 @@ row-steps {s} {name} {at} {i} depth g l after x = go (x .fuel) (x .enough) (x .r
             subst (λ (k : Nodes). RowSteps s name depth i after k (isChild (drop i s))) z (rw (element-begins f depth (drop i s) e)
             (row-goes v t k (record { fuel = f; enough = omega (arith, h, g .low); reads = e })
             (λ m p u. record { fuel = f; enough = omega (arith, h, g .low, p); reads = rw (← u, w, y) })))
+
+pub stands : {s : List ℕ} {at i : ℕ} → Good 0 space s at i → (more : Bool) → isChild (drop i s) ≡ more → (more ≡ true → i < length s) → Stands s at i more
+stands {s} {at} {i} g more e h = record { low = omega (arith, g .low); high = g .high; within = h; steps = λ name depth l after x. rw (← e) (row-steps depth g l after x) }
 
 -- two bytes of a text tell
 pub too-short : (s : List ℕ) (at : ℕ) → length s - at < 2 → false ≡ isChild (drop at s)

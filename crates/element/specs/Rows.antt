@@ -1,13 +1,15 @@
 -- Elements side by side, then an end tag, in the words of the rules ("Markup").
-use Prim.Native.Nat.{ℕ, _<_}
+use Prim.Native.Nat.{ℕ, _≤_, _<_}
 use mathlib.Core.Path.{_≡_}
 use mathlib.Core.Bool.{Bool, true, false, not, _&&_}
 use mathlib.Core.List.{List, [], _∷_}
 use lib.Dec.{eqb}
-use lib.ListN.{drop}
+use lib.ListN.{length, drop}
 use Rattle.rules.specs.Parsers.{ok}
 use Rattle.rules.specs.Markup.{Nodes, end, node, Element, endTag}
 use Rattle.element.specs.Tags.{ElementTo, RowTo}
+use Rattle.element.specs.declared.row.Following.{Following}
+use Rattle.element.specs.declared.row.Following.the-variants.{Child, End}
 
 -- a text that begins with `<`, and not with `</`
 abbrev pub isChild : List ℕ → Bool
@@ -20,3 +22,14 @@ pub data RowSteps (s name : List ℕ) (depth i : ℕ) (after : List ℕ) : Nodes
   row-ends : (c : ℕ) → endTag name (drop i s) ≡ ok c after → RowSteps s name depth i after end false
   row-goes : (v : Element) (left : List ℕ) (l : Nodes) → ElementTo s i depth v left → ((e : ℕ) → i < e → left ≡ drop e s → RowTo s name e depth l after)
       → RowSteps s name depth i after (node (v .name) (v .attrs) (v .kids) l) true
+
+-- from a position on, past white space, an element or an end tag stands at i
+pub record Stands (s : List ℕ) (at i : ℕ) (more : Bool) : Type 0 where
+  pub low : at ≤ i
+  pub high : i ≤ length s
+  pub within : more ≡ true → i < length s
+  pub steps : (name : List ℕ) (depth : ℕ) (l : Nodes) (after : List ℕ) → RowTo s name at depth l after → RowSteps s name depth i after l more
+
+abbrev pub NextAt : (s : List ℕ) (at : ℕ) → Following → Type 0
+NextAt s at (Child i) = Stands s at i true
+NextAt s at (End i) = Stands s at i false

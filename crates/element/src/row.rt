@@ -7,9 +7,10 @@ ghost use lib.ListN.{length, take, drop};
 ghost use Rattle.rules.specs.Parsers.{ok};
 ghost use Rattle.rules.specs.Markup.{Element, endTag};
 ghost use Rattle.element.specs.Tags.{TagOf, TagIn};
-ghost use Rattle.element.specs.Rows.{isChild};
+ghost use Rattle.element.specs.Rows.{isChild, NextAt};
 use crate::tag::Tag;
 use markup::read_content;
+use markup::scan::skip_space;
 use markup::tag::read_end_tag;
 use text::Read;
 
@@ -22,6 +23,24 @@ pub fn is_child(s: &[u8], at: usize) -> bool
         return false;
     }
     (s[at] == b'<') & (s[at + 1] != b'/')
+}
+
+// What stands next among the children of an element: a child, or the end tag, at a position.
+pub enum Following {
+    Child(usize),
+    End(usize),
+}
+
+// What stands next from a position on, past white space.
+pub fn next(s: &[u8], at: usize) -> Following
+    requires { ⌜ at ≤ length (now s) ⌝ }
+    ensures { λ r. ⌜ NextAt (now (s .entry)) at r ⌝ }
+{
+    let i = skip_space(s, at);
+    if is_child(s, i) {
+        return Following::Child(i);
+    }
+    Following::End(i)
 }
 
 // The position past the end tag at a position, of the element of a tag.
