@@ -24,10 +24,10 @@ use Rattle.datatype.specs.Meaning.{kindMeant, typeMeant}
 use Rattle.datatype.specs.declared.kind.Kind.{Kind}
 use Rattle.datatype.specs.declared.kind.Named.{Named}
 use Rattle.datatype.specs.declared.kind.Named.the-variants.{Is, Nothing}
+use Rattle.refusal.specs.declared.Verdict.{Verdict}
 use Rattle.judge.specs.Checks.{RefusedAs, DocumentAs, CheckedAs}
-use Rattle.judge.specs.Rows.{JudgedAs}
+use Rattle.judge.specs.Faults.{judged}
 use Rattle.judge.specs.declared.Checked.{Checked}
-use Rattle.judge.specs.declared.row.Judged.{Judged}
 use Rattle.judge.proofs.Inputs.{input-long, input-not-utf8, input-no-document, input-document}
 
 -- a tag of nothing
@@ -52,11 +52,11 @@ module _ {s : List ℕ} {at : ℕ} (shift : ℕ) (t : Tag) (root : (v : Element)
     held = λ v k d e. let w : none ≡ some k = sym (ap typeMeant z) ∙ typed v d ∙ e in clash (cc);
   }
 
-  pub some-type : (k : Kind) → n ≡ Is k → TagIn s t → (j : Judged) → ((v : Element) (after : List ℕ) → TagOf s 8 v after t → JudgedAs s shift top (kindMeant k) v after j)
-      → DocumentAs s shift (record { fault = j .fault; «record» = record { kind = k; tag = t } })
-  some-type k z h j judged = record {
+  pub some-type : (k : Kind) → n ≡ Is k → TagIn s t → (q : Verdict) → ((v : Element) (after : List ℕ) → TagOf s 8 v after t → faultOf q ≡ firstOf (judged shift top (some (kindMeant k)) v))
+      → DocumentAs s shift (record { fault = q; «record» = record { kind = k; tag = t } })
+  some-type k z h q first = record {
     within = h;
-    fault = λ v d. let (after, x) = rooted v d in rw (← typed v d, z) (judged v after x .fault);
+    fault = λ v d. let (after, x) = rooted v d in rw (← typed v d, z) (first v after x);
     held = λ v i d e. let (after, x) = rooted v d in record { after = after; tag = x; kind = sym (typed v d) ∙ ap typeMeant z };
   }
 

@@ -1,15 +1,22 @@
--- No bounds cross where one of them has no value.
+-- Bounds of an interval: none cross where one has no value; other kinds have none.
+use Prim.Native.Nat.{ℕ}
 use mathlib.Core.Path.{_≡_, refl}
 use mathlib.Core.Bool.{false}
-use mathlib.Core.List.{[], _∷_}
+use mathlib.Core.List.{List, [], _∷_}
 use denote.Enum.Declared.{tagOf}
 use types.Run.{OneOf, miss}
 use Rattle.rules.specs.Timestamp.{Moment}
 use Rattle.rules.specs.Invariants.{Endpoint, valued, isCrossed}
+use Rattle.rules.specs.Types.{IVL-TS}
+use Rattle.rules.proofs.Tests.{clash}
+use Rattle.datatype.specs.Meaning.{kindMeant}
 use Rattle.datatype.specs.Said.{saidMeant, endpointSaid}
 use Rattle.datatype.specs.declared.bounds.Side.the-variants.{Low, High}
 use Rattle.datatype.specs.declared.said.Said.{Said}
 use Rattle.datatype.specs.declared.said.Said.the-variants.{Valued, Below, Above, Nothing}
+use Rattle.datatype.specs.declared.kind.Kind.{Kind}
+use Rattle.datatype.specs.declared.kind.Kind.the-variants.{Ts, IvlTs, QsuTs, QsiTs, QsdTs, Mo, Ii, Cd, En, DisplayName, Part}
+use Rattle.datatype.proofs.kind.Kind as kind
 use Rattle.datatype.proofs.said.Said as said
 
 -- no value is said
@@ -27,3 +34,19 @@ high-unvalued l (Valued m) e = absurd (miss (1 ∷ 2 ∷ 3 ∷ []) 0 tt e)
 high-unvalued l Below e = refl
 high-unvalued l Above e = refl
 high-unvalued l Nothing e = refl
+
+abbrev others : List ℕ
+others = 0 ∷ 2 ∷ 3 ∷ 4 ∷ 5 ∷ 6 ∷ 7 ∷ 8 ∷ 9 ∷ 10 ∷ []
+
+pub no-interval : {P : Type 0} (k : Kind) → OneOf others (tagOf kind.the-type k) → kindMeant k ≡ IVL-TS → P
+no-interval IvlTs h e = absurd (miss others 1 tt h)
+no-interval Ts h e = clash (cc)
+no-interval QsuTs h e = clash (cc)
+no-interval QsiTs h e = clash (cc)
+no-interval QsdTs h e = clash (cc)
+no-interval Mo h e = clash (cc)
+no-interval Ii h e = clash (cc)
+no-interval Cd h e = clash (cc)
+no-interval En h e = clash (cc)
+no-interval DisplayName h e = clash (cc)
+no-interval Part h e = clash (cc)

@@ -15,22 +15,28 @@ use Rattle.rules.specs.Types.{Kind, TS, IVL-TS, lineOf}
 use Rattle.rules.specs.Judge.{childFaults}
 use Rattle.rules.proofs.Precedence.{firstOf-append, earlier-assoc, earlier-comm}
 use Rattle.rules.proofs.Tests.{clash, same-true, same-sym}
-use Rattle.datatype.specs.Tables.{Step, stepAmong}
-use Rattle.datatype.specs.Said.{Said, nothing, saidBy, saidNamed}
-use Rattle.judge.specs.Faults.{childJudged}
+use Rattle.refusal.specs.Meaning.{faultOf}
+use Rattle.datatype.specs.Meaning.{kindMeant}
+use Rattle.datatype.specs.Tables.{standingMeant, stepAmong}
+use Rattle.datatype.specs.Said.{Said}
+use Rattle.judge.specs.Faults.{judged, childJudged}
 use Rattle.judge.proofs.ElementFaults.{child-and-rest}
-use Rattle.judge.specs.Rows.{saidOf, childSaid, Judging, beginning, withChild, rowAfter, Hides}
+use Rattle.judge.specs.Rows.{saidOf, Judging, withChild, rowStep, rowAfter, AskedAs, Hides}
+use Rattle.judge.specs.declared.row.Asked.{Asked}
 
--- the child brought the row to stage 1, or it did not
-module _ (j : Judging) (stage n : ℕ) (f g : Option Refusal) (s : Said) (e : n ≡ stage) (h : g ≡ earlier (j .fault) f) where
-  pub kept-low : n ≡ 1 → _≡_ {A = Judging} (record { fault = g; stage = n; any = true; low = s; high = j .high }) (withChild j stage f s)
-  kept-low z = rw (h, ← e, eq-eqb n 1 z)
+-- after the child the row stands at stage 1, or it does not
+module _ (j : Judging) (stage : ℕ) (f : Option Refusal) {g : Option Refusal} (s : Said) (h : g ≡ earlier (j .fault) f) where
+  pub kept-low : stage ≡ 1 → _≡_ {A = Judging} (record { fault = g; stage = stage; any = true; low = s; high = j .high }) (withChild j stage f s)
+  kept-low z = rw (h, eq-eqb stage 1 z)
 
-  pub kept-high : (n ≡ 1 → ⊥) → _≡_ {A = Judging} (record { fault = g; stage = n; any = true; low = j .low; high = s }) (withChild j stage f s)
-  kept-high z = rw (h, ← e, ne-eqb n 1 z)
+  pub kept-high : (stage ≡ 1 → ⊥) → _≡_ {A = Judging} (record { fault = g; stage = stage; any = true; low = j .low; high = s }) (withChild j stage f s)
+  kept-high z = rw (h, ne-eqb stage 1 z)
 
-swap : (a b c d : Option Refusal) → a ≡ earlier b c → earlier a d ≡ earlier b (earlier c d)
-swap a b c d e = rw e (earlier-assoc b c d)
+-- the child that a row is asked of
+pub row-child : {shift : ℕ} (k : Kind) (j : Judging) {v : Element} {a : Asked} {f : Option Refusal} {s : Said} → AskedAs shift (stepAmong (lineOf k .children) (j .stage) (v .name)) (j .stage) v a
+    → f ≡ ifSome (faultOf (a .fault)) some (firstOf (judged shift (standingMeant (a .standing)) (some (kindMeant (a .kind))) v)) → s ≡ saidOf (kindMeant (a .kind)) shift (v .attrs)
+    → withChild j (a .stage) f s ≡ rowStep shift k j v
+row-child k j h e g = rw (e, g, h .fault, h .said, h .to)
 
 -- the faults of a row, child by child, and at its end
 pub row-faults : (shift : ℕ) (k : Kind) (null : Bool) (j : Judging) (l : Nodes)
@@ -40,9 +46,8 @@ unfolding rowAfter childFaults
 row-faults shift k null j end = refl
 row-faults shift k null j (node n attrs kids rest) =
     let v : Element = record { name = n; attrs = attrs; kids = kids } in
-    let o : Option Step = stepAmong (lineOf k .children) (j .stage) n in
-    row-faults shift k null (withChild j (ifSome o (λ t. t .to) (j .stage)) (firstOf (childJudged shift o v)) (childSaid shift o v)) rest
-    ∙ earlier-assoc (j .fault) (firstOf (childJudged shift o v)) _
+    row-faults shift k null (rowStep shift k j v) rest
+    ∙ earlier-assoc (j .fault) (firstOf (childJudged shift (stepAmong (lineOf k .children) (j .stage) n) v)) _
     ∙ ap (earlier (j .fault)) (sym (child-and-rest shift k null (j .stage) v rest))
 
 -- whether there are children

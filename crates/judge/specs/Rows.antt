@@ -10,18 +10,17 @@ use lib.ListN.{drop}
 use Rattle.rules.specs.Basics.{ifSome}
 use Rattle.rules.specs.Refusal.{Refusal, SHAPE, RULE, earlier, firstOf, _when_}
 use Rattle.rules.specs.Markup.{Attribute, Nodes, end, node, Element}
-use Rattle.rules.specs.Invariants.{isNull, hasChildren}
+use Rattle.rules.specs.Invariants.{isNull, hasChildren, breaksInterval}
 use Rattle.rules.specs.Types.{Kind, TS, IVL-TS, QSU-TS, QSI-TS, QSD-TS, MO, II, CD, EN, DisplayName, Part, lineOf}
 use Rattle.rules.specs.Judge.{Standing, kindOf, childFaults}
-use Rattle.refusal.specs.Meaning.{refusalOf, faultOf}
+use Rattle.refusal.specs.Meaning.{faultOf}
 use Rattle.datatype.specs.Meaning.{kindMeant}
 use Rattle.datatype.specs.Tables.{standingMeant, Step, stepAmong}
 use Rattle.datatype.specs.Said.{Said, nothing, saidMeant, saidBy, BoundsSaid}
 use Rattle.judge.specs.Faults.{judged, childJudged}
-use Rattle.judge.specs.declared.row.Judged.{Judged}
-use Rattle.judge.specs.declared.row.Row.{Row}
 use Rattle.judge.specs.declared.row.Asked.{Asked}
-use Rattle.judge.specs.declared.row.Asked.the-variants.{Judge, Refuse}
+use Rattle.judge.specs.declared.row.Inside.{Inside}
+use Rattle.judge.specs.declared.row.Row.{Row}
 
 -- what an element of a kind says as a bound: a time what it says, another nothing
 abbrev pub saidOf : Kind → (shift : ℕ) → List Attribute → Said
@@ -41,20 +40,8 @@ saidOf Part shift attrs = nothing
 abbrev pub childSaid : (shift : ℕ) → Option Step → Element → Said
 childSaid shift o v = ifSome o (λ t. ifSome (kindOf (t .kind) (v .attrs)) (λ k. saidOf k shift (v .attrs)) nothing) nothing
 
--- an element judged: its first fault, what it says, and where it ends
-pub record JudgedAs (s : List ℕ) (shift : ℕ) (p : Standing) (k : Kind) (v : Element) (after : List ℕ) (r : Judged) : Type 0 where
-  pub fault : faultOf (r .fault) ≡ firstOf (judged shift p (some k) v)
-  pub said : saidMeant (r .said) ≡ saidOf k shift (v .attrs)
-  pub ends : after ≡ drop (r .end) s
-
--- a child judged, by the step that it is
-pub record ChildAs (s : List ℕ) (shift : ℕ) (o : Option Step) (v : Element) (after : List ℕ) (r : Judged) : Type 0 where
-  pub fault : faultOf (r .fault) ≡ firstOf (childJudged shift o v)
-  pub said : saidMeant (r .said) ≡ childSaid shift o v
-  pub ends : after ≡ drop (r .end) s
-
--- a row of children as far as it is judged: the first fault, the stage, whether there are any, and what the one that brought the row to stage 1
--- and the last other one say
+-- a row of children as far as it is judged: the first fault, the stage, whether there are any, and what the last one after which the row stands
+-- at stage 1, and the last other one, say
 pub record Judging : Type 0 where
   pub fault : Option Refusal
   pub stage : ℕ
@@ -73,39 +60,41 @@ abbrev pub withChild : Judging → (stage : ℕ) → Option Refusal → Said →
 withChild j stage fault said =
     record { fault = earlier (j .fault) fault; stage = stage; any = true; low = cond (eqb stage 1) said (j .low); high = cond (eqb stage 1) (j .high) said }
 
--- the row of an element of a kind with the children l more
+-- the row of an element of a kind with the child v more
+abbrev pub rowStep : (shift : ℕ) → Kind → Judging → Element → Judging
+rowStep shift k j v =
+    withChild j (ifSome (stepAmong (lineOf k .children) (j .stage) (v .name)) (λ t. t .to) (j .stage))
+    (firstOf (childJudged shift (stepAmong (lineOf k .children) (j .stage) (v .name)) v))
+    (childSaid shift (stepAmong (lineOf k .children) (j .stage) (v .name)) v)
+
+-- the same with the children l more
 unfoldable pub rowAfter : (shift : ℕ) → Kind → Judging → Nodes → Judging
 rowAfter shift k j end = j
-rowAfter shift k j (node n attrs kids rest) =
-    rowAfter shift k
-    (withChild j (ifSome (stepAmong (lineOf k .children) (j .stage) n) (λ t. t .to) (j .stage))
-    (firstOf (childJudged shift (stepAmong (lineOf k .children) (j .stage) n) (record { name = n; attrs = attrs; kids = kids })))
-    (childSaid shift (stepAmong (lineOf k .children) (j .stage) n) (record { name = n; attrs = attrs; kids = kids })))
-    rest
+rowAfter shift k j (node n attrs kids rest) = rowAfter shift k (rowStep shift k j (record { name = n; attrs = attrs; kids = kids })) rest
 
--- a row at its end, at a position, of an element that is null or not: one that has not come far enough is SHAPE
-pub record Finished (null : Bool) (k : Kind) (row : Row) (at : ℕ) (r : Row) : Type 0 where
-  pub fault : faultOf (r .fault) ≡ earlier (faultOf (row .fault)) (firstOf (SHAPE when (not null && ltb (row .stage) (lineOf k .enough))))
+-- what a child is judged as, by the step that it is in a row that stands at a stage: the refusal, if it is not allowed or has no type, or else an
+-- element of a kind, where it stands; and the stage that the row is brought to
+pub record AskedAs (shift : ℕ) (o : Option Step) (stage : ℕ) (v : Element) (a : Asked) : Type 0 where
+  pub fault : firstOf (childJudged shift o v) ≡ ifSome (faultOf (a .fault)) some (firstOf (judged shift (standingMeant (a .standing)) (some (kindMeant (a .kind))) v))
+  pub said : childSaid shift o v ≡ saidOf (kindMeant (a .kind)) shift (v .attrs)
+  pub to : a .stage ≡ ifSome o (λ t. t .to) stage
+
+-- the row of the element v, of a kind, at its end, at a position: one that has not come far enough is SHAPE
+pub record Finished (shift : ℕ) (k : Kind) (v : Element) (row : Row) (at : ℕ) (r : Inside) : Type 0 where
+  pub fault : faultOf (r .fault) ≡ earlier (faultOf (row .fault)) (firstOf (SHAPE when (not (isNull (v .attrs)) && ltb (row .stage) (lineOf k .enough))))
   pub any : r .any ≡ row .any
-  pub low : r .low ≡ row .low
-  pub high : r .high ≡ row .high
+  pub broken : k ≡ IVL-TS → BoundsSaid shift (v .kids) (row .low) (row .high) → r .broken ≡ breaksInterval shift (v .attrs) (v .kids)
   pub end : r .end ≡ at
 
 -- a fault before RULE: a broken invariant beside it changes nothing
 abbrev pub Hides : Option Refusal → Type 0
 Hides o = earlier o (some RULE) ≡ o
 
--- what is inside an element of a kind, judged: the first fault, whether there are children, where the element ends, and, unless the fault comes
--- before RULE, what the bounds of an interval say
-pub record RowAs (s : List ℕ) (shift : ℕ) (k : Kind) (v : Element) (after : List ℕ) (r : Row) : Type 0 where
+-- what is inside the element v, of a kind, judged: the first fault, whether there are children, where the element ends, and, unless the fault comes
+-- before RULE, whether the bounds of an interval break a rule
+pub record InsideAs (s : List ℕ) (shift : ℕ) (k : Kind) (v : Element) (after : List ℕ) (r : Inside) : Type 0 where
   pub fault : faultOf (r .fault) ≡ firstOf (childFaults shift k (isNull (v .attrs)) 0 (v .kids))
   pub any : r .any ≡ hasChildren (v .kids)
   pub ends : after ≡ drop (r .end) s
-  pub sides : Hides (faultOf (r .fault))
-      ⊎ (k ≡ IVL-TS → BoundsSaid shift (v .kids) (r .low) (r .high))
-
--- what a child is judged as, by the step that it is: an element of a kind, where it stands; or it is refused, and nothing in it is judged
-abbrev pub AskedAs : (shift : ℕ) → Option Step → Element → Asked → Type 0
-AskedAs shift o v (Judge k p) =
-    (firstOf (childJudged shift o v) ≡ firstOf (judged shift (standingMeant p) (some (kindMeant k)) v)) × (childSaid shift o v ≡ saidOf (kindMeant k) shift (v .attrs))
-AskedAs shift o v (Refuse r) = (firstOf (childJudged shift o v) ≡ some (refusalOf r)) × (childSaid shift o v ≡ nothing)
+  pub broken : Hides (faultOf (r .fault))
+      ⊎ (k ≡ IVL-TS → r .broken ≡ breaksInterval shift (v .attrs) (v .kids))

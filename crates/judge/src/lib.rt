@@ -7,9 +7,8 @@ ghost use lib.ListN.{length};
 ghost use Rattle.rules.specs.Markup.{Element};
 ghost use Rattle.element.specs.Tags.{TagOf, TagIn};
 ghost use Rattle.datatype.specs.Meaning.{kindMeant};
-ghost use Rattle.datatype.specs.Tables.{standingMeant, stepMeant};
 ghost use Rattle.judge.specs.Checks.{RefusedAs, DocumentAs, CheckedAs};
-ghost use Rattle.judge.specs.Rows.{JudgedAs, ChildAs, RowAs};
+ghost use Rattle.judge.specs.Rows.{InsideAs};
 
 mod carried;
 mod own;
@@ -20,86 +19,61 @@ use datatype::kind::Kind;
 use datatype::kind::Named;
 use datatype::kind::type_at;
 use datatype::record::Record;
-use datatype::said::Said;
-use datatype::table::Next;
 use datatype::table::Standing;
 use element::name::KNOWN;
 use element::name::XSI_TYPE;
-use element::row::is_child;
-use element::row::past_element;
+use element::row::Following;
+use element::row::next;
 use element::row::past_end_tag;
 use element::tag;
 use element::tag::Tag;
-use markup::scan::skip_space;
 use own::judge_with;
+use own::time_in;
 use refusal::Refusal;
 use refusal::Verdict;
-use row::Asked;
-use row::Judged;
-use row::Row;
+use row::Inside;
 use row::begin;
 use row::child_asked;
 use row::finish;
-use row::step_of;
 use row::with_child;
 
 // How many elements may be open at once.
 const DEPTH: usize = 8;
 
-// The element of a tag, of a kind, and what is inside it, where `depth` may be open at once. It calls the reader of its row of children,
-// which calls it, with `depth` falling.
-fn judge_element(
-    s: &[u8],
-    tag: Tag,
-    depth: usize,
-    kind: Kind,
-    standing: Standing,
-    shift: u64,
-) -> Judged
+// What is inside the element of a tag, of a kind, where `depth` may be open at once. It calls the reader of the row of children, which calls
+// it, with `depth` falling.
+fn judge_content(s: &[u8], tag: Tag, depth: usize, kind: Kind, shift: u64) -> Inside
     requires { ⌜ TagIn (now s) tag ⌝ ∗ ⌜ shift ≤ 1680 ⌝ }
     ensures within { λ r. ⌜ (tag .end ≤ r .end) × (r .end ≤ length (now (s .entry))) ⌝ }
-    ensures tells { λ r. ⌜ ((v : Element) (after : List ℕ) → TagOf (now (s .entry)) depth v after tag → JudgedAs (now (s .entry)) shift (standingMeant standing) (kindMeant kind) v after r) ⌝ }
+    ensures tells { λ r. ⌜ ((v : Element) (after : List ℕ) → TagOf (now (s .entry)) depth v after tag → InsideAs (now (s .entry)) shift (kindMeant kind) v after r) ⌝ }
 {
     if tag.full & (depth != 0) {
-        let row = judge_row(s, tag, depth - 1, kind, shift);
-        return judge_with(s, tag, kind, standing, row, shift);
+        return judge_row(s, tag, depth - 1, kind, shift);
     }
-    let row = finish(tag, kind, begin(tag.end), tag.end);
-    judge_with(s, tag, kind, standing, row, shift)
+    finish(s, tag, kind, begin(tag.end), tag.end)
 }
 
 // The row of children that follows a tag, of an element of a kind.
-fn judge_row(s: &[u8], tag: Tag, depth: usize, kind: Kind, shift: u64) -> Row
+fn judge_row(s: &[u8], tag: Tag, depth: usize, kind: Kind, shift: u64) -> Inside
     requires { ⌜ TagIn (now s) tag ⌝ ∗ ⌜ shift ≤ 1680 ⌝ }
     ensures within { λ r. ⌜ (tag .end ≤ r .end) × (r .end ≤ length (now (s .entry))) ⌝ }
-    ensures tells { λ r. ⌜ ((v : Element) (after : List ℕ) → TagOf (now (s .entry)) (suc depth) v after tag → tag .full ≡ true → RowAs (now (s .entry)) shift (kindMeant kind) v after r) ⌝ }
+    ensures tells { λ r. ⌜ ((v : Element) (after : List ℕ) → TagOf (now (s .entry)) (suc depth) v after tag → tag .full ≡ true → InsideAs (now (s .entry)) shift (kindMeant kind) v after r) ⌝ }
 {
     let mut row = begin(tag.end);
     loop {
-        let i = skip_space(s, row.end);
-        if !is_child(s, i) {
-            return finish(tag, kind, row, past_end_tag(s, i, tag));
+        let following = next(s, row.end);
+        match following {
+            Following::End(i) => {
+                return finish(s, tag, kind, row, past_end_tag(s, i, tag));
+            }
+            Following::Child(i) => {
+                let child = tag::read(s, i);
+                let asked = child_asked(s, child, kind, row.stage);
+                let as_kind = asked.kind;
+                let inside = judge_content(s, child, depth, as_kind, shift);
+                row = with_child(s, row, child, asked, inside, shift);
+            }
         }
-        let child = tag::read(s, i);
-        let next = step_of(s, child, kind, row.stage);
-        row = with_child(row, next, judge_child(s, child, depth, next, shift));
-    }
-}
-
-// The child of a tag, by the step that it is; in one that is not allowed, or has no type, nothing is judged.
-fn judge_child(s: &[u8], tag: Tag, depth: usize, next: Next, shift: u64) -> Judged
-    requires { ⌜ TagIn (now s) tag ⌝ ∗ ⌜ shift ≤ 1680 ⌝ }
-    ensures within { λ r. ⌜ (tag .end ≤ r .end) × (r .end ≤ length (now (s .entry))) ⌝ }
-    ensures tells { λ r. ⌜ ((v : Element) (after : List ℕ) → TagOf (now (s .entry)) depth v after tag → ChildAs (now (s .entry)) shift (stepMeant next) v after r) ⌝ }
-{
-    let asked = child_asked(s, tag, next);
-    match asked {
-        Asked::Judge(kind, standing) => judge_element(s, tag, depth, kind, standing, shift),
-        Asked::Refuse(refusal) => Judged {
-            fault: Verdict::Refused(refusal),
-            said: Said::Nothing,
-            end: past_element(s, tag, depth),
-        },
     }
 }
 
@@ -143,8 +117,10 @@ fn check_document(s: &[u8], shift: u64) -> Checked
     let Named::Is(kind) = named else {
         return refused(Refusal::Type);
     };
-    let judged = judge_element(s, tag, DEPTH, kind, Standing::Top, shift);
-    let fault = judged.fault;
+    let inside = judge_content(s, tag, DEPTH, kind, shift);
+    let time = time_in(s, tag, kind, shift);
+    let text = time.fault;
+    let fault = judge_with(s, tag, kind, Standing::Top, text, inside, shift);
     let record = Record { kind, tag };
     Checked { fault, record }
 }

@@ -3,23 +3,23 @@ ghost use mathlib.Core.Path.{_≡_};
 ghost use mathlib.Core.Bool.{_||_};
 ghost use mathlib.Core.List.{List};
 ghost use Prim.Native.Nat.{ℕ, _≤_};
-ghost use Rattle.rules.specs.Refusal.{earlier, firstOf};
+ghost use Rattle.rules.specs.Refusal.{firstOf};
+ghost use mathlib.Core.Option.{some};
 ghost use Rattle.rules.specs.Markup.{Attribute, Nodes, Element};
-ghost use Rattle.rules.specs.Invariants.{hasChildren};
+ghost use Rattle.rules.specs.Invariants.{hasChildren, breaksInterval};
 ghost use Rattle.rules.specs.Types.{TS, IVL-TS, lineOf};
 ghost use Rattle.rules.specs.Judge.{breaksNull};
 ghost use Rattle.refusal.specs.Meaning.{faultOf};
 ghost use Rattle.element.specs.Tags.{Tells, TagOf, TagIn};
 ghost use Rattle.datatype.specs.Meaning.{kindMeant};
 ghost use Rattle.datatype.specs.Tables.{standingMeant};
-ghost use Rattle.datatype.specs.Said.{saidMeant, timeFault, BoundsSaid};
-ghost use Rattle.judge.specs.Faults.{ownFaults, judged as judgedFaults};
-ghost use Rattle.judge.specs.Rows.{saidOf, JudgedAs, RowAs};
+ghost use Rattle.datatype.specs.Said.{saidMeant, timeFault};
+ghost use Rattle.judge.specs.Faults.{judged};
+ghost use Rattle.judge.specs.Rows.{saidOf, InsideAs};
 use crate::carried::attributes_fault;
 use crate::carried::has_own;
 use crate::carried::lacks;
-use crate::row::Judged;
-use crate::row::Row;
+use crate::row::Inside;
 use crate::row::refused_if;
 use crate::rule::breaks;
 use datatype::kind::Kind;
@@ -35,7 +35,7 @@ use refusal::Verdict;
 use refusal::first;
 
 // What a time says and what its value is refused for; another element says nothing.
-fn time_in(s: &[u8], tag: Tag, kind: Kind, shift: u64) -> Time
+pub fn time_in(s: &[u8], tag: Tag, kind: Kind, shift: u64) -> Time
     requires { ⌜ TagIn (now s) tag ⌝ ∗ ⌜ shift ≤ 1680 ⌝ }
     ensures { λ r. ⌜ ((l : List Attribute) → Tells (now (s .entry)) l (tag .places) → (kindMeant kind ≡ TS → faultOf (r .fault) ≡ timeFault shift l) × (saidMeant (r .said) ≡ saidOf (kindMeant kind) shift l)) ⌝ }
 {
@@ -58,39 +58,31 @@ fn breaks_null(tag: Tag, kind: Kind, any: bool) -> bool
     false
 }
 
-// Whether an element breaks a rule of its kind, by its tag and the row of its children.
-fn is_broken(s: &[u8], tag: Tag, kind: Kind, row: Row) -> bool
+// Whether an element breaks a rule of its kind, by its tag and what is inside it.
+fn is_broken(s: &[u8], tag: Tag, kind: Kind, inside: Inside) -> bool
     requires { ⌜ TagIn (now s) tag ⌝ }
-    ensures { λ r. ⌜ ((shift : ℕ) (l : List Attribute) (kids : Nodes) → Tells (now (s .entry)) l (tag .places) → row .any ≡ hasChildren kids → (kindMeant kind ≡ IVL-TS → BoundsSaid shift kids (row .low) (row .high)) → r ≡ (lineOf (kindMeant kind) .invariant shift l kids || breaksNull (kindMeant kind) l kids)) ⌝ }
+    ensures { λ r. ⌜ ((shift : ℕ) (l : List Attribute) (kids : Nodes) → Tells (now (s .entry)) l (tag .places) → inside .any ≡ hasChildren kids → (kindMeant kind ≡ IVL-TS → inside .broken ≡ breaksInterval shift l kids) → r ≡ (lineOf (kindMeant kind) .invariant shift l kids || breaksNull (kindMeant kind) l kids)) ⌝ }
 {
-    let low = row.low;
-    let high = row.high;
-    breaks(s, tag, kind, row.any, low, high) | breaks_null(tag, kind, row.any)
+    breaks(s, tag, kind, inside.any, inside.broken) | breaks_null(tag, kind, inside.any)
 }
 
-// An element of a kind judged, by its tag and the row of its children.
+// The first fault of an element of a kind and of what is inside it, by its tag; `text` is the fault of the timestamp of a TS.
 pub fn judge_with(
     s: &[u8],
     tag: Tag,
     kind: Kind,
     standing: Standing,
-    row: Row,
+    text: Verdict,
+    inside: Inside,
     shift: u64,
-) -> Judged
+) -> Verdict
     requires { ⌜ TagIn (now s) tag ⌝ ∗ ⌜ shift ≤ 1680 ⌝ }
-    ensures { λ r. ⌜ (r .end ≡ row .end) × ((depth : ℕ) (v : Element) (after : List ℕ) → TagOf (now (s .entry)) depth v after tag → RowAs (now (s .entry)) shift (kindMeant kind) v after row → JudgedAs (now (s .entry)) shift (standingMeant standing) (kindMeant kind) v after r) ⌝ }
+    ensures { λ r. ⌜ ((depth : ℕ) (v : Element) (after : List ℕ) → TagOf (now (s .entry)) depth v after tag → (kindMeant kind ≡ TS → faultOf text ≡ timeFault shift (v .attrs)) → InsideAs (now (s .entry)) shift (kindMeant kind) v after inside → faultOf r ≡ firstOf (judged shift (standingMeant standing) (some (kindMeant kind)) v)) ⌝ }
 {
-    let time = time_in(s, tag, kind, shift);
-    let text = time.fault;
     let carried = attributes_fault(s, tag, kind, standing, text, shift);
     let missing = refused_if(Refusal::Shape, lacks(tag, kind));
-    let broken = refused_if(Refusal::Rule, is_broken(s, tag, kind, row));
+    let broken = refused_if(Refusal::Rule, is_broken(s, tag, kind, inside));
     let own = first(carried, first(missing, broken));
-    let inside = row.fault;
-    let said = time.said;
-    Judged {
-        fault: first(own, inside),
-        said,
-        end: row.end,
-    }
+    let below = inside.fault;
+    first(own, below)
 }

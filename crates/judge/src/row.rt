@@ -2,23 +2,25 @@
 ghost use mathlib.Core.Path.{_≡_};
 ghost use mathlib.Core.List.{List};
 ghost use mathlib.Core.Option.{some};
-ghost use Prim.Native.Nat.{ℕ};
+ghost use Prim.Native.Nat.{ℕ, _≤_};
 ghost use Rattle.rules.specs.Basics.{ifSome};
 ghost use Rattle.rules.specs.Refusal.{firstOf, _when_};
-ghost use Rattle.rules.specs.Markup.{Attribute, Element};
-ghost use Rattle.rules.specs.Invariants.{isNull};
+ghost use Rattle.rules.specs.Markup.{Element};
 ghost use Rattle.refusal.specs.Meaning.{refusalOf, faultOf};
-ghost use Rattle.rules.specs.Types.{typed, lineOf};
+ghost use Rattle.rules.specs.Types.{Kind as RulesKind, typed, lineOf};
 ghost use Rattle.element.specs.Tags.{Tells, TagOf, TagIn};
 ghost use Rattle.datatype.specs.Meaning.{kindMeant};
 ghost use Rattle.datatype.specs.Tables.{stepMeant, stepAmong};
+ghost use Rattle.datatype.specs.declared.kind.Kind.the-variants.{Part};
 ghost use Rattle.datatype.specs.Said.{saidMeant};
-ghost use Rattle.judge.specs.Rows.{rowMeant, beginning, withChild, Finished, AskedAs};
+ghost use Rattle.judge.specs.Rows.{rowMeant, beginning, withChild, rowStep, AskedAs, Finished, InsideAs};
+use crate::own::judge_with;
+use crate::own::time_in;
+use crate::rule::breaks_bounds;
 use datatype::kind::Kind;
 use datatype::kind::Named;
 use datatype::kind::type_at;
 use datatype::rows::next_child;
-use datatype::rows::next_stage;
 use datatype::said::Said;
 use datatype::table::Next;
 use datatype::table::Standing;
@@ -31,15 +33,8 @@ use refusal::Refusal;
 use refusal::Verdict;
 use refusal::first;
 
-// An element judged: its first fault, what it says as a bound, and where it ends.
-pub struct Judged {
-    pub fault: Verdict,
-    pub said: Said,
-    pub end: usize,
-}
-
-// A row of children judged: the first fault, the stage that it has come to, whether there are any, what the child that brought it to stage 1
-// and the last other one say as bounds, and where it ends.
+// A row of children judged: the first fault, the stage that it has come to, whether there are any, what the last child after which the row
+// stands at stage 1, and the last other one, say as bounds, and where it ends.
 pub struct Row {
     pub fault: Verdict,
     pub stage: u64,
@@ -49,38 +44,83 @@ pub struct Row {
     pub end: usize,
 }
 
-// What a child is judged as: an element of a kind, where it stands; or it is refused.
-pub enum Asked {
-    Judge(Kind, Standing),
-    Refuse(Refusal),
+// What is inside an element, judged: the first fault, whether there are children, whether the bounds of an interval break a rule, and where
+// the element ends.
+pub struct Inside {
+    pub fault: Verdict,
+    pub any: bool,
+    pub broken: bool,
+    pub end: usize,
 }
 
-// What the member of a set is judged as, by the type that its tag names.
-fn member_asked(s: &[u8], tag: Tag) -> Asked
-    requires { ⌜ TagIn (now s) tag ⌝ }
-    ensures { λ r. ⌜ ((shift to : ℕ) (v : Element) → Tells (now (s .entry)) (v .attrs) (tag .places) → AskedAs shift (some (record { kind = typed; to = to })) v r) ⌝ }
+// What a child is judged as: an element of a kind, where it stands; the refusal, if it is not allowed or has no type; and the stage that
+// the row is brought to.
+pub struct Asked {
+    pub fault: Verdict,
+    pub kind: Kind,
+    pub standing: Standing,
+    pub stage: u64,
+}
+
+// A child that is refused. Only where it ends is asked of it then, so it is judged as of a kind that says nothing.
+fn refuse(refusal: Refusal, stage: u64) -> Asked
+    ensures { λ r. ⌜ (faultOf (r .fault) ≡ some (refusalOf refusal)) × (r .kind ≡ Part) × (r .stage ≡ stage) ⌝ }
 {
-    let named = type_at(s, tag.places[XSI_TYPE], false);
-    match named {
-        Named::Is(kind) => Asked::Judge(kind, Standing::Member),
-        Named::Nothing => Asked::Refuse(Refusal::Type),
+    Asked {
+        fault: Verdict::Refused(refusal),
+        kind: Kind::Part,
+        standing: Standing::Inside,
+        stage,
     }
 }
 
-// What a child is judged as, by its tag and the step that it is; one that is not allowed is SHAPE.
-pub fn child_asked(s: &[u8], tag: Tag, next: Next) -> Asked
+// What the member of a set is judged as, by the type that its tag names; it brings the row to a stage.
+fn member_asked(s: &[u8], tag: Tag, to: u64) -> Asked
     requires { ⌜ TagIn (now s) tag ⌝ }
-    ensures { λ r. ⌜ ((shift : ℕ) (v : Element) → Tells (now (s .entry)) (v .attrs) (tag .places) → AskedAs shift (stepMeant next) v r) ⌝ }
+    ensures { λ r. ⌜ ((shift stage : ℕ) (v : Element) → Tells (now (s .entry)) (v .attrs) (tag .places) → AskedAs shift (some (record { kind = typed; to = to })) stage v r) ⌝ }
 {
-    match next {
-        Next::Always(kind, _) => Asked::Judge(kind, Standing::Inside),
-        Next::Typed(_) => member_asked(s, tag),
-        Next::Nothing => Asked::Refuse(Refusal::Shape),
+    let named = type_at(s, tag.places[XSI_TYPE], false);
+    match named {
+        Named::Is(kind) => Asked {
+            fault: Verdict::Accepted,
+            kind,
+            standing: Standing::Member,
+            stage: to,
+        },
+        Named::Nothing => refuse(Refusal::Type, to),
+    }
+}
+
+// What a child is judged as, by its tag, in the row of an element of a kind that stands at a stage; one that is not allowed is SHAPE.
+pub fn child_asked(s: &[u8], tag: Tag, kind: Kind, stage: u64) -> Asked
+    requires { ⌜ TagIn (now s) tag ⌝ }
+    ensures { λ r. ⌜ ((shift depth : ℕ) (v : Element) (after : List ℕ) → TagOf (now (s .entry)) depth v after tag → AskedAs shift (stepAmong (lineOf (kindMeant kind) .children) stage (v .name)) stage v r) ⌝ }
+{
+    let step = step_of(s, tag, kind, stage);
+    match step {
+        Next::Always(inner, to) => Asked {
+            fault: Verdict::Accepted,
+            kind: inner,
+            standing: Standing::Inside,
+            stage: to,
+        },
+        Next::Typed(to) => member_asked(s, tag, to),
+        Next::Nothing => refuse(Refusal::Shape, stage),
+    }
+}
+
+// A child's refusal, or else what it is judged to be.
+fn unless_refused(refused: Verdict, judged: Verdict) -> Verdict
+    ensures { λ r. ⌜ faultOf r ≡ ifSome (faultOf refused) some (faultOf judged) ⌝ }
+{
+    match refused {
+        Verdict::Accepted => judged,
+        Verdict::Refused(_) => refused,
     }
 }
 
 // The step that a row of children of an element of a kind takes with the child of a tag.
-pub fn step_of(s: &[u8], tag: Tag, kind: Kind, stage: u64) -> Next
+fn step_of(s: &[u8], tag: Tag, kind: Kind, stage: u64) -> Next
     requires { ⌜ TagIn (now s) tag ⌝ }
     ensures { λ r. ⌜ ((depth : ℕ) (v : Element) (after : List ℕ) → TagOf (now (s .entry)) depth v after tag → stepMeant r ≡ stepAmong (lineOf (kindMeant kind) .children) stage (v .name)) ⌝ }
 {
@@ -113,15 +153,12 @@ pub fn begin(at: usize) -> Row
     }
 }
 
-// A row with a child more, which is a step.
-pub fn with_child(row: Row, next: Next, child: Judged) -> Row
-    ensures { λ r. ⌜ (rowMeant r ≡ withChild (rowMeant row) (ifSome (stepMeant next) (λ t. t .to) (row .stage)) (faultOf (child .fault)) (saidMeant (child .said))) × (r .end ≡ child .end) ⌝ }
+// A row with a child more, which brings it to a stage, has a first fault, says something and ends at a position.
+fn with_judged(row: Row, stage: u64, fault: Verdict, said: Said, end: usize) -> Row
+    ensures { λ r. ⌜ (rowMeant r ≡ withChild (rowMeant row) stage (faultOf fault) (saidMeant said)) × (r .end ≡ end) ⌝ }
 {
-    let stage = next_stage(next, row.stage);
     let before = row.fault;
-    let more = child.fault;
-    let fault = first(before, more);
-    let said = child.said;
+    let fault = first(before, fault);
     if stage == 1 {
         let high = row.high;
         return Row {
@@ -130,7 +167,7 @@ pub fn with_child(row: Row, next: Next, child: Judged) -> Row
             any: true,
             low: said,
             high,
-            end: child.end,
+            end,
         };
     }
     let low = row.low;
@@ -140,25 +177,45 @@ pub fn with_child(row: Row, next: Next, child: Judged) -> Row
         any: true,
         low,
         high: said,
-        end: child.end,
+        end,
     }
 }
 
+// A row with the child of a tag more, by what it is judged as and what is inside it.
+pub fn with_child(s: &[u8], row: Row, tag: Tag, asked: Asked, inside: Inside, shift: u64) -> Row
+    requires { ⌜ TagIn (now s) tag ⌝ ∗ ⌜ shift ≤ 1680 ⌝ }
+    ensures { λ r. ⌜ (r .end ≡ inside .end) × ((k : RulesKind) (depth : ℕ) (v : Element) (after : List ℕ) → TagOf (now (s .entry)) depth v after tag → AskedAs shift (stepAmong (lineOf k .children) (row .stage) (v .name)) (row .stage) v asked → InsideAs (now (s .entry)) shift (kindMeant (asked .kind)) v after inside → rowMeant r ≡ rowStep shift k (rowMeant row) v) ⌝ }
+{
+    let kind = asked.kind;
+    let standing = asked.standing;
+    let time = time_in(s, tag, kind, shift);
+    let text = time.fault;
+    let judged = judge_with(s, tag, kind, standing, text, inside, shift);
+    let refused = asked.fault;
+    let said = time.said;
+    with_judged(
+        row,
+        asked.stage,
+        unless_refused(refused, judged),
+        said,
+        inside.end,
+    )
+}
+
 // A row at its end, which is at a position, of the element of a tag.
-pub fn finish(tag: Tag, kind: Kind, row: Row, at: usize) -> Row
-    ensures { λ r. ⌜ (r .end ≡ at) × ((s : List ℕ) (l : List Attribute) → Tells s l (tag .places) → Finished (isNull l) (kindMeant kind) row at r) ⌝ }
+pub fn finish(s: &[u8], tag: Tag, kind: Kind, row: Row, at: usize) -> Inside
+    requires { ⌜ TagIn (now s) tag ⌝ }
+    ensures { λ r. ⌜ (r .end ≡ at) × ((shift : ℕ) (v : Element) → Tells (now (s .entry)) (v .attrs) (tag .places) → Finished shift (kindMeant kind) v row at r) ⌝ }
 {
     let null = has(tag, NULL_FLAVOR);
     let before = row.fault;
     let missing = refused_if(Refusal::Shape, !null & (row.stage < enough(kind)));
     let low = row.low;
     let high = row.high;
-    Row {
+    Inside {
         fault: first(before, missing),
-        stage: row.stage,
         any: row.any,
-        low,
-        high,
+        broken: breaks_bounds(s, tag, kind, low, high),
         end: at,
     }
 }

@@ -122,24 +122,35 @@ fn breaks_part(s: &[u8], null: bool, value: usize, qualifier: usize) -> bool
     !null & (!some | has_both_ends(s, qualifier))
 }
 
-// Whether an element of a kind breaks the invariants of that kind, by its tag, by whether it has children, and by what the bounds of an
-// interval say.
-pub fn breaks(s: &[u8], tag: Tag, kind: Kind, any: bool, low: Said, high: Said) -> bool
+// Whether what the bounds of an interval say breaks a rule, with its tag; other kinds have no bounds.
+pub fn breaks_bounds(s: &[u8], tag: Tag, kind: Kind, low: Said, high: Said) -> bool
     requires { ⌜ TagIn (now s) tag ⌝ }
-    ensures { λ r. ⌜ ((shift : ℕ) (l : List Attribute) (kids : Nodes) → Tells (now (s .entry)) l (tag .places) → any ≡ hasChildren kids → (kindMeant kind ≡ IVL-TS → BoundsSaid shift kids low high) → r ≡ lineOf (kindMeant kind) .invariant shift l kids) ⌝ }
+    ensures { λ r. ⌜ ((shift : ℕ) (l : List Attribute) (kids : Nodes) → Tells (now (s .entry)) l (tag .places) → kindMeant kind ≡ IVL-TS → BoundsSaid shift kids low high → r ≡ breaksInterval shift l kids) ⌝ }
+{
+    if let Kind::IvlTs = kind {
+        return breaks_interval(
+            s,
+            tag.places[LOW_CLOSED],
+            tag.places[HIGH_CLOSED],
+            low,
+            high,
+        );
+    }
+    false
+}
+
+// Whether an element of a kind breaks the invariants of that kind, by its tag, by whether it has children, and by whether the bounds of an
+// interval break a rule.
+pub fn breaks(s: &[u8], tag: Tag, kind: Kind, any: bool, bounds: bool) -> bool
+    requires { ⌜ TagIn (now s) tag ⌝ }
+    ensures { λ r. ⌜ ((shift : ℕ) (l : List Attribute) (kids : Nodes) → Tells (now (s .entry)) l (tag .places) → any ≡ hasChildren kids → (kindMeant kind ≡ IVL-TS → bounds ≡ breaksInterval shift l kids) → r ≡ lineOf (kindMeant kind) .invariant shift l kids) ⌝ }
 {
     let null = has(tag, NULL_FLAVOR);
     let value = has(tag, VALUE);
     match kind {
         // Exactly one of value and nullFlavor.
         Kind::Ts => !exactly_one(value, null),
-        Kind::IvlTs => breaks_interval(
-            s,
-            tag.places[LOW_CLOSED],
-            tag.places[HIGH_CLOSED],
-            low,
-            high,
-        ),
+        Kind::IvlTs => bounds,
         Kind::QsuTs => false,
         Kind::QsiTs => false,
         Kind::QsdTs => false,

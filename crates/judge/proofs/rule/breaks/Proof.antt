@@ -10,7 +10,6 @@ use Rattle.judge.proofs.rule.breaks.Reads as reads
 use Rattle.judge.proofs.rule.breaks.Lts as lts
 use Rattle.element.proofs.tag.has.Reads as has-reads
 use Rattle.judge.proofs.rule.breaks_code.Reads as breaks-code-reads
-use Rattle.judge.proofs.rule.breaks_interval.Reads as breaks-interval-reads
 use Rattle.judge.proofs.rule.breaks_part.Reads as breaks-part-reads
 use Rattle.judge.proofs.rule.exactly_one.Reads as exactly-one-reads
 
@@ -33,18 +32,6 @@ exactly-one-requires c κs = search needs
 -- src/rule.rt:135:43
 enum-told-2 : tie.Need-enum-told-2
 enum-told-2 c = search needs
-
--- src/rule.rt:135:43
-element-copy-out-breaks-interval : tie.Need-element-copy-out-breaks-interval
-element-copy-out-breaks-interval c = search needs
-
--- src/rule.rt:135:67
-element-copy-out-breaks-interval-2 : tie.Need-element-copy-out-breaks-interval-2
-element-copy-out-breaks-interval-2 c = search needs
-
--- src/rule.rt:135:24
-breaks-interval-requires : tie.Need-breaks-interval-requires
-breaks-interval-requires c κs = let in-text = c .before .before .before .before .before .before .before .pre .placed in (omega (arith, in-text 3), omega (arith, in-text 4))
 
 -- src/rule.rt:136:24
 enum-told-3 : tie.Need-enum-told-3
@@ -118,9 +105,7 @@ returns c = λ n l k t a d. rw (c .before .enum-told .given .1, c .exactly-one .
 -- src/rule.rt:127:1
 returns-2 : tie.Need-returns-2
 unfolding lineOf
-returns-2 c = λ n l k t a d.
-    let said = d (ap kindMeant (c .before .before .before .enum-told2 .given .1)) in
-    rw (c .before .before .before .enum-told2 .given .1) (c .breaks-interval .ensures n l k (t .placed 3 (omega arith)) (t .placed 4 (omega arith)) said)
+returns-2 c = λ n l k t a d. rw (c .enum-told2 .given .1, d (ap kindMeant (c .enum-told2 .given .1)))
 
 -- src/rule.rt:127:1
 returns-3 : tie.Need-returns-3
@@ -181,9 +166,6 @@ breaks-spec =
     enum-told
     exactly-one-requires
     enum-told-2
-    element-copy-out-breaks-interval
-    element-copy-out-breaks-interval-2
-    breaks-interval-requires
     enum-told-3
     enum-told-4
     enum-told-5
