@@ -55,77 +55,43 @@ abbrev judge-row-below : ℕ → In 1 judge-row-kinds.ps
 judge-row-below t =
     and 1 judge-row-kinds.ps (falls 1 judge-row-kinds.ps _<_ μ-judge-row t) judge-row.Pre
 
--- src/lib.rt:51:34
-judge-content-sub-judge-row : (t : ℕ) → judge-content-lts.Need-sub-judge-row (
-  judge-row-below t,
-  judge-row.Post,
-  begin-reads.Asked,
-  begin-reads.Learnt,
-  finish-reads.Asked,
-  finish-reads.Learnt,
-) (judge-content-at t) judge-content.Post
-judge-content-sub-judge-row t c = let d = deeper (c .before .before .before .args .tag .full) (c .before .before .before .args .depth) (c .if1 .taken) in omega (arith, d)
+abbrev judge-content-claims : ℕ → judge-content-lts.Claims
+judge-content-claims t = (judge-row-below t, judge-row.Post, begin-reads.Asked, begin-reads.Learnt, finish-reads.Asked, finish-reads.Learnt)
 
--- src/lib.rt:51:9
-judge-content-judge-row-requires : (t : ℕ) → judge-content-lts.Need-judge-row-requires (
-  judge-row-below t,
-  judge-row.Post,
-  begin-reads.Asked,
-  begin-reads.Learnt,
-  finish-reads.Asked,
-  finish-reads.Learnt,
-) (judge-content-at t) judge-content.Post
-judge-content-judge-row-requires t c κs = let d = deeper (c .before .before .before .args .tag .full) (c .before .before .before .args .depth) (c .if1 .taken) in (omega (arith, c .before .before .before .pre .0, d), c .before .before .before .pre .1)
+abbrev judge-row-claims : ℕ → judge-row-lts.Claims
+judge-row-claims t = (begin-reads.Asked, begin-reads.Learnt, next-reads.Asked, next-reads.Learnt, past-end-tag-reads.Asked, past-end-tag-reads.Learnt, finish-reads.Asked, finish-reads.Learnt, read-reads.Asked, read-reads.Learnt, child-asked-reads.Asked, child-asked-reads.Learnt, judge-content-below t, judge-content.Post, with-child-reads.Asked, with-child-reads.Learnt)
 
--- src/lib.rt:51:9
-judge-content-returns : (t : ℕ) → judge-content-lts.Need-returns (
-  judge-row-below t,
-  judge-row.Post,
-  begin-reads.Asked,
-  begin-reads.Learnt,
-  finish-reads.Asked,
-  finish-reads.Learnt,
-) (judge-content-at t) judge-content.Post
-judge-content-returns t c = let d = deeper (c .before .before .before .before .args .tag .full) (c .before .before .before .before .args .depth) (c .before .if1 .taken) in (
-  c .judge-row .ensures .0,
-  λ v after x. c .judge-row .ensures .1 v after (subst (λ (n : ℕ). TagOf (c .before .before .before .before .args .s .now) n v after (c .before .before .before .before .args .tag)) (omega (arith, d)) x) (both-true (c .before .before .before .before .args .tag .full) (not (eqb (c .before .before .before .before .args .depth) 0)) (c .before .if1 .taken) .0),
-)
+judge-content-sub-judge-row : (t : ℕ) → judge-content-lts.Need-sub-judge-row (judge-content-claims t) (judge-content-at t) judge-content.Post
+judge-content-sub-judge-row t c =
+    let start = c .before .before .before in
+    let d = deeper (start .args .tag .full) (start .args .depth) (c .if1 .taken) in omega (arith, d)
 
--- src/lib.rt:53:26
-judge-content-begin-requires : (t : ℕ) → judge-content-lts.Need-begin-requires (
-  judge-row-below t,
-  judge-row.Post,
-  begin-reads.Asked,
-  begin-reads.Learnt,
-  finish-reads.Asked,
-  finish-reads.Learnt,
-) (judge-content-at t) judge-content.Post
+judge-content-judge-row-requires : (t : ℕ) → judge-content-lts.Need-judge-row-requires (judge-content-claims t) (judge-content-at t) judge-content.Post
+judge-content-judge-row-requires t c κs =
+    let start = c .before .before .before in
+    let d = deeper (start .args .tag .full) (start .args .depth) (c .if1 .taken) in (omega (arith, start .pre .0, d), start .pre .1)
+
+judge-content-returns : (t : ℕ) → judge-content-lts.Need-returns (judge-content-claims t) (judge-content-at t) judge-content.Post
+judge-content-returns t c =
+    let start = c .before .before .before .before in
+    let d = deeper (start .args .tag .full) (start .args .depth) (c .before .if1 .taken) in (
+      c .judge-row .ensures .0,
+      λ v after x. c .judge-row .ensures .1 v after (subst (λ (n : ℕ). TagOf (start .args .s .now) n v after (start .args .tag)) (omega (arith, d)) x) (both-true (start .args .tag .full) (not (eqb (start .args .depth) 0)) (c .before .if1 .taken) .0),
+    )
+
+judge-content-begin-requires : (t : ℕ) → judge-content-lts.Need-begin-requires (judge-content-claims t) (judge-content-at t) judge-content.Post
 judge-content-begin-requires t c κs = search needs
 
--- src/lib.rt:53:5
-judge-content-finish-requires : (t : ℕ) → judge-content-lts.Need-finish-requires (
-  judge-row-below t,
-  judge-row.Post,
-  begin-reads.Asked,
-  begin-reads.Learnt,
-  finish-reads.Asked,
-  finish-reads.Learnt,
-) (judge-content-at t) judge-content.Post
+judge-content-finish-requires : (t : ℕ) → judge-content-lts.Need-finish-requires (judge-content-claims t) (judge-content-at t) judge-content.Post
 judge-content-finish-requires t c κs = c .before .before .before .before .pre .1 .0
 
--- src/lib.rt:45:1
-judge-content-returns-2 : (t : ℕ) → judge-content-lts.Need-returns-2 (
-  judge-row-below t,
-  judge-row.Post,
-  begin-reads.Asked,
-  begin-reads.Learnt,
-  finish-reads.Asked,
-  finish-reads.Learnt,
-) (judge-content-at t) judge-content.Post
-judge-content-returns-2 t c = let e = c .finish .ensures .0 in (
-  (omega (arith, e), omega (arith, e, c .before .before .before .before .before .pre .1 .0 .end)),
-  judged-none (c .before .before .before .before .before .args .shift) (kindMeant (c .before .before .before .before .before .args .kind)) (c .before .before .before .before .before .args .tag) (c .before .begin .result) (c .finish .result) (c .before .before .if1 .left) (c .before .begin .ensures .0) (c .finish .ensures .1 (c .before .before .before .before .before .args .shift)),
-)
+judge-content-returns-2 : (t : ℕ) → judge-content-lts.Need-returns-2 (judge-content-claims t) (judge-content-at t) judge-content.Post
+judge-content-returns-2 t c =
+    let start = c .before .before .before .before .before in
+    let e = c .finish .ensures .0 in (
+      (omega (arith, e), omega (arith, e, start .pre .1 .0 .end)),
+      judged-none (start .args .shift) (kindMeant (start .args .kind)) (start .args .tag) (c .before .begin .result) (c .finish .result) (c .before .before .if1 .left) (c .before .begin .ensures .0) (c .finish .ensures .1 (start .args .shift)),
+    )
 
 abbrev judge-row-Inv-loop : judge-row-lts.InvT-loop
 judge-row-Inv-loop s tag depth kind shift row₀ row = Going s shift (kindMeant kind) depth tag row
@@ -133,318 +99,67 @@ judge-row-Inv-loop s tag depth kind shift row₀ row = Going s shift (kindMeant 
 abbrev judge-row-μ-loop : judge-row-lts.MeasureT-loop
 judge-row-μ-loop s tag depth kind shift row₀ row = length s - row .end
 
--- src/lib.rt:62:9
-judge-row-begin-requires : (t : ℕ) → judge-row-lts.Need-begin-requires (
-  begin-reads.Asked,
-  begin-reads.Learnt,
-  next-reads.Asked,
-  next-reads.Learnt,
-  past-end-tag-reads.Asked,
-  past-end-tag-reads.Learnt,
-  finish-reads.Asked,
-  finish-reads.Learnt,
-  read-reads.Asked,
-  read-reads.Learnt,
-  child-asked-reads.Asked,
-  child-asked-reads.Learnt,
-  judge-content-below t,
-  judge-content.Post,
-  with-child-reads.Asked,
-  with-child-reads.Learnt,
-) (judge-row-at t) judge-row.Post judge-row-Inv-loop judge-row-μ-loop
+judge-row-begin-requires : (t : ℕ) → judge-row-lts.Need-begin-requires (judge-row-claims t) (judge-row-at t) judge-row.Post judge-row-Inv-loop judge-row-μ-loop
 judge-row-begin-requires t c κs = search needs
 
--- src/lib.rt:63:5
-judge-row-loop-holds : (t : ℕ) → judge-row-lts.Need-loop-holds (
-  begin-reads.Asked,
-  begin-reads.Learnt,
-  next-reads.Asked,
-  next-reads.Learnt,
-  past-end-tag-reads.Asked,
-  past-end-tag-reads.Learnt,
-  finish-reads.Asked,
-  finish-reads.Learnt,
-  read-reads.Asked,
-  read-reads.Learnt,
-  child-asked-reads.Asked,
-  child-asked-reads.Learnt,
-  judge-content-below t,
-  judge-content.Post,
-  with-child-reads.Asked,
-  with-child-reads.Learnt,
-) (judge-row-at t) judge-row.Post judge-row-Inv-loop judge-row-μ-loop
+judge-row-loop-holds : (t : ℕ) → judge-row-lts.Need-loop-holds (judge-row-claims t) (judge-row-at t) judge-row.Post judge-row-Inv-loop judge-row-μ-loop
 judge-row-loop-holds t c = going-begin (c .before .before .args .shift) (kindMeant (c .before .before .args .kind)) (c .before .before .args .depth) (c .before .before .args .tag) (c .begin .result) (c .before .before .pre .1 .0 .end) (c .begin .ensures .0) (c .begin .ensures .1)
 
--- src/lib.rt:64:13
-judge-row-next-requires : (t : ℕ) → judge-row-lts.Need-next-requires (
-  begin-reads.Asked,
-  begin-reads.Learnt,
-  next-reads.Asked,
-  next-reads.Learnt,
-  past-end-tag-reads.Asked,
-  past-end-tag-reads.Learnt,
-  finish-reads.Asked,
-  finish-reads.Learnt,
-  read-reads.Asked,
-  read-reads.Learnt,
-  child-asked-reads.Asked,
-  child-asked-reads.Learnt,
-  judge-content-below t,
-  judge-content.Post,
-  with-child-reads.Asked,
-  with-child-reads.Learnt,
-) (judge-row-at t) judge-row.Post judge-row-Inv-loop judge-row-μ-loop
+judge-row-next-requires : (t : ℕ) → judge-row-lts.Need-next-requires (judge-row-claims t) (judge-row-at t) judge-row.Post judge-row-Inv-loop judge-row-μ-loop
 judge-row-next-requires t c κs = c .loop .inv .high
 
--- src/lib.rt:66:28
-judge-row-enum-known-following : (t : ℕ) → judge-row-lts.Need-enum-known-following (
-  begin-reads.Asked,
-  begin-reads.Learnt,
-  next-reads.Asked,
-  next-reads.Learnt,
-  past-end-tag-reads.Asked,
-  past-end-tag-reads.Learnt,
-  finish-reads.Asked,
-  finish-reads.Learnt,
-  read-reads.Asked,
-  read-reads.Learnt,
-  child-asked-reads.Asked,
-  child-asked-reads.Learnt,
-  judge-content-below t,
-  judge-content.Post,
-  with-child-reads.Asked,
-  with-child-reads.Learnt,
-) (judge-row-at t) judge-row.Post judge-row-Inv-loop judge-row-μ-loop
+judge-row-enum-known-following : (t : ℕ) → judge-row-lts.Need-enum-known-following (judge-row-claims t) (judge-row-at t) judge-row.Post judge-row-Inv-loop judge-row-μ-loop
 judge-row-enum-known-following t c = search needs
 
--- src/lib.rt:67:50
-judge-row-past-end-tag-requires : (t : ℕ) → judge-row-lts.Need-past-end-tag-requires (
-  begin-reads.Asked,
-  begin-reads.Learnt,
-  next-reads.Asked,
-  next-reads.Learnt,
-  past-end-tag-reads.Asked,
-  past-end-tag-reads.Learnt,
-  finish-reads.Asked,
-  finish-reads.Learnt,
-  read-reads.Asked,
-  read-reads.Learnt,
-  child-asked-reads.Asked,
-  child-asked-reads.Learnt,
-  judge-content-below t,
-  judge-content.Post,
-  with-child-reads.Asked,
-  with-child-reads.Learnt,
-) (judge-row-at t) judge-row.Post judge-row-Inv-loop judge-row-μ-loop
-judge-row-past-end-tag-requires t c κs = (subst (NextAt (c .before .before .before .before .before .before .before .args .s .now) (c .before .before .before .before .loop .row .end)) (c .before .following .given .1) (c .before .before .before .next .ensures) .high, c .before .before .before .before .before .before .before .pre .1 .0)
+judge-row-past-end-tag-requires : (t : ℕ) → judge-row-lts.Need-past-end-tag-requires (judge-row-claims t) (judge-row-at t) judge-row.Post judge-row-Inv-loop judge-row-μ-loop
+judge-row-past-end-tag-requires t c κs =
+    let start = c .before .before .before .before .before .before .before in
+    (subst (NextAt (start .args .s .now) (c .before .before .before .before .loop .row .end)) (c .before .following .given .1) (c .before .before .before .next .ensures) .high, start .pre .1 .0)
 
--- src/lib.rt:67:17
-judge-row-finish-requires : (t : ℕ) → judge-row-lts.Need-finish-requires (
-  begin-reads.Asked,
-  begin-reads.Learnt,
-  next-reads.Asked,
-  next-reads.Learnt,
-  past-end-tag-reads.Asked,
-  past-end-tag-reads.Learnt,
-  finish-reads.Asked,
-  finish-reads.Learnt,
-  read-reads.Asked,
-  read-reads.Learnt,
-  child-asked-reads.Asked,
-  child-asked-reads.Learnt,
-  judge-content-below t,
-  judge-content.Post,
-  with-child-reads.Asked,
-  with-child-reads.Learnt,
-) (judge-row-at t) judge-row.Post judge-row-Inv-loop judge-row-μ-loop
+judge-row-finish-requires : (t : ℕ) → judge-row-lts.Need-finish-requires (judge-row-claims t) (judge-row-at t) judge-row.Post judge-row-Inv-loop judge-row-μ-loop
 judge-row-finish-requires t c κs = c .before .before .before .before .before .before .before .before .pre .1 .0
 
--- src/lib.rt:67:17
-judge-row-returns : (t : ℕ) → judge-row-lts.Need-returns (
-  begin-reads.Asked,
-  begin-reads.Learnt,
-  next-reads.Asked,
-  next-reads.Learnt,
-  past-end-tag-reads.Asked,
-  past-end-tag-reads.Learnt,
-  finish-reads.Asked,
-  finish-reads.Learnt,
-  read-reads.Asked,
-  read-reads.Learnt,
-  child-asked-reads.Asked,
-  child-asked-reads.Learnt,
-  judge-content-below t,
-  judge-content.Post,
-  with-child-reads.Asked,
-  with-child-reads.Learnt,
-) (judge-row-at t) judge-row.Post judge-row-Inv-loop judge-row-μ-loop
-judge-row-returns t c = let g = subst (NextAt (c .before .before .before .before .before .before .before .before .before .args .s .now) (c .before .before .before .before .before .before .loop .row .end)) (c .before .before .before .following .given .1) (c .before .before .before .before .before .next .ensures) in
+judge-row-returns : (t : ℕ) → judge-row-lts.Need-returns (judge-row-claims t) (judge-row-at t) judge-row.Post judge-row-Inv-loop judge-row-μ-loop
+judge-row-returns t c =
+    let at-loop = c .before .before .before .before .before .before in let start = at-loop .before .before .before in
+    let g = subst (NextAt (start .args .s .now) (at-loop .loop .row .end)) (c .before .before .before .following .given .1) (c .before .before .before .before .before .next .ensures) in
     let p = c .before .past-end-tag .ensures .0 in
     let e = c .finish .ensures .0 in (
-      (omega (arith, c .before .before .before .before .before .before .loop .inv .low, g .low, p .0, e), omega (arith, p .1, e)),
-      going-end (c .before .before .before .before .before .before .before .before .before .args .shift) (kindMeant (c .before .before .before .before .before .before .before .before .before .args .kind)) (c .before .before .before .before .before .before .before .before .before .args .depth) (c .before .before .before .before .before .before .before .before .before .args .tag) (c .before .before .before .before .before .before .loop .row) (c .before .before .before .before .before .before .loop .inv) g refl (c .before .past-end-tag .result) (c .before .past-end-tag .ensures .1) (c .finish .result) (c .finish .ensures .1 (c .before .before .before .before .before .before .before .before .before .args .shift)),
+      (omega (arith, at-loop .loop .inv .low, g .low, p .0, e), omega (arith, p .1, e)),
+      going-end (start .args .shift) (kindMeant (start .args .kind)) (start .args .depth) (start .args .tag) (at-loop .loop .row) (at-loop .loop .inv) g refl (c .before .past-end-tag .result) (c .before .past-end-tag .ensures .1) (c .finish .result) (c .finish .ensures .1 (start .args .shift)),
     )
 
--- src/lib.rt:69:30
-judge-row-enum-known-following-2 : (t : ℕ) → judge-row-lts.Need-enum-known-following-2 (
-  begin-reads.Asked,
-  begin-reads.Learnt,
-  next-reads.Asked,
-  next-reads.Learnt,
-  past-end-tag-reads.Asked,
-  past-end-tag-reads.Learnt,
-  finish-reads.Asked,
-  finish-reads.Learnt,
-  read-reads.Asked,
-  read-reads.Learnt,
-  child-asked-reads.Asked,
-  child-asked-reads.Learnt,
-  judge-content-below t,
-  judge-content.Post,
-  with-child-reads.Asked,
-  with-child-reads.Learnt,
-) (judge-row-at t) judge-row.Post judge-row-Inv-loop judge-row-μ-loop
+judge-row-enum-known-following-2 : (t : ℕ) → judge-row-lts.Need-enum-known-following-2 (judge-row-claims t) (judge-row-at t) judge-row.Post judge-row-Inv-loop judge-row-μ-loop
 judge-row-enum-known-following-2 t c = search needs
 
--- src/lib.rt:70:21
-judge-row-read-requires : (t : ℕ) → judge-row-lts.Need-read-requires (
-  begin-reads.Asked,
-  begin-reads.Learnt,
-  next-reads.Asked,
-  next-reads.Learnt,
-  past-end-tag-reads.Asked,
-  past-end-tag-reads.Learnt,
-  finish-reads.Asked,
-  finish-reads.Learnt,
-  read-reads.Asked,
-  read-reads.Learnt,
-  child-asked-reads.Asked,
-  child-asked-reads.Learnt,
-  judge-content-below t,
-  judge-content.Post,
-  with-child-reads.Asked,
-  with-child-reads.Learnt,
-) (judge-row-at t) judge-row.Post judge-row-Inv-loop judge-row-μ-loop
+judge-row-read-requires : (t : ℕ) → judge-row-lts.Need-read-requires (judge-row-claims t) (judge-row-at t) judge-row.Post judge-row-Inv-loop judge-row-μ-loop
 judge-row-read-requires t c κs = subst (NextAt (c .before .before .before .before .before .before .before .args .s .now) (c .before .before .before .before .loop .row .end)) (c .before .following2 .given .1) (c .before .before .before .next .ensures) .high
 
--- src/lib.rt:71:21
-judge-row-child-asked-requires : (t : ℕ) → judge-row-lts.Need-child-asked-requires (
-  begin-reads.Asked,
-  begin-reads.Learnt,
-  next-reads.Asked,
-  next-reads.Learnt,
-  past-end-tag-reads.Asked,
-  past-end-tag-reads.Learnt,
-  finish-reads.Asked,
-  finish-reads.Learnt,
-  read-reads.Asked,
-  read-reads.Learnt,
-  child-asked-reads.Asked,
-  child-asked-reads.Learnt,
-  judge-content-below t,
-  judge-content.Post,
-  with-child-reads.Asked,
-  with-child-reads.Learnt,
-) (judge-row-at t) judge-row.Post judge-row-Inv-loop judge-row-μ-loop
+judge-row-child-asked-requires : (t : ℕ) → judge-row-lts.Need-child-asked-requires (judge-row-claims t) (judge-row-at t) judge-row.Post judge-row-Inv-loop judge-row-μ-loop
 judge-row-child-asked-requires t c κs = c .read .ensures .0 .0
 
--- src/lib.rt:73:21
-judge-row-judge-content-requires : (t : ℕ) → judge-row-lts.Need-judge-content-requires (
-  begin-reads.Asked,
-  begin-reads.Learnt,
-  next-reads.Asked,
-  next-reads.Learnt,
-  past-end-tag-reads.Asked,
-  past-end-tag-reads.Learnt,
-  finish-reads.Asked,
-  finish-reads.Learnt,
-  read-reads.Asked,
-  read-reads.Learnt,
-  child-asked-reads.Asked,
-  child-asked-reads.Learnt,
-  judge-content-below t,
-  judge-content.Post,
-  with-child-reads.Asked,
-  with-child-reads.Learnt,
-) (judge-row-at t) judge-row.Post judge-row-Inv-loop judge-row-μ-loop
-judge-row-judge-content-requires t c κs = (omega (arith, c .before .before .before .before .before .before .before .before .before .pre .0), (c .before .read .ensures .0 .0, c .before .before .before .before .before .before .before .before .before .pre .1 .1))
+judge-row-judge-content-requires : (t : ℕ) → judge-row-lts.Need-judge-content-requires (judge-row-claims t) (judge-row-at t) judge-row.Post judge-row-Inv-loop judge-row-μ-loop
+judge-row-judge-content-requires t c κs =
+    let start = c .before .before .before .before .before .before .before .before .before in
+    (omega (arith, start .pre .0), (c .before .read .ensures .0 .0, start .pre .1 .1))
 
--- src/lib.rt:74:17
-judge-row-with-child-requires : (t : ℕ) → judge-row-lts.Need-with-child-requires (
-  begin-reads.Asked,
-  begin-reads.Learnt,
-  next-reads.Asked,
-  next-reads.Learnt,
-  past-end-tag-reads.Asked,
-  past-end-tag-reads.Learnt,
-  finish-reads.Asked,
-  finish-reads.Learnt,
-  read-reads.Asked,
-  read-reads.Learnt,
-  child-asked-reads.Asked,
-  child-asked-reads.Learnt,
-  judge-content-below t,
-  judge-content.Post,
-  with-child-reads.Asked,
-  with-child-reads.Learnt,
-) (judge-row-at t) judge-row.Post judge-row-Inv-loop judge-row-μ-loop
+judge-row-with-child-requires : (t : ℕ) → judge-row-lts.Need-with-child-requires (judge-row-claims t) (judge-row-at t) judge-row.Post judge-row-Inv-loop judge-row-μ-loop
 judge-row-with-child-requires t c κs = (c .before .before .read .ensures .0 .0, c .before .before .before .before .before .before .before .before .before .before .pre .1 .1)
 
--- src/lib.rt:63:5
-judge-row-loop-less : (t : ℕ) → judge-row-lts.Need-loop-less (
-  begin-reads.Asked,
-  begin-reads.Learnt,
-  next-reads.Asked,
-  next-reads.Learnt,
-  past-end-tag-reads.Asked,
-  past-end-tag-reads.Learnt,
-  finish-reads.Asked,
-  finish-reads.Learnt,
-  read-reads.Asked,
-  read-reads.Learnt,
-  child-asked-reads.Asked,
-  child-asked-reads.Learnt,
-  judge-content-below t,
-  judge-content.Post,
-  with-child-reads.Asked,
-  with-child-reads.Learnt,
-) (judge-row-at t) judge-row.Post judge-row-Inv-loop judge-row-μ-loop
+judge-row-loop-less : (t : ℕ) → judge-row-lts.Need-loop-less (judge-row-claims t) (judge-row-at t) judge-row.Post judge-row-Inv-loop judge-row-μ-loop
 judge-row-loop-less t c = let g = subst (NextAt (c .before .before .before .before .before .before .before .before .before .before .before .args .s .now) (c .before .before .before .before .before .before .before .before .loop .row .end)) (c .before .before .before .before .before .following2 .given .1) (c .before .before .before .before .before .before .before .next .ensures) in
     let w = c .before .judge-content .ensures .0 in omega (arith, g .low, c .before .before .before .read .ensures .0 .1 (g .within refl), w .0, w .1, c .with-child .ensures .0)
 
--- src/lib.rt:63:5
-judge-row-loop-again : (t : ℕ) → judge-row-lts.Need-loop-again (
-  begin-reads.Asked,
-  begin-reads.Learnt,
-  next-reads.Asked,
-  next-reads.Learnt,
-  past-end-tag-reads.Asked,
-  past-end-tag-reads.Learnt,
-  finish-reads.Asked,
-  finish-reads.Learnt,
-  read-reads.Asked,
-  read-reads.Learnt,
-  child-asked-reads.Asked,
-  child-asked-reads.Learnt,
-  judge-content-below t,
-  judge-content.Post,
-  with-child-reads.Asked,
-  with-child-reads.Learnt,
-) (judge-row-at t) judge-row.Post judge-row-Inv-loop judge-row-μ-loop
-judge-row-loop-again t c = let g = subst (NextAt (c .before .before .before .before .before .before .before .before .before .before .before .args .s .now) (c .before .before .before .before .before .before .before .before .loop .row .end)) (c .before .before .before .before .before .following2 .given .1) (c .before .before .before .before .before .before .before .next .ensures) in
+judge-row-loop-again : (t : ℕ) → judge-row-lts.Need-loop-again (judge-row-claims t) (judge-row-at t) judge-row.Post judge-row-Inv-loop judge-row-μ-loop
+judge-row-loop-again t c =
+    let at-loop = c .before .before .before in let start = at-loop .before .before .before .before .before .before .before .before in
+    let g = subst (NextAt (start .args .s .now) (c .before .before .before .before .before .before .before .before .loop .row .end)) (c .before .before .before .before .before .following2 .given .1) (c .before .before .before .before .before .before .before .next .ensures) in
     let w = c .before .judge-content .ensures .0 in
-    going-step (c .before .before .before .before .before .before .before .before .before .before .before .args .shift) (kindMeant (c .before .before .before .before .before .before .before .before .before .before .before .args .kind)) (c .before .before .before .before .before .before .before .before .before .before .before .args .depth) (c .before .before .before .before .before .before .before .before .before .before .before .args .tag) (c .before .before .before .before .before .before .before .before .loop .row) (c .before .before .before .before .before .before .before .before .loop .inv) g refl (c .before .before .before .read .result) (c .before .before .before .read .ensures .1 (c .before .before .before .before .before .before .before .before .before .before .before .args .depth)) (c .before .before .before .read .ensures .0 .1 (g .within refl)) (c .before .judge-content .result) (w .0) (w .1) (c .with-child .result) (c .with-child .ensures .0)
-    (λ v after x. let n = c .before .judge-content .ensures .1 v after x in (n .ends, c .with-child .ensures .1 (kindMeant (c .before .before .before .before .before .before .before .before .before .before .before .args .kind)) (c .before .before .before .before .before .before .before .before .before .before .before .args .depth) v after x (c .before .before .child-asked .ensures (c .before .before .before .before .before .before .before .before .before .before .before .args .shift) (c .before .before .before .before .before .before .before .before .before .before .before .args .depth) v after x) n))
+    going-step (start .args .shift) (kindMeant (start .args .kind)) (start .args .depth) (start .args .tag) (c .before .before .before .before .before .before .before .before .loop .row) (c .before .before .before .before .before .before .before .before .loop .inv) g refl (at-loop .read .result) (at-loop .read .ensures .1 (start .args .depth)) (at-loop .read .ensures .0 .1 (g .within refl)) (c .before .judge-content .result) (w .0) (w .1) (c .with-child .result) (c .with-child .ensures .0)
+    (λ v after x. let n = c .before .judge-content .ensures .1 v after x in (n .ends, c .with-child .ensures .1 (kindMeant (start .args .kind)) (start .args .depth) v after x (c .before .before .child-asked .ensures (start .args .shift) (start .args .depth) v after x) n))
 
 pub +judge-content+judge-row-spec : {M : Type 1} → statement M
-+judge-content+judge-row-spec = close μ-judge-content μ-judge-row (λ t. judge-content-lts.spec (
-  judge-row-below t,
-  judge-row.Post,
-  begin-reads.Asked,
-  begin-reads.Learnt,
-  finish-reads.Asked,
-  finish-reads.Learnt,
-)
++judge-content+judge-row-spec = close μ-judge-content μ-judge-row (λ t. judge-content-lts.spec (judge-content-claims t)
     (judge-content-at t)
     judge-content.Post
     (judge-content-sub-judge-row t)
@@ -453,24 +168,7 @@ pub +judge-content+judge-row-spec : {M : Type 1} → statement M
     (judge-content-begin-requires t)
     (judge-content-finish-requires t)
     (judge-content-returns-2 t))
-    λ t. judge-row-lts.spec (
-      begin-reads.Asked,
-      begin-reads.Learnt,
-      next-reads.Asked,
-      next-reads.Learnt,
-      past-end-tag-reads.Asked,
-      past-end-tag-reads.Learnt,
-      finish-reads.Asked,
-      finish-reads.Learnt,
-      read-reads.Asked,
-      read-reads.Learnt,
-      child-asked-reads.Asked,
-      child-asked-reads.Learnt,
-      judge-content-below t,
-      judge-content.Post,
-      with-child-reads.Asked,
-      with-child-reads.Learnt,
-    )
+    λ t. judge-row-lts.spec (judge-row-claims t)
     (judge-row-at t)
     judge-row.Post
     judge-row-Inv-loop

@@ -43,7 +43,9 @@ refused-requires c κs = search needs
 
 -- src/lib.rt:118:9
 returns : tie.Need-returns
-returns c = no-type (c .before .before .before .before .before .before .before .before .args .shift) (c .before .before .before .before .before .read .result) (c .before .before .before .before .before .before .root .ensures .1) (c .before .before .before .before .before .read .ensures .1) (c .before .before .before .type-at .result) (c .before .before .before .type-at .ensures) (c .before .enum-told .given .1) (c .refused .result) (c .refused .ensures)
+returns c =
+    let at-before = c .before .before .before in
+    no-type (c .before .before .before .before .before .before .before .before .args .shift) (c .before .before .before .before .before .read .result) (c .before .before .before .before .before .before .root .ensures .1) (c .before .before .before .before .before .read .ensures .1) (at-before .type-at .result) (at-before .type-at .ensures) (c .before .enum-told .given .1) (c .refused .result) (c .refused .ensures)
 
 -- src/lib.rt:120:9
 judge-content-requires : tie.Need-judge-content-requires
@@ -59,7 +61,9 @@ judge-with-requires c κs = search needs
 
 -- src/lib.rt:110:1
 returns-2 : tie.Need-returns-2
-returns-2 c = some-type (c .before .before .before .before .before .before .before .before .before .before .before .args .shift) (c .before .before .before .before .before .before .before .before .read .result) (c .before .before .before .before .before .before .before .before .before .root .ensures .1) (c .before .before .before .before .before .before .before .before .read .ensures .1) (c .before .before .before .before .before .before .type-at .result) (c .before .before .before .before .before .before .type-at .ensures) _ (c .before .before .before .before .named .given .1) (c .before .before .before .before .before .before .before .before .read .ensures .0 .0) (c .judge-with .result)
+returns-2 c =
+    let at-before = c .before .before .before .before .before .before in
+    some-type (c .before .before .before .before .before .before .before .before .before .before .before .args .shift) (c .before .before .before .before .before .before .before .before .read .result) (c .before .before .before .before .before .before .before .before .before .root .ensures .1) (c .before .before .before .before .before .before .before .before .read .ensures .1) (at-before .type-at .result) (at-before .type-at .ensures) _ (c .before .before .before .before .named .given .1) (c .before .before .before .before .before .before .before .before .read .ensures .0 .0) (c .judge-with .result)
     (λ v after x. c .judge-with .ensures 8 v after x (c .before .time-in .ensures (v .attrs) (x .tells) .0) (c .before .before .judge-content .ensures .1 v after x))
 
 pub check-document-spec : {M : Type 1} → statement M

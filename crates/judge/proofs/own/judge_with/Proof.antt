@@ -50,15 +50,17 @@ first-requires-3 c κs = search needs
 
 -- src/own.rt:70:1
 returns : tie.Need-returns
-returns c = λ depth v after t n x.
+returns c =
+    let at-before = c .before .before .before .before in let start = at-before .before .before .before .before .before in
+    λ depth v after t n x.
     rw (c .first3 .ensures, c .before .first2 .ensures, c .before .before .first .ensures, c .before .before .before .refused-if2 .ensures)
-    (all-faults (c .before .before .before .before .before .before .before .before .before .args .shift) (standingMeant (c .before .before .before .before .before .before .before .before .before .args .standing)) (kindMeant (c .before .before .before .before .before .before .before .before .before .args .kind)) v (c .before .before .before .before .is-broken .result)
+    (all-faults (start .args .shift) (standingMeant (start .args .standing)) (kindMeant (start .args .kind)) v (at-before .is-broken .result)
     (c .before .before .before .before .before .before .before .attributes-fault .ensures depth v after t n)
     (c .before .before .before .before .before .refused-if .ensures ∙ ap (λ (b : Bool). firstOf (SHAPE when b)) (c .before .before .before .before .before .before .lacks .ensures _ (v .attrs) (t .tells)))
     (x .fault)
     (elim (x .broken) [
       | inl h ↦ inl h
-      | inr h ↦ inr (c .before .before .before .before .is-broken .ensures (c .before .before .before .before .before .before .before .before .before .args .shift) (v .attrs) (v .kids) (t .tells) (x .any) h)
+      | inr h ↦ inr (at-before .is-broken .ensures (start .args .shift) (v .attrs) (v .kids) (t .tells) (x .any) h)
     ]))
 
 pub judge-with-spec : {M : Type 1} → statement M

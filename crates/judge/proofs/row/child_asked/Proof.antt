@@ -38,7 +38,9 @@ returns c = λ shift depth v after t. asked-inside shift (c .before .before .bef
 
 -- src/row.rt:95:1
 returns-2 : tie.Need-returns-2
-returns-2 c = λ shift depth v after t. asked-typed shift (c .before .before .before .before .before .before .args .stage) v _ (c .before .before .before .before .step-of .ensures depth v after t) (c .member-asked .result) (c .before .before .step2 .given .1) (c .member-asked .ensures shift (c .before .before .before .before .before .before .args .stage) v (t .tells))
+returns-2 c =
+    let start = c .before .before .before .before .before .before in
+    λ shift depth v after t. asked-typed shift (start .args .stage) v _ (c .before .before .before .before .step-of .ensures depth v after t) (c .member-asked .result) (c .before .before .step2 .given .1) (c .member-asked .ensures shift (start .args .stage) v (t .tells))
 
 -- src/row.rt:95:1
 returns-3 : tie.Need-returns-3

@@ -31,7 +31,8 @@ next-child-requires c κs = search needs
 -- src/row.rt:83:1
 returns : tie.Need-returns
 returns c =
-    λ depth v after t. c .next-child .ensures ∙ ap (λ (n : List ℕ). stepAmong (lineOf (kindMeant (c .before .before .before .args .kind)) .children) (c .before .before .before .args .stage) n) (sym (t .named))
+    let start = c .before .before .before in
+    λ depth v after t. c .next-child .ensures ∙ ap (λ (n : List ℕ). stepAmong (lineOf (kindMeant (start .args .kind)) .children) (start .args .stage) n) (sym (t .named))
 
 pub step-of-spec : {M : Type 1} → statement M
 step-of-spec =
