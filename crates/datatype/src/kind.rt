@@ -3,10 +3,10 @@ ghost use mathlib.Core.Path.{_≡_};
 ghost use mathlib.Core.List.{List};
 ghost use Prim.Native.Nat.{ℕ, _≤_};
 ghost use lib.ListN.{length, drop};
+ghost use Rattle.rules.specs.Basics.{bytes};
 ghost use Rattle.rules.specs.Parsers.{ok};
 ghost use Rattle.rules.specs.Markup.{Attribute, value, lookup};
 ghost use Rattle.rules.specs.Types.{memberTypes, allTypes, typeAmong};
-ghost use Rattle.element.specs.Names.{nameAt};
 ghost use Rattle.element.specs.Tags.{Place};
 ghost use Rattle.datatype.specs.Meaning.{typeMeant, namedAmong, typesFor};
 use element::value::is;
@@ -78,7 +78,7 @@ fn named_type(s: &[u8], at: usize) -> Named
 // The type that an element names whose `xsi:type` has its value at a place: one that a record may have, or one that a member of a set may have.
 pub fn type_at(s: &[u8], place: usize, top: bool) -> Named
     requires { ⌜ place ≤ length (now s) ⌝ }
-    ensures { λ r. ⌜ ((l : List Attribute) → Place (now (s .entry)) (lookup (nameAt 2) l) place → typeMeant r ≡ typeAmong (typesFor top) l) ⌝ }
+    ensures { λ r. ⌜ ((l : List Attribute) → Place (now (s .entry)) (lookup (bytes "xsi:type") l) place → typeMeant r ≡ typeAmong (typesFor top) l) ⌝ }
 {
     if place == 0 {
         return Named::Nothing;

@@ -1,4 +1,4 @@
-// The attribute names that type lines have, by number.
+// The attribute names that the table of types has, nullFlavor and xsi:type among them, by number.
 ghost use mathlib.Core.Path.{_≡_};
 ghost use mathlib.Core.Bool.{cond};
 ghost use mathlib.Core.List.{List, _∷_};

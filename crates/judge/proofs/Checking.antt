@@ -7,7 +7,7 @@ use mathlib.Core.Option.{Option, none, some}
 use native.Mathlib.Omega.{arith}
 use borrow.Author.Tests.{lt-ltb}
 use lib.ListN.{length, getD}
-use Rattle.rules.specs.Basics.{isSome}
+use Rattle.rules.specs.Basics.{bytes, isSome}
 use Rattle.rules.specs.Refusal.{TOO-LONG, NOT-UTF-8, MARKUP, firstOf}
 use Rattle.rules.specs.Markup.{Attribute, Element, lookup, document}
 use Rattle.rules.specs.Types.{allTypes, typeAmong}
@@ -16,7 +16,6 @@ use Rattle.rules.specs.Utf8.{isUtf8}
 use Rattle.rules.proofs.Tests.{clash}
 use Rattle.refusal.specs.Meaning.{faultOf}
 use Rattle.refusal.specs.declared.Refusal.the-variants.{«Type», TooLong, NotUtf8, Markup}
-use Rattle.element.specs.Names.{nameAt}
 use Rattle.element.specs.Tags.{ElementTo, Place, TagOf, TagIn}
 use Rattle.element.specs.declared.tag.Tag.{Tag}
 use Rattle.element.proofs.Placing.{noPlaces, none-there}
@@ -36,7 +35,7 @@ no-tag s = record { placed = λ k. rw (none-there k) (omega arith); name = omega
 
 module _ {s : List ℕ} {at : ℕ} (shift : ℕ) (t : Tag) (root : (v : Element) → document s ≡ some v → (after : List ℕ) × ElementTo s at 8 v after)
     (tag : (depth : ℕ) (v : Element) (after : List ℕ) → ElementTo s at depth v after → TagOf s depth v after t)
-    (n : Named) (named : (l : List Attribute) → Place s (lookup (nameAt 2) l) (getD (t .places) 2 0) → typeMeant n ≡ typeAmong allTypes l) where
+    (n : Named) (named : (l : List Attribute) → Place s (lookup (bytes "xsi:type") l) (getD (t .places) 2 0) → typeMeant n ≡ typeAmong allTypes l) where
   rooted : (v : Element) → document s ≡ some v → (after : List ℕ) × TagOf s 8 v after t
   rooted v d = let (after, x) = root v d in (after, tag 8 v after x)
 

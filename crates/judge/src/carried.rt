@@ -102,19 +102,19 @@ pub fn attributes_fault(
     requires { ⌜ TagIn (now s) tag ⌝ ∗ ⌜ shift ≤ 1680 ⌝ }
     ensures { λ r. ⌜ ((depth : ℕ) (v : Element) (after : List ℕ) → TagOf (now (s .entry)) depth v after tag → (kindMeant kind ≡ TS → faultOf time ≡ timeFault shift (v .attrs)) → faultOf r ≡ firstOf (flatMap (attributeFaults shift (standingMeant standing) (kindMeant kind)) (v .attrs))) ⌝ }
 {
-    let mut worst = others_fault(tag.others, tag.spaces, standing);
+    let mut so_far = others_fault(tag.others, tag.spaces, standing);
     let mut n = 0;
     while n < KNOWN {
         let place = tag.places[n];
         if place != 0 {
-            worst = first(
-                worst,
+            so_far = first(
+                so_far,
                 attribute_fault(s, n, place, kind, standing, time, shift),
             );
         }
         n += 1;
     }
-    worst
+    so_far
 }
 
 // Whether a line has a column.

@@ -24,13 +24,13 @@ use Rattle.judge.proofs.carried.attributes_fault.Statement.{statement}
 use Rattle.judge.proofs.carried.attributes_fault.Tie as tie
 
 abbrev Inv-loop : tie.InvT-loop
-Inv-loop s kind standing time shift tag worst₀ n₀ worst n =
+Inv-loop s kind standing time shift tag so-far₀ n₀ so-far n =
     (n ≤ known)
     × ((l : List Attribute) → Tells s l (tag .places) → (kindMeant kind ≡ TS → faultOf time ≡ timeFault shift l)
-    → faultOf worst ≡ earlier (faultOf worst₀) (below (attributeFaults shift (standingMeant standing) (kindMeant kind)) l n))
+    → faultOf so-far ≡ earlier (faultOf so-far₀) (below (attributeFaults shift (standingMeant standing) (kindMeant kind)) l n))
 
 abbrev μ-loop : tie.MeasureT-loop
-μ-loop s kind standing time shift tag worst₀ n₀ worst n = known - n
+μ-loop s kind standing time shift tag so-far₀ n₀ so-far n = known - n
 
 others-fault-requires : tie.Need-others-fault-requires Inv-loop μ-loop
 others-fault-requires c κs = search needs
