@@ -45,8 +45,3 @@ module _ (shift : ℕ) (low high : First) where
           go : (b : Bool) → (b ≡ false → saidMeant (f .said) ≡ nothing) → saidMeant (f .said) ≡ cond b (saidMeant (f .said)) nothing
           go true h = refl
           go false h = h refl
-
--- there is no child
-pub none-sought : (shift : ℕ) (all : Nodes) → all ≡ end → (nothing ≡ saidNamed shift (bytes "low") all) × (nothing ≡ saidNamed shift (bytes "high") all)
-unfolding childNamed
-none-sought shift all z = rw z (refl, refl)

@@ -3,4 +3,5 @@ pub mod Tables
 pub mod Bounds
 pub mod Said
 pub mod Records
+pub mod Inside
 pub mod Sides

@@ -1,4 +1,4 @@
--- A record as it is held after checking.
+-- A record as it is held after checking, in the words of the rules ("Types, after decoding the five references").
 use Prim.Native.Nat.{ℕ}
 use mathlib.Core.Path.{_≡_}
 use mathlib.Core.List.{List}

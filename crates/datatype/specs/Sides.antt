@@ -1,4 +1,4 @@
--- The first child of a name, found in a walk over the children.
+-- The first child of a name, found in a walk over the children, in the words of the rules ("Types, after decoding the five references").
 use Prim.Native.Nat.{ℕ}
 use mathlib.Core.Path.{_≡_}
 use mathlib.Core.Bool.{false, cond}

@@ -2,6 +2,7 @@
 
 pub mod bounds;
 pub mod columns;
+pub mod inside;
 pub mod kind;
 pub mod places;
 pub mod record;

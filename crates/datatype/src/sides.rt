@@ -8,14 +8,13 @@ ghost use Rattle.rules.specs.Markup.{Element};
 ghost use Rattle.element.specs.Tags.{TagOf, TagIn};
 ghost use Rattle.datatype.specs.Said.{saidMeant, saidNamed};
 ghost use Rattle.datatype.specs.Sides.{Settled, Passes};
+use crate::inside::Inside;
+use crate::inside::next_inside;
 use crate::said::Said;
 use crate::said::time_of;
-use element::row::is_child;
 use element::row::past_element;
-use element::row::past_end_tag;
 use element::tag;
 use element::tag::Tag;
-use markup::scan::skip_space;
 use text::is_same;
 
 // What the sides of an interval say, and the position past its element.
@@ -63,27 +62,24 @@ pub fn read_sides(s: &[u8], tag: Tag, depth: usize, shift: u64) -> Sides
     let mut low = none;
     let mut high = none;
     let mut at = tag.end;
-    if !(tag.full & (depth != 0)) {
-        return Sides {
-            low: Said::Nothing,
-            high: Said::Nothing,
-            end: at,
-        };
-    }
     loop {
-        let i = skip_space(s, at);
-        if !is_child(s, i) {
-            let first = low.said;
-            let last = high.said;
-            return Sides {
-                low: first,
-                high: last,
-                end: past_end_tag(s, i, tag),
-            };
+        let next = next_inside(s, tag, depth, at);
+        match next {
+            Inside::Child(i) => {
+                let child = tag::read(s, i);
+                low = after_child(s, child, shift, b"low", low);
+                high = after_child(s, child, shift, b"high", high);
+                at = past_element(s, child, depth - 1);
+            }
+            Inside::Past(end) => {
+                let first = low.said;
+                let last = high.said;
+                return Sides {
+                    low: first,
+                    high: last,
+                    end,
+                };
+            }
         }
-        let child = tag::read(s, i);
-        low = after_child(s, child, shift, b"low", low);
-        high = after_child(s, child, shift, b"high", high);
-        at = past_element(s, child, depth - 1);
     }
 }

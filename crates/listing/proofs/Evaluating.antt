@@ -1,43 +1,49 @@
 -- The set that an element writes, and those of members one after another.
-use Prim.Native.Nat.{ℕ}
+use Prim.Native.Nat.{ℕ, _≤_}
 use mathlib.Core.Path.{_≡_, refl, sym, ap, _∙_, subst}
 use mathlib.Core.Bool.{Bool, true, false}
 use mathlib.Core.List.{List}
 use mathlib.Core.Option.{Option, none, some}
+use native.Mathlib.Omega.{arith}
+use lib.ListN.{length}
 use Rattle.rules.specs.Refusal.{Refusal, TYPE, UNKNOWN-BOUND, Outcome, answered, refused, both}
-use Rattle.rules.specs.Markup.{Attribute, Nodes, end, node, Element}
+use Rattle.rules.specs.Markup.{Nodes, end, node, Element}
 use Rattle.rules.specs.Invariants.{isNull}
 use Rattle.rules.specs.Sets.{Op as PageOp, Expression, combine}
 use Rattle.rules.specs.Listing.{intervalOf, setFrom, setOf, membersOf, joined}
 use Rattle.rules.proofs.Tests.{clash}
 use Rattle.interval.specs.declared.Op.{Op}
 use Rattle.interval.specs.Meaning.{opOf}
-use Rattle.listing.specs.declared.set.Shape.{Shape}
+use Rattle.element.specs.Tags.{TagOf}
+use Rattle.element.specs.declared.tag.Tag.{Tag}
 use Rattle.listing.specs.declared.set.Shape.the-variants.{Single, Members, Other}
 use Rattle.listing.specs.declared.set.Evaluated.{Evaluated}
-use Rattle.listing.specs.Sets.{WritesAs, IsSet, Says, is-set, is-unknown, SoFar, none-yet, so-far, put, expressed}
+use Rattle.listing.specs.Sets.{WritesAs, Formed, IsSet, Says, is-set, is-unknown, SoFar, none-yet, so-far, put, expressed, SaysElement}
 
-pub shaped : (attrs : List Attribute) {h k : Shape} → h ≡ k → WritesAs attrs h → WritesAs attrs k
-shaped attrs z w = subst (WritesAs attrs) z w
+-- an element that writes no set
+pub none-said : {s : List ℕ} {t : Tag} {depth : ℕ} (shift : ℕ) {r : Evaluated} → t .end ≤ length s → Formed r × (r .known ≡ false) × (r .count ≡ 0) × (r .end ≡ t .end)
+    → ((v : Element) (after : List ℕ) → TagOf s depth v after t → (q : Refusal) × (setOf shift v ≡ refused q))
+    → Formed r × (((t .end ≤ r .end) × (r .end ≤ length s)) × SaysElement s t depth shift r)
+none-said shift w (f, k, n, e) q = (f, ((omega (arith, e), omega (arith, e, w)), λ v after h. (rw (q v after h .1) (is-unknown k), λ y. clash (cc))))
 
--- an element
+-- an element, by what it writes
 module _ (shift : ℕ) (v : Element) {b : Bool} (null : b ≡ isNull (v .attrs)) where
-  pub null-set : b ≡ true → refused UNKNOWN-BOUND ≡ setOf shift v
+  pub null-set : b ≡ true → setOf shift v ≡ refused UNKNOWN-BOUND
   unfolding setFrom
   null-set t = rw (sym null ∙ t)
 
-  module _ (not : b ≡ false) {h : Shape} (writes : WritesAs (v .attrs) h) where
-    pub single-set : h ≡ Single → expressed (intervalOf shift (v .attrs) (v .kids)) ≡ setOf shift v
+  module _ (not : b ≡ false) where
+    pub other-set : WritesAs (v .attrs) Other → setOf shift v ≡ refused TYPE
     unfolding setFrom
-    single-set z = rw (sym null ∙ not, shaped (v .attrs) z writes)
+    other-set w = rw (sym null ∙ not, w .0, w .1)
 
-    pub other-set : h ≡ Other → refused TYPE ≡ setOf shift v
+    pub single-set : WritesAs (v .attrs) Single → {r : Evaluated} → Says (expressed (intervalOf shift (v .attrs) (v .kids))) r → Says (setOf shift v) r
     unfolding setFrom
-    other-set z = let w = shaped (v .attrs) z writes in rw (sym null ∙ not, w .0, w .1)
+    single-set w s = rw (sym null ∙ not, w) s
 
-    pub members-set : {op : Op} → h ≡ Members op → membersOf shift (opOf op) (v .kids) ≡ setOf shift v
+    pub members-set : (op : Op) → WritesAs (v .attrs) (Members op) → {r : Evaluated} → Says (membersOf shift (opOf op) (v .kids)) r → Says (setOf shift v) r
     unfolding setFrom
-    members-set z = let w = shaped (v .attrs) z writes in rw (sym null ∙ not, w .0, w .1)
+    members-set op w s = rw (sym null ∙ not, w .0, w .1) s
 
 -- the set of the members so far, with those left
 abbrev withLeft : (shift : ℕ) → PageOp → Option Expression → Nodes → Outcome Expression
@@ -92,11 +98,3 @@ module _ (shift : ℕ) (op : Op) {a : Evaluated} where
       go : (x : Option Expression) → SoFar x a → Says (withLeft shift (opOf op) x end) (record { known = a .known; count = a .count; set = a .set; end = p })
       go none (none-yet k c) = is-unknown k
       go (some x) (so-far s) = is-set (record { known = s .known; count = s .count; places = s .places })
-
--- there is no member
-pub none-said : (shift : ℕ) (op : Op) (all : Nodes) → all ≡ end → {r : Evaluated} → r .known ≡ false → Says (membersOf shift (opOf op) all) r
-unfolding membersOf
-none-said shift op all z k = rw z (is-unknown k)
-
-pub says-set : {r : Evaluated} {o p : Outcome Expression} → o ≡ p → Says o r → Says p r
-says-set {r} z s = subst (λ (o : Outcome Expression). Says o r) z s

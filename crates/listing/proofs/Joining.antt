@@ -5,7 +5,8 @@ use mathlib.Core.Bool.{Bool, true, false}
 use mathlib.Core.Option.{Option, none, some}
 use native.Mathlib.Omega.{arith}
 use lib.ListN.{length, length-append}
-use Rattle.rules.specs.Sets.{Place, holds, apply, Expression, interval, combine, meant, intervals}
+use Rattle.rules.specs.Refusal.{Outcome}
+use Rattle.rules.specs.Sets.{Place, Interval, holds, apply, Expression, interval, combine, meant, intervals}
 use Rattle.interval.specs.declared.Stretches.{Stretches}
 use Rattle.interval.specs.declared.Op.{Op}
 use Rattle.interval.specs.Meaning.{opOf, intervalOf, Holds, applied}
@@ -26,9 +27,9 @@ module _ (w : Written) {set : Stretches} (h : Holds (holds (intervalOf (w .inter
   pub single-formed : Formed (made (w .known) 1 set (w .end))
   single-formed = record { canonical = h .canonical; short = h .short; most = omega arith }
 
-  pub single-says : Says (expressed (writtenMeant w)) (made (w .known) 1 set (w .end))
+  pub single-says : {o : Outcome Interval} → writtenMeant w ≡ o → Says (expressed o) (made (w .known) 1 set (w .end))
   unfolding meant intervals
-  single-says = go (w .known)
+  single-says z = rw (← z) (go (w .known))
     where
       go : (b : Bool) → Says (expressed (writtenMeant (record { known = b; interval = w .interval; end = w .end }))) (made b 1 set (w .end))
       go true = is-set (record { known = refl; count = refl; places = λ f y. h .places y })

@@ -12,30 +12,28 @@ use Rattle.rules.proofs.Meaning.{folded, folded-together}
 use Rattle.interval.specs.declared.Op.{Op}
 use Rattle.interval.specs.Meaning.{opOf, intervalOf as intervalMeant}
 use Rattle.listing.specs.declared.bound.Written.{Written}
-use Rattle.listing.specs.declared.set.Shape.{Shape}
 use Rattle.listing.specs.declared.set.Shape.the-variants.{Single, Members, Other}
 use Rattle.listing.specs.Bounds.{writtenMeant}
 use Rattle.listing.specs.Sets.{WritesAs}
-use Rattle.listing.proofs.Evaluating.{shaped}
 
 -- the interval that an element writes
-pub within-written : (w : Written) (x : Place) {b : Bool} → b ≡ holds (intervalMeant (w .interval)) x → (b && w .known) ≡ isWithin (writtenMeant w) x
-within-written w x {b} h = go (w .known)
+pub within-written : (w : Written) (x : Place) {b : Bool} → b ≡ holds (intervalMeant (w .interval)) x → {o : Outcome Interval} → writtenMeant w ≡ o → (b && w .known) ≡ isWithin o x
+within-written w x {b} h e = rw (← e) (go (w .known))
   where
     go : (k : Bool) → (b && k) ≡ isWithin (writtenMeant (record { known = k; interval = w .interval; end = w .end })) x
     go true = and-true b ∙ h
     go false = and-false b
 
--- an element
-module _ (shift : ℕ) (v : Element) (x : Place) {h : Shape} (writes : WritesAs (v .attrs) h) where
-  pub means-single : h ≡ Single → {r : Bool} {o : Outcome Interval} → r ≡ isWithin o x → o ≡ intervalOf shift (v .attrs) (v .kids) → r ≡ isMeant shift v x
-  means-single z e d = rw (shaped (v .attrs) z writes, ← d) e
+-- an element, by what it writes
+module _ (shift : ℕ) (v : Element) (x : Place) where
+  pub means-single : WritesAs (v .attrs) Single → {r : Bool} → r ≡ isWithin (intervalOf shift (v .attrs) (v .kids)) x → r ≡ isMeant shift v x
+  means-single w e = rw w e
 
-  pub means-other : h ≡ Other → false ≡ isMeant shift v x
-  means-other z = let w = shaped (v .attrs) z writes in rw (w .0, w .1)
+  pub means-other : WritesAs (v .attrs) Other → false ≡ isMeant shift v x
+  means-other w = rw (w .0, w .1)
 
-  pub means-members : {op : Op} → h ≡ Members op → {r : Bool} → r ≡ together (opOf op) (meanPlace shift x (v .kids)) → r ≡ isMeant shift v x
-  means-members z e = let w = shaped (v .attrs) z writes in rw (w .0, w .1) e
+  pub means-members : (op : Op) → WritesAs (v .attrs) (Members op) → {r : Bool} → r ≡ together (opOf op) (meanPlace shift x (v .kids)) → r ≡ isMeant shift v x
+  means-members op w e = rw (w .0, w .1) e
 
 -- the place is in the set of the members so far, if there are any, with those left
 abbrev meanLeft : PageOp → (any first : Bool) → List Bool → Bool
@@ -66,7 +64,3 @@ module _ (shift : ℕ) (op : Op) (x : Place) (any first : Bool) where
       go : (a : Bool) → (a ≡ false → first ≡ together (opOf op) []) → first ≡ meanLeft (opOf op) a first []
       go true g = refl
       go false g = g refl
-
-pub place-none : (shift : ℕ) (op : Op) (x : Place) {b : Bool} → b ≡ together (opOf op) [] → (all : Nodes) → all ≡ end → b ≡ together (opOf op) (meanPlace shift x all)
-unfolding meanPlace
-place-none shift op x h all z = rw z h

@@ -5,17 +5,11 @@ use mathlib.Core.List.{List}
 use lib.ListN.{drop}
 use Rattle.rules.specs.Markup.{Element}
 use Rattle.rules.specs.Sets.{Place}
-use Rattle.rules.specs.ListingPromise.{together, meanPlace, isMeant}
-use Rattle.interval.specs.declared.Op.{Op}
-use Rattle.interval.specs.Meaning.{opOf}
+use Rattle.rules.specs.ListingPromise.{isMeant}
 use Rattle.element.specs.Tags.{TagOf}
 use Rattle.element.specs.declared.tag.Tag.{Tag}
 use Rattle.listing.specs.declared.place.Meant.{Meant}
 
--- the answer on the element of a tag; and on the members in it
+-- the answer on the element of a tag
 abbrev pub MeansElement : List ℕ → Tag → (depth shift : ℕ) → Place → Meant → Type 0
 MeansElement s t depth shift x r = (v : Element) (after : List ℕ) → TagOf s depth v after t → (r .is ≡ isMeant shift v x) × (after ≡ drop (r .end) s)
-
-abbrev pub MeansMembers : List ℕ → Tag → (depth shift : ℕ) → Op → Place → Meant → Type 0
-MeansMembers s t depth shift op x r =
-    (v : Element) (after : List ℕ) → TagOf s depth v after t → (r .is ≡ together (opOf op) (meanPlace shift x (v .kids))) × (after ≡ drop (r .end) s)

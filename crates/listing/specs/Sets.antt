@@ -9,8 +9,7 @@ use Rattle.rules.specs.Refusal.{Refusal, Outcome, answered, refused, _andThen_}
 use Rattle.rules.specs.Markup.{Attribute, Element}
 use Rattle.rules.specs.Types.{IVL-TS, hasType}
 use Rattle.rules.specs.Sets.{Place, Op as PageOp, Interval as PageInterval, Expression, interval, combine, meant, intervals, isIn}
-use Rattle.rules.specs.Listing.{operationOf, setOf, membersOf}
-use Rattle.interval.specs.declared.Op.{Op}
+use Rattle.rules.specs.Listing.{operationOf, setOf}
 use Rattle.interval.specs.declared.Op.the-variants.{Union, Intersection, Difference}
 use Rattle.interval.specs.Meaning.{opOf, stretchesOf, Canonical}
 use Rattle.element.specs.Tags.{TagOf}
@@ -72,10 +71,6 @@ put op (some x) y = combine op x y
 abbrev pub expressed : Outcome PageInterval → Outcome Expression
 expressed o = o andThen λ i. answered (interval i)
 
--- the answer on the element of a tag; and on the members in it
+-- the answer on the element of a tag
 abbrev pub SaysElement : List ℕ → Tag → (depth shift : ℕ) → Evaluated → Type 0
 SaysElement s t depth shift r = (v : Element) (after : List ℕ) → TagOf s depth v after t → Says (setOf shift v) r × (r .known ≡ true → after ≡ drop (r .end) s)
-
-abbrev pub SaysMembers : List ℕ → Tag → (depth shift : ℕ) → Op → Evaluated → Type 0
-SaysMembers s t depth shift op r = (v : Element) (after : List ℕ) → TagOf s depth v after t
-    → Says (membersOf shift (opOf op) (v .kids)) r × (r .known ≡ true → after ≡ drop (r .end) s)

@@ -1,26 +1,27 @@
 // Whether a place is in the set of times that an element writes: place by place, set within set, with no list.
 ghost use mathlib.Core.Path.{_≡_};
 ghost use mathlib.Core.Bool.{cond};
-ghost use mathlib.Core.List.{[]};
-ghost use Prim.Native.Nat.{_^_, _≤_, _<_};
-ghost use lib.ListN.{length};
+ghost use mathlib.Core.List.{List, []};
+ghost use Prim.Native.Nat.{ℕ, _^_, _≤_, _<_};
+ghost use lib.ListN.{length, drop};
+ghost use Rattle.rules.specs.Markup.{Element};
 ghost use Rattle.rules.specs.Sets.{apply as pageApply};
-ghost use Rattle.rules.specs.ListingPromise.{together};
+ghost use Rattle.rules.specs.Listing.{intervalOf};
+ghost use Rattle.rules.specs.ListingPromise.{isWithin, together};
 ghost use Rattle.interval.specs.Meaning.{opOf, placeOf};
-ghost use Rattle.element.specs.Tags.{TagIn};
-ghost use Rattle.listing.specs.Places.{MeansElement, MeansMembers};
+ghost use Rattle.element.specs.Tags.{TagOf, TagIn};
+ghost use Rattle.listing.specs.Places.{MeansElement};
 use crate::bound::interval_of;
 use crate::set::Shape;
 use crate::set::shape_of;
-use element::row::is_child;
+use datatype::inside::Inside;
+use datatype::inside::next_inside;
 use element::row::past_element;
-use element::row::past_end_tag;
 use element::tag;
 use element::tag::Tag;
 use interval::Op;
 use interval::apply;
 use interval::is_in;
-use markup::scan::skip_space;
 
 // Whether a place is in the set that an element writes, and the position past the element.
 pub struct Meant {
@@ -49,58 +50,52 @@ fn in_both(op: Op, any: bool, first: bool, next: bool) -> bool
     next
 }
 
-// Whether a tick, or the gap after it, is in the set that the element of a tag writes, where `depth` may be open at once. It calls the
-// reader of members, which calls it, with `depth` falling.
+// Whether a tick, or the gap after it, is in the interval that the element of a tag writes, where `depth` may be open at once.
+fn in_single(s: &[u8], tag: Tag, depth: usize, shift: u64, n: u64, gap: bool) -> Meant
+    requires { ⌜ TagIn (now s) tag ⌝ ∗ ⌜ shift ≤ 1680 ⌝ ∗ ⌜ n < 2 ^ 60 ⌝ }
+    ensures within { λ r. ⌜ (tag .end ≤ r .end) × (r .end ≤ length (now (s .entry))) ⌝ }
+    ensures tells { λ r. ⌜ ((v : Element) (after : List ℕ) → TagOf (now (s .entry)) depth v after tag → (r .is ≡ isWithin (intervalOf shift (v .attrs) (v .kids)) (placeOf n gap)) × (after ≡ drop (r .end) (now (s .entry)))) ⌝ }
+{
+    let w = interval_of(s, tag, depth, shift);
+    let v = w.interval;
+    Meant {
+        is: is_in(v, n, gap) & w.known,
+        end: w.end,
+    }
+}
+
+// Whether a tick, or the gap after it, is in the set that the element of a tag writes, where `depth` may be open at once. It calls itself
+// for the members, with `depth` falling.
 pub fn is_meant_at(s: &[u8], tag: Tag, depth: usize, shift: u64, n: u64, gap: bool) -> Meant
     requires { ⌜ TagIn (now s) tag ⌝ ∗ ⌜ shift ≤ 1680 ⌝ ∗ ⌜ n < 2 ^ 60 ⌝ }
     ensures within { λ r. ⌜ (tag .end ≤ r .end) × (r .end ≤ length (now (s .entry))) ⌝ }
     ensures tells { λ r. ⌜ MeansElement (now (s .entry)) tag depth shift (placeOf n gap) r ⌝ }
 {
     let shape = shape_of(s, tag);
-    match shape {
-        Shape::Single => {
-            let w = interval_of(s, tag, depth, shift);
-            let v = w.interval;
-            Meant {
-                is: is_in(v, n, gap) & w.known,
-                end: w.end,
-            }
+    let op = match shape {
+        Shape::Single => return in_single(s, tag, depth, shift, n, gap),
+        Shape::Members(op) => op,
+        Shape::Other => {
+            return Meant {
+                is: false,
+                end: past_element(s, tag, depth),
+            };
         }
-        Shape::Members(op) => in_members(s, tag, depth, shift, op, n, gap),
-        Shape::Other => Meant {
-            is: false,
-            end: past_element(s, tag, depth),
-        },
-    }
-}
-
-// Whether a tick, or the gap after it, is in the set that the members in the element of a tag write.
-fn in_members(s: &[u8], tag: Tag, depth: usize, shift: u64, op: Op, n: u64, gap: bool) -> Meant
-    requires { ⌜ TagIn (now s) tag ⌝ ∗ ⌜ shift ≤ 1680 ⌝ ∗ ⌜ n < 2 ^ 60 ⌝ }
-    ensures within { λ r. ⌜ (tag .end ≤ r .end) × (r .end ≤ length (now (s .entry))) ⌝ }
-    ensures tells { λ r. ⌜ MeansMembers (now (s .entry)) tag depth shift op (placeOf n gap) r ⌝ }
-{
+    };
     let mut so_far = in_none(op);
     let mut any = false;
     let mut at = tag.end;
-    if !(tag.full & (depth != 0)) {
-        return Meant {
-            is: so_far,
-            end: at,
-        };
-    }
     loop {
-        let i = skip_space(s, at);
-        if !is_child(s, i) {
-            return Meant {
-                is: so_far,
-                end: past_end_tag(s, i, tag),
-            };
+        let next = next_inside(s, tag, depth, at);
+        match next {
+            Inside::Child(i) => {
+                let child = tag::read(s, i);
+                let member = is_meant_at(s, child, depth - 1, shift, n, gap);
+                so_far = in_both(op, any, so_far, member.is);
+                any = true;
+                at = member.end;
+            }
+            Inside::Past(end) => return Meant { is: so_far, end },
         }
-        let child = tag::read(s, i);
-        let member = is_meant_at(s, child, depth - 1, shift, n, gap);
-        so_far = in_both(op, any, so_far, member.is);
-        any = true;
-        at = member.end;
     }
 }

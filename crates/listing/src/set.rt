@@ -1,31 +1,28 @@
 // The set of times that an element writes, put together from the intervals in it.
 ghost use mathlib.Core.Path.{_≡_};
-ghost use mathlib.Core.Bool.{true, false};
+ghost use mathlib.Core.Bool.{false};
 ghost use mathlib.Core.List.{List};
-ghost use mathlib.Core.Option.{Option, none};
+ghost use mathlib.Core.Option.{Option};
 ghost use Prim.Native.Nat.{ℕ, _≤_};
-ghost use lib.ListN.{length};
+ghost use lib.ListN.{length, drop};
 ghost use Rattle.rules.specs.Markup.{Element};
-ghost use Rattle.rules.specs.Sets.{Expression, interval};
-ghost use Rattle.interval.specs.Meaning.{Ticked, opOf};
+ghost use Rattle.rules.specs.Sets.{Expression};
+ghost use Rattle.rules.specs.Listing.{intervalOf};
+ghost use Rattle.interval.specs.Meaning.{opOf};
 ghost use Rattle.element.specs.Tags.{TagOf, TagIn};
-ghost use Rattle.listing.specs.Bounds.{writtenMeant};
-ghost use Rattle.listing.specs.Sets.{shapeOf, WritesAs, Formed, IsSet, Says, SoFar, put, expressed, SaysElement, SaysMembers};
-use crate::bound::Written;
+ghost use Rattle.listing.specs.Sets.{shapeOf, WritesAs, Formed, IsSet, Says, SoFar, put, expressed, SaysElement};
 use crate::bound::interval_of;
+use datatype::inside::Inside;
+use datatype::inside::next_inside;
 use datatype::kind::Kind;
 use datatype::kind::Named;
 use datatype::kind::type_at;
 use element::name::NULL_FLAVOR;
 use element::name::XSI_TYPE;
-use element::row::is_child;
-use element::row::past_end_tag;
 use element::tag;
 use element::tag::Tag;
-use interval::Interval;
 use interval::Op;
 use interval::Stretches;
-use markup::scan::skip_space;
 
 // What an element writes, by its type: one interval, or a set of members that an operation puts together, or neither.
 pub enum Shape {
@@ -68,7 +65,8 @@ pub fn shape_of(s: &[u8], tag: Tag) -> Shape
     shape_of_kind(kind)
 }
 
-// The set of no members, which is not known.
+// A set that is not known, with no interval written in it: that of an element that is null, or of a type that writes neither an interval nor
+// members; and that of members before the first is read.
 fn nothing(end: usize) -> Evaluated
     ensures { λ r. ⌜ Formed r × (r .known ≡ false) × (r .count ≡ 0) × (r .end ≡ end) ⌝ }
 {
@@ -81,11 +79,14 @@ fn nothing(end: usize) -> Evaluated
     }
 }
 
-// The set of the one interval that an element writes.
-fn of_single(w: Written) -> Evaluated
-    requires { ⌜ Ticked (w .interval .low) ⌝ ∗ ⌜ Ticked (w .interval .high) ⌝ }
-    ensures { λ r. ⌜ Formed r × Says (expressed (writtenMeant w)) r × (r .end ≡ w .end) ⌝ }
+// The set of the one interval that the element of a tag writes, where `depth` may be open at once.
+fn of_single(s: &[u8], tag: Tag, depth: usize, shift: u64) -> Evaluated
+    requires { ⌜ TagIn (now s) tag ⌝ ∗ ⌜ shift ≤ 1680 ⌝ }
+    ensures formed { λ r. ⌜ Formed r ⌝ }
+    ensures within { λ r. ⌜ (tag .end ≤ r .end) × (r .end ≤ length (now (s .entry))) ⌝ }
+    ensures tells { λ r. ⌜ ((v : Element) (after : List ℕ) → TagOf (now (s .entry)) depth v after tag → Says (expressed (intervalOf shift (v .attrs) (v .kids))) r × (after ≡ drop (r .end) (now (s .entry)))) ⌝ }
 {
+    let w = interval_of(s, tag, depth, shift);
     let v = w.interval;
     let set = interval::single(v);
     Evaluated {
@@ -126,8 +127,8 @@ fn join(op: Op, a: Evaluated, b: Evaluated) -> Evaluated
     }
 }
 
-// The set that the element of a tag writes, where `depth` may be open at once. It calls the reader of members, which calls it, with `depth`
-// falling.
+// The set that the element of a tag writes, where `depth` may be open at once: that of its one interval, or of its members, put together
+// from the first on. It calls itself for the members, with `depth` falling. The first member that is not known ends it.
 pub fn evaluate(s: &[u8], tag: Tag, depth: usize, shift: u64) -> Evaluated
     requires { ⌜ TagIn (now s) tag ⌝ ∗ ⌜ shift ≤ 1680 ⌝ }
     ensures formed { λ r. ⌜ Formed r ⌝ }
@@ -138,37 +139,29 @@ pub fn evaluate(s: &[u8], tag: Tag, depth: usize, shift: u64) -> Evaluated
         return nothing(tag.end);
     }
     let shape = shape_of(s, tag);
-    match shape {
-        Shape::Single => of_single(interval_of(s, tag, depth, shift)),
-        Shape::Members(op) => evaluate_members(s, tag, depth, shift, op),
-        Shape::Other => nothing(tag.end),
-    }
-}
-
-// The set that the members in the element of a tag write, put together from the first on. The first that is not known ends it.
-fn evaluate_members(s: &[u8], tag: Tag, depth: usize, shift: u64, op: Op) -> Evaluated
-    requires { ⌜ TagIn (now s) tag ⌝ ∗ ⌜ shift ≤ 1680 ⌝ }
-    ensures formed { λ r. ⌜ Formed r ⌝ }
-    ensures within { λ r. ⌜ (tag .end ≤ r .end) × (r .end ≤ length (now (s .entry))) ⌝ }
-    ensures tells { λ r. ⌜ SaysMembers (now (s .entry)) tag depth shift op r ⌝ }
-{
+    let op = match shape {
+        Shape::Single => return of_single(s, tag, depth, shift),
+        Shape::Members(op) => op,
+        Shape::Other => return nothing(tag.end),
+    };
     let mut so_far = nothing(tag.end);
     let mut at = tag.end;
-    if !(tag.full & (depth != 0)) {
-        return so_far;
-    }
     loop {
-        let i = skip_space(s, at);
-        if !is_child(s, i) {
-            so_far.end = past_end_tag(s, i, tag);
-            return so_far;
+        let next = next_inside(s, tag, depth, at);
+        match next {
+            Inside::Child(i) => {
+                let child = tag::read(s, i);
+                let member = evaluate(s, child, depth - 1, shift);
+                if !member.known {
+                    return member;
+                }
+                so_far = join(op, so_far, member);
+                at = member.end;
+            }
+            Inside::Past(end) => {
+                so_far.end = end;
+                return so_far;
+            }
         }
-        let child = tag::read(s, i);
-        let member = evaluate(s, child, depth - 1, shift);
-        if !member.known {
-            return member;
-        }
-        so_far = join(op, so_far, member);
-        at = member.end;
     }
 }
