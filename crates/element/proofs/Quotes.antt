@@ -10,13 +10,14 @@ use lib.Dec.{eqb}
 use lib.ListN.{length, drop, getD, length-drop, drop-of-length-le}
 use lib.Seq.{drop-drop}
 use Rattle.rules.specs.Basics.{bytes, every}
-use Rattle.rules.specs.Parsers.{Parsed, bad, ok, next, else, opposite, pure, _>>=_, _>>_, _or_, after, one, many, byte, literal, sized}
-use Rattle.rules.specs.Markup.{space, isPlain, reference, noncharacter, char, text, value}
+use Rattle.rules.specs.Parsers.{Parsed, Parser, bad, ok, next, else, opposite, pure, _>>=_, _>>_, _or_, after, one, many, byte, literal, sized}
+use Rattle.rules.specs.Markup.{space, isPlain, reference, noncharacter, char, text, value, Attribute}
 use Rattle.rules.proofs.Parsers.{next-ok, map-ok, cons-ok, else-ok, one-ok, byte-ok}
 use Rattle.rules.proofs.Tests.{clash, every-true}
 use Rattle.text.specs.Reads.{Good}
 use Rattle.text.proofs.Reading.{here}
 use Rattle.element.specs.Texts.{isBare}
+use Rattle.element.specs.Carried.{valueOf}
 
 -- what follows the first quote of a text
 abbrev pastQuote : List ℕ → List ℕ
@@ -34,25 +35,19 @@ literal-bare (b ∷ bs) h s q =
     let (d, more) = every-true isBare b bs h in
     next-ok (byte b s) (λ c. literal bs) q (λ c t x y. literal-bare bs more t y ∙ rw (byte-ok b s x) (bare b t (not-true _ d)))
 
-written-bare : (bs : List ℕ) (c : ℕ) → every isBare bs ≡ true → (s : List ℕ) {x : ℕ} {r : List ℕ} → (literal bs >> pure c) s ≡ ok x r
-    → pastQuote r ≡ pastQuote s
-written-bare bs c h s q = let (u, y, z) = map-ok (literal bs s) (λ u. c) q in literal-bare bs h s y
+abbrev Bare : Parser ℕ → Type 0
+Bare p = (s : List ℕ) (x : ℕ) (r : List ℕ) → p s ≡ ok x r → pastQuote r ≡ pastQuote s
 
-reference-bare : (s : List ℕ) {x : ℕ} {r : List ℕ} → reference s ≡ ok x r → pastQuote r ≡ pastQuote s
+written-bare : (bs : List ℕ) (c : ℕ) → every isBare bs ≡ true → Bare (literal bs >> pure c)
+written-bare bs c h s x r q = let (u, y, z) = map-ok (literal bs s) (λ u. c) q in literal-bare bs h s y
+
+or-bare : (p q : Parser ℕ) → Bare p → Bare q → Bare (p or q)
+or-bare p q f g s x r e = elim (else-ok (p s) (q s) e) [ inl h ↦ f s x r h | inr h ↦ g s x r h ]
+
+reference-bare : Bare reference
 unfolding reference every
-reference-bare s q = elim (else-ok ((literal (bytes "&amp;") >> pure 38) s) _ q) [
-  | inl e ↦ written-bare (bytes "&amp;") 38 refl s e
-  | inr q ↦ elim (else-ok ((literal (bytes "&lt;") >> pure 60) s) _ q) [
-    | inl e ↦ written-bare (bytes "&lt;") 60 refl s e
-    | inr q ↦ elim (else-ok ((literal (bytes "&gt;") >> pure 62) s) _ q) [
-      | inl e ↦ written-bare (bytes "&gt;") 62 refl s e
-      | inr q ↦ elim (else-ok ((literal (bytes "&quot;") >> pure 34) s) _ q) [
-        | inl e ↦ written-bare (bytes "&quot;") 34 refl s e
-        | inr e ↦ written-bare (bytes "&apos;") 39 refl s e
-      ]
-    ]
-  ]
-]
+reference-bare = or-bare _ _ (written-bare (bytes "&amp;") 38 refl) (or-bare _ _ (written-bare (bytes "&lt;") 60 refl) (or-bare _ _ (written-bare (bytes "&gt;") 62 refl)
+    (or-bare _ _ (written-bare (bytes "&quot;") 34 refl) (written-bare (bytes "&apos;") 39 refl))))
 
 unread : (w : Parsed (Unit {0})) (s : List ℕ) {u : Unit {0}} {r : List ℕ} → opposite w s ≡ ok u r → r ≡ s
 unread bad s q = cc
@@ -64,7 +59,7 @@ char-bare c s e {x} {r} q =
     next-ok (opposite (noncharacter (c ∷ s)) (c ∷ s)) (λ u. one isPlain or reference) q (λ u t y z.
     elim (else-ok (one isPlain (c ∷ s)) _ (rw (unread (noncharacter (c ∷ s)) (c ∷ s) y) at z)) [
       | inl f ↦ let w : c ∷ s ≡ x ∷ r = one-ok isPlain (c ∷ s) f .0 in let d : s ≡ r = cc in rw (← d) (bare c s e)
-      | inr f ↦ reference-bare (c ∷ s) f
+      | inr f ↦ reference-bare (c ∷ s) x r f
     ])
 
 no-text : {P : Type 0} (f : ℕ) {v r : List ℕ} → text (suc f) [] ≡ ok v r → P
@@ -128,14 +123,14 @@ pub past-end : (s : List ℕ) (i : ℕ) → length s ≤ i → drop (length s) s
 past-end s i h = rw (drop-of-length-le s {i = length s} (omega arith), drop-of-length-le s {i = i + 1} (omega (arith, h)))
 
 -- the value of an attribute stands past the equals sign, if there is one
-module _ {s : List ℕ} {at i : ℕ} (g : Good 0 space s at i) {v left : List ℕ} (q : (space >> byte 61 >> space >> value) (drop at s) ≡ ok v left) where
-  pub equals : (i < length s) × ((space >> value) (drop (i + 1) s) ≡ ok v left)
-  equals = next-ok (byte 61 (drop i s)) (λ c. space >> value) (rw (g .reads) at q) (λ c t x y.
-      let (h, z) = after-byte s i (byte-ok 61 (drop i s) x) in
-      (h, rw z at y))
+module _ {s : List ℕ} {at i : ℕ} (g : Good 0 space s at i) (n : List ℕ) {a : Attribute} {left : List ℕ} (q : (space >> byte 61 >> space >> valueOf n) (drop at s) ≡ ok a left) where
+  pub equals : (i < length s) × ((space >> valueOf n) (drop (i + 1) s) ≡ ok a left)
+  equals = next-ok (byte 61 (drop i s)) (λ c. space >> valueOf n) (rw (g .reads) at q) (λ c t x y. let (h, z) = after-byte s i (byte-ok 61 (drop i s) x) in (h, rw z at y))
 
-  pub valued : {j : ℕ} → Good 0 space s (i + 1) j → (j < length s) × (value (drop j s) ≡ ok v left)
-  valued {j} h = let y = rw (h .reads) at (equals .1) in (value-past s j y .0, y)
+  pub valued : {j : ℕ} → Good 0 space s (i + 1) j → (j < length s) × (a .name ≡ n) × (value (drop j s) ≡ ok (a .value) left)
+  valued {j} h =
+      let (v, y, w) = map-ok (value (drop j s)) (λ v. record { name = n; value = v }) (rw (h .reads) at (equals .1)) in
+      (value-past s j y .0, ap (λ (b : Attribute). b .name) (sym w), y ∙ ap (λ (b : Attribute). ok (b .value) left) w)
 
 -- no value at the end of a text
 pub no-value : {P : Type 0} (s : List ℕ) {at : ℕ} → length s ≤ at → {v r : List ℕ} → value (drop at s) ≡ ok v r → P

@@ -10,11 +10,16 @@ use Rattle.element.specs.Tags.{Tells, count, isNamespace, isOther}
 use Rattle.element.specs.declared.tag.Carried.{Carried}
 use Rattle.element.specs.declared.tag.Tag.{Tag}
 
--- the value stands at r of an attribute whose name ends at a position, if there is one
+-- the value of an attribute of a name
+abbrev pub valueOf : List ℕ → Parser Attribute
+valueOf n = value >>= (λ v. pure (record { name = n; value = v }))
+
+-- the value of an attribute stands at r, if there is one, and its name ends at a position
 pub record PastEquals (s : List ℕ) (at r : ℕ) : Type 0 where
   pub low : at ≤ r + 1
   pub high : r < length s
-  pub past : (v left : List ℕ) → (space >> byte 61 >> space >> value) (drop at s) ≡ ok v left → (at < r) × (value (drop r s) ≡ ok v left)
+  pub past : (n : List ℕ) (a : Attribute) (left : List ℕ) → (space >> byte 61 >> space >> valueOf n) (drop at s) ≡ ok a left
+      → (at < r) × (a .name ≡ n) × (value (drop r s) ≡ ok (a .value) left)
 
 -- the attributes l stand from a position on, and the text goes on after them with something that is no name
 pub record AttributesTo (s : List ℕ) (at : ℕ) (l : List Attribute) (left : List ℕ) : Type 0 where

@@ -95,13 +95,14 @@ fn read_carried(s: &[u8], at: usize) -> Carried
         };
         let value = past_equals(s, name_end);
         end = crate::value::end(s, value);
-        let n = number_of(&s[i..name_end]);
+        let name = &s[i..name_end];
+        let n = number_of(name);
         if n < KNOWN {
             if places[n] == 0 {
                 places[n] = value;
             }
         } else {
-            let space = begins_with(&s[i..name_end], b"xmlns");
+            let space = begins_with(name, b"xmlns");
             others = others + one_if(!space);
             spaces = spaces + one_if(space);
         }

@@ -25,7 +25,9 @@ returns : tie.Need-returns
 returns c = record {
   low = omega (arith, c .before .before .before .skip-space .ensures .low, c .before .skip-space2 .ensures .low);
   high = c .if2 .taken;
-  past = λ v left q. (omega (arith, c .before .before .before .skip-space .ensures .low, c .before .skip-space2 .ensures .low), valued (c .before .before .before .skip-space .ensures) q (c .before .skip-space2 .ensures) .1);
+  past = λ n a left q.
+      let (l, w, h) = valued (c .before .before .before .skip-space .ensures) n q (c .before .skip-space2 .ensures) in
+      (omega (arith, c .before .before .before .skip-space .ensures .low, c .before .skip-space2 .ensures .low), w, h);
 }
 
 -- src/tag.rt:72:5
@@ -37,9 +39,9 @@ returns-2 : tie.Need-returns-2
 returns-2 c = record {
   low = omega arith;
   high = omega arith;
-  past = λ v left q. elim (c .if1 .came) [
-    | inl (a, b, d) ↦ absurd (omega (arith, d .left, valued (c .before .skip-space .ensures) q (b .ensures) .0))
-    | inr d ↦ absurd (omega (arith, d .left, equals (c .before .skip-space .ensures) q .0))
+  past = λ n a left q. elim (c .if1 .came) [
+    | inl (t, b, d) ↦ absurd (omega (arith, d .left, valued (c .before .skip-space .ensures) n q (b .ensures) .0))
+    | inr d ↦ absurd (omega (arith, d .left, equals (c .before .skip-space .ensures) n q .0))
   ];
 }
 

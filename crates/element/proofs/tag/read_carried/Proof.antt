@@ -18,10 +18,10 @@ use Rattle.markup.proofs.scan.skip_space.Reads as skip-space-reads
 use Rattle.text.proofs.begins_with.Reads as begins-with-reads
 
 abbrev Inv-loop : tie.InvT-loop
-Inv-loop s at places₀ others₀ spaces₀ end₀ t13 places others spaces end = So s at (record { places = places; others = others; spaces = spaces; end = end })
+Inv-loop s at places₀ others₀ spaces₀ end₀ t14 places others spaces end = So s at (record { places = places; others = others; spaces = spaces; end = end })
 
 abbrev μ-loop : tie.MeasureT-loop
-μ-loop s at places₀ others₀ spaces₀ end₀ t13 places others spaces end = length s - end
+μ-loop s at places₀ others₀ spaces₀ end₀ t14 places others spaces end = length s - end
 
 -- src/tag.rt:85:5
 loop-holds : tie.Need-loop-holds Inv-loop μ-loop
@@ -29,7 +29,7 @@ loop-holds c = so-none (c .before .args .at) (c .before .pre)
 
 -- src/tag.rt:86:13
 skip-space-requires : tie.Need-skip-space-requires Inv-loop μ-loop
-skip-space-requires c κs = c .loop .inv .high
+skip-space-requires c κs = c .loop .inv .within .high
 
 -- src/tag.rt:87:13
 read-name-requires : tie.Need-read-name-requires Inv-loop μ-loop
@@ -55,35 +55,35 @@ past-equals-requires c κs = let g = found (c .before .named .given .1) (c .befo
 end-requires : tie.Need-end-requires Inv-loop μ-loop
 end-requires c κs = omega (arith, c .past-equals .ensures .high)
 
--- src/tag.rt:98:27
-sub-number-of : tie.Need-sub-number-of Inv-loop μ-loop
-sub-number-of c = omega (arith, found (c .before .before .before .named .given .1) (c .before .before .before .before .before .read-name .ensures) .low)
+-- src/tag.rt:98:20
+sub-name : tie.Need-sub-name Inv-loop μ-loop
+sub-name c = omega (arith, found (c .before .before .before .named .given .1) (c .before .before .before .before .before .read-name .ensures) .low)
 
--- src/tag.rt:98:27
-part-number-of-start : tie.Need-part-number-of-start Inv-loop μ-loop
-part-number-of-start c = omega (arith, found (c .before .before .before .named .given .1) (c .before .before .before .before .before .read-name .ensures) .low)
+-- src/tag.rt:98:20
+part-name-start : tie.Need-part-name-start Inv-loop μ-loop
+part-name-start c = omega (arith, found (c .before .before .before .named .given .1) (c .before .before .before .before .before .read-name .ensures) .low)
 
--- src/tag.rt:98:27
-part-number-of-end : tie.Need-part-number-of-end Inv-loop μ-loop
-part-number-of-end c = found (c .before .before .before .named .given .1) (c .before .before .before .before .before .read-name .ensures) .high
+-- src/tag.rt:98:20
+part-name-end : tie.Need-part-name-end Inv-loop μ-loop
+part-name-end c = found (c .before .before .before .named .given .1) (c .before .before .before .before .before .read-name .ensures) .high
 
--- src/tag.rt:98:13
+-- src/tag.rt:99:13
 number-of-requires : tie.Need-number-of-requires Inv-loop μ-loop
 number-of-requires c κs = search needs
 
--- src/tag.rt:100:16
+-- src/tag.rt:101:16
 mul-if2 : tie.Need-mul-if2 Inv-loop μ-loop
 mul-if2 c = search needs
 
--- src/tag.rt:100:16
+-- src/tag.rt:101:16
 array-read-if2 : tie.Need-array-read-if2 Inv-loop μ-loop
 array-read-if2 c = search needs
 
--- src/tag.rt:101:17
+-- src/tag.rt:102:17
 mul-places : tie.Need-mul-places Inv-loop μ-loop
 mul-places c = search needs
 
--- src/tag.rt:101:17
+-- src/tag.rt:102:17
 array-write-places : tie.Need-array-write-places Inv-loop μ-loop
 array-write-places c = search needs
 
@@ -103,49 +103,37 @@ loop-less-2 c = omega (arith, further (turn (c .before .before .before .before .
 loop-again-2 : tie.Need-loop-again-2 Inv-loop μ-loop
 loop-again-2 c = so-step _ (c .before .before .before .before .before .before .before .before .before .before .before .loop .inv) (turn (c .before .before .before .before .before .before .before .before .before .before .skip-space .ensures) (c .before .before .before .before .before .before .before .named .given .1) (c .before .before .before .before .before .before .before .before .before .read-name .ensures) (c .before .before .before .before .before .past-equals .ensures) (c .before .before .before .before .end .ensures .0) (c .before .before .before .before .end .ensures .1)) (c .before .before .number-of .ensures) (kept (λ h. c .if2 .left)) (known-counted _ (c .before .before .number-of .ensures) (c .before .if1 .taken))
 
--- src/tag.rt:104:37
-sub-begins-with : tie.Need-sub-begins-with Inv-loop μ-loop
-sub-begins-with c = omega (arith, found (c .before .before .before .before .before .before .named .given .1) (c .before .before .before .before .before .before .before .before .read-name .ensures) .low)
-
--- src/tag.rt:104:37
-part-begins-with-start : tie.Need-part-begins-with-start Inv-loop μ-loop
-part-begins-with-start c = omega (arith, found (c .before .before .before .before .before .before .named .given .1) (c .before .before .before .before .before .before .before .before .read-name .ensures) .low)
-
--- src/tag.rt:104:37
-part-begins-with-end : tie.Need-part-begins-with-end Inv-loop μ-loop
-part-begins-with-end c = found (c .before .before .before .before .before .before .named .given .1) (c .before .before .before .before .before .before .before .before .read-name .ensures) .high
-
--- src/tag.rt:104:54
+-- src/tag.rt:105:43
 slice-aggregate-begins-with : tie.Need-slice-aggregate-begins-with Inv-loop μ-loop
 slice-aggregate-begins-with c = search needs
 
--- src/tag.rt:104:17
+-- src/tag.rt:105:17
 begins-with-requires : tie.Need-begins-with-requires Inv-loop μ-loop
 begins-with-requires c κs = search needs
 
--- src/tag.rt:105:31
+-- src/tag.rt:106:31
 one-if-requires : tie.Need-one-if-requires Inv-loop μ-loop
 one-if-requires c κs = search needs
 
--- src/tag.rt:105:22
+-- src/tag.rt:106:22
 add-others : tie.Need-add-others Inv-loop μ-loop
-add-others c = omega (arith, c .before .before .before .before .before .before .before .before .before .before .before .before .before .before .loop .inv .others, further (turn (c .before .before .before .before .before .before .before .before .before .before .before .before .before .skip-space .ensures) (c .before .before .before .before .before .before .before .before .before .before .named .given .1) (c .before .before .before .before .before .before .before .before .before .before .before .before .read-name .ensures) (c .before .before .before .before .before .before .before .before .past-equals .ensures) (c .before .before .before .before .before .before .before .end .ensures .0) (c .before .before .before .before .before .before .before .end .ensures .1)), c .one-if .ensures .1, c .before .before .before .before .before .before .before .end .ensures .1 .0)
+add-others c = omega (arith, c .before .before .before .before .before .before .before .before .before .before .before .before .before .loop .inv .others, further (turn (c .before .before .before .before .before .before .before .before .before .before .before .before .skip-space .ensures) (c .before .before .before .before .before .before .before .before .before .named .given .1) (c .before .before .before .before .before .before .before .before .before .before .before .read-name .ensures) (c .before .before .before .before .before .before .before .past-equals .ensures) (c .before .before .before .before .before .before .end .ensures .0) (c .before .before .before .before .before .before .end .ensures .1)), c .one-if .ensures .1, c .before .before .before .before .before .before .end .ensures .1 .0)
 
--- src/tag.rt:106:31
+-- src/tag.rt:107:31
 one-if-requires-2 : tie.Need-one-if-requires-2 Inv-loop μ-loop
 one-if-requires-2 c κs = search needs
 
--- src/tag.rt:106:22
+-- src/tag.rt:107:22
 add-spaces : tie.Need-add-spaces Inv-loop μ-loop
-add-spaces c = omega (arith, c .before .before .before .before .before .before .before .before .before .before .before .before .before .before .before .loop .inv .spaces, further (turn (c .before .before .before .before .before .before .before .before .before .before .before .before .before .before .skip-space .ensures) (c .before .before .before .before .before .before .before .before .before .before .before .named .given .1) (c .before .before .before .before .before .before .before .before .before .before .before .before .before .read-name .ensures) (c .before .before .before .before .before .before .before .before .before .past-equals .ensures) (c .before .before .before .before .before .before .before .before .end .ensures .0) (c .before .before .before .before .before .before .before .before .end .ensures .1)), c .one-if2 .ensures .1, c .before .before .before .before .before .before .before .before .end .ensures .1 .0)
+add-spaces c = omega (arith, c .before .before .before .before .before .before .before .before .before .before .before .before .before .before .loop .inv .spaces, further (turn (c .before .before .before .before .before .before .before .before .before .before .before .before .before .skip-space .ensures) (c .before .before .before .before .before .before .before .before .before .before .named .given .1) (c .before .before .before .before .before .before .before .before .before .before .before .before .read-name .ensures) (c .before .before .before .before .before .before .before .before .past-equals .ensures) (c .before .before .before .before .before .before .before .end .ensures .0) (c .before .before .before .before .before .before .before .end .ensures .1)), c .one-if2 .ensures .1, c .before .before .before .before .before .before .before .end .ensures .1 .0)
 
 -- src/tag.rt:85:5
 loop-less-3 : tie.Need-loop-less-3 Inv-loop μ-loop
-loop-less-3 c = omega (arith, further (turn (c .before .before .before .before .before .before .before .before .before .before .before .before .before .before .skip-space .ensures) (c .before .before .before .before .before .before .before .before .before .before .before .named .given .1) (c .before .before .before .before .before .before .before .before .before .before .before .before .before .read-name .ensures) (c .before .before .before .before .before .before .before .before .before .past-equals .ensures) (c .before .before .before .before .before .before .before .before .end .ensures .0) (c .before .before .before .before .before .before .before .before .end .ensures .1)), c .before .before .before .before .before .before .before .before .end .ensures .1 .0)
+loop-less-3 c = omega (arith, further (turn (c .before .before .before .before .before .before .before .before .before .before .before .before .before .skip-space .ensures) (c .before .before .before .before .before .before .before .before .before .before .named .given .1) (c .before .before .before .before .before .before .before .before .before .before .before .before .read-name .ensures) (c .before .before .before .before .before .before .before .before .past-equals .ensures) (c .before .before .before .before .before .before .before .end .ensures .0) (c .before .before .before .before .before .before .before .end .ensures .1)), c .before .before .before .before .before .before .before .end .ensures .1 .0)
 
 -- src/tag.rt:85:5
 loop-again-3 : tie.Need-loop-again-3 Inv-loop μ-loop
-loop-again-3 c = so-step _ (c .before .before .before .before .before .before .before .before .before .before .before .before .before .before .before .loop .inv) (turn (c .before .before .before .before .before .before .before .before .before .before .before .before .before .before .skip-space .ensures) (c .before .before .before .before .before .before .before .before .before .before .before .named .given .1) (c .before .before .before .before .before .before .before .before .before .before .before .before .before .read-name .ensures) (c .before .before .before .before .before .before .before .before .before .past-equals .ensures) (c .before .before .before .before .before .before .before .before .end .ensures .0) (c .before .before .before .before .before .before .before .before .end .ensures .1)) (c .before .before .before .before .before .before .number-of .ensures) (kept (λ h. absurd (omega (arith, h, c .before .before .before .before .before .if1 .left)))) (other-counted _ _ _ (c .before .before .before .before .before .before .number-of .ensures) (c .before .before .before .before .before .if1 .left) (c .before .before .begins-with .ensures) (c .before .one-if .ensures .0) (c .one-if2 .ensures .0))
+loop-again-3 c = so-step _ (c .before .before .before .before .before .before .before .before .before .before .before .before .before .before .loop .inv) (turn (c .before .before .before .before .before .before .before .before .before .before .before .before .before .skip-space .ensures) (c .before .before .before .before .before .before .before .before .before .before .named .given .1) (c .before .before .before .before .before .before .before .before .before .before .before .before .read-name .ensures) (c .before .before .before .before .before .before .before .before .past-equals .ensures) (c .before .before .before .before .before .before .before .end .ensures .0) (c .before .before .before .before .before .before .before .end .ensures .1)) (c .before .before .before .before .before .number-of .ensures) (kept (λ h. absurd (omega (arith, h, c .before .before .before .before .if1 .left)))) (other-counted _ _ _ (c .before .before .before .before .before .number-of .ensures) (c .before .before .before .before .if1 .left) (c .before .before .begins-with .ensures) (c .before .one-if .ensures) (c .one-if2 .ensures))
 
 pub read-carried-spec : {M : Type 1} → statement M
 read-carried-spec =
@@ -161,9 +149,9 @@ read-carried-spec =
     returns
     past-equals-requires
     end-requires
-    sub-number-of
-    part-number-of-start
-    part-number-of-end
+    sub-name
+    part-name-start
+    part-name-end
     number-of-requires
     mul-if2
     array-read-if2
@@ -173,9 +161,6 @@ read-carried-spec =
     loop-again
     loop-less-2
     loop-again-2
-    sub-begins-with
-    part-begins-with-start
-    part-begins-with-end
     slice-aggregate-begins-with
     begins-with-requires
     one-if-requires
