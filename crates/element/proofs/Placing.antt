@@ -1,19 +1,19 @@
 -- The attributes of a start tag put into their places, one after another.
 use Prim.Native.Nat.{ℕ, zero, suc, _+_, _-_, _≤_, _<_}
-use mathlib.Core.Path.{_≡_, refl, sym, _∙_, ap, subst}
+use mathlib.Core.Path.{_≡_, refl, sym, _∙_, ap}
 use mathlib.Core.Bool.{Bool, true, false, not, _||_, cond}
 use mathlib.Core.List.{List, [], _∷_}
 use mathlib.Core.Logic.{inl, inr}
 use mathlib.Core.Option.{Option, none, some}
 use native.Mathlib.Omega.{arith}
 use borrow.Author.Tests.{eqb-true, eqb-false, lt-ltb, le-ltb, not-true}
-use lib.Dec.{eqb, ltb}
+use lib.Dec.{eqb}
 use lib.ListN.{length, take, drop, getD, set, replicate, length-set}
 use lib.Seq.{getD-set-same, getD-set-other}
-use Rattle.rules.specs.Basics.{bytes, begins, same}
-use Rattle.rules.specs.Parsers.{Parsed, bad, ok, pure, _>>=_, _>>_, after, one, many, byte}
+use Rattle.rules.specs.Basics.{bytes, begins}
+use Rattle.rules.specs.Parsers.{bad, ok, pure, _>>=_, _>>_, after, one, many}
 use Rattle.rules.specs.Markup.{isSpace, space, someSpace, name, value, Attribute, attribute, attributes, lookup}
-use Rattle.rules.proofs.Parsers.{next-ok, map-ok, cons-ok, else-ok, one-ok}
+use Rattle.rules.proofs.Parsers.{next-ok, cons-ok, else-ok, one-ok}
 use Rattle.rules.proofs.Tests.{clash, passes, passed, same-true}
 use Rattle.text.specs.Reads.{Good, Reads}
 use Rattle.text.specs.declared.Read.{Read}
@@ -73,8 +73,7 @@ unfolding begins passes
 known-counted t {k = k} e h =
     let g : numberOf t < known = omega (arith, e, h) in
     let n : t ≡ nameAt (numberOf t) = same-true _ _ (number-name t g) in
-    let f : begins (bytes "xmlns") (nameAt (numberOf t)) ≡ false = not-true _ (passed known (λ k. not (begins (bytes "xmlns") (nameAt k))) (numberOf t) refl g) in
-    let z : begins (bytes "xmlns") t ≡ false = ap (begins (bytes "xmlns")) n ∙ f in
+    let z : begins (bytes "xmlns") t ≡ false = ap (begins (bytes "xmlns")) n ∙ not-true _ (passed known (λ k. not (begins (bytes "xmlns") (nameAt k))) (numberOf t) refl g) in
     (rw (lt-ltb (numberOf t) known g) (omega arith), rw z (omega arith), omega arith, omega arith)
 
 pub other-counted : (t : List ℕ) (o p : ℕ) {k x y : ℕ} {b : Bool} → k ≡ numberOf t → known ≤ k → b ≡ begins (bytes "xmlns") t → (x ≡ cond (not b) 1 0) × (x ≤ 1) → (y ≡ cond b 1 0) × (y ≤ 1)
@@ -102,8 +101,7 @@ unfolding attributes
 following g zero q = nothing (cc) (cc)
 following {s} {i} {j} g (suc f) q = elim (else-ok ((someSpace >> attribute >>= (λ a. attributes f >>= (λ l. pure (a ∷ l)))) (drop i s)) _ q) [
   | inl x ↦ next-ok (someSpace (drop i s)) (λ u. attribute >>= (λ a. attributes f >>= (λ l. pure (a ∷ l)))) x (λ u t y z.
-      let e : t ≡ drop j s = same-space (drop i s) y (g .reads) in
-      let (a, r, m, h, k, w) = cons-ok (attribute (drop j s)) (attributes f) (rw e at z) in
+      let (a, r, m, h, k, w) = cons-ok (attribute (drop j s)) (attributes f) (rw (same-space (drop i s) y (g .reads)) at z) in
       one-more f a r m h k w)
   | inr x ↦ nothing (cc) (cc)
 ]
@@ -146,8 +144,7 @@ pub record Done (s : List ℕ) (c : Carried) (l : List Attribute) (left : List �
 pub record So (s : List ℕ) (at : ℕ) (c : Carried) : Type 0 where
   pub within : CarriedIn s at c
   pub size : length (c .places) ≡ known
-  pub others : c .others ≤ c .end
-  pub spaces : c .spaces ≤ c .end
+  pub few : (c .others ≤ c .end) × (c .spaces ≤ c .end)
   pub done : (l : List Attribute) (left : List ℕ) → AttributesTo s at l left → Done s c l left
 
 -- places of nothing
@@ -166,8 +163,7 @@ pub so-none : {s : List ℕ} (at : ℕ) → at ≤ length s → So s at (record 
 so-none at h = record {
   within = record { placed = λ n. rw (none-there n) (omega arith); low = omega arith; high = h };
   size = refl;
-  others = omega arith;
-  spaces = omega arith;
+  few = (omega arith, omega arith);
   done = λ l left x. record { rest = l; goes = x; each = λ k g. rw (none-there k) (not-yet refl); others = omega arith; spaces = omega arith };
 }
 
@@ -181,8 +177,7 @@ module _ {s : List ℕ} {at j n q e : ℕ} (c : Carried) (h : So s at c) (x : Tu
   so-step {k} {l} {o} {p} is y (f, g, a, b) = record {
     within = record { placed = put-low y (h .size) (length s - 1) (h .within .placed) (omega (arith, x .further, x .high)); low = omega (arith, h .within .low, further x); high = x .high };
     size = put-size y (h .size);
-    others = omega (arith, h .others, further x, a);
-    spaces = omega (arith, h .spaces, further x, b);
+    few = (omega (arith, h .few .0, further x, a), omega (arith, h .few .1, further x, b));
     done = λ m left z. more m left (h .done m left z);
   }
     where

@@ -17,7 +17,7 @@ use Rattle.rules.proofs.Tests.{clash, every-true}
 use Rattle.text.specs.Reads.{Good}
 use Rattle.text.proofs.Reading.{here}
 use Rattle.element.specs.Texts.{isBare}
-use Rattle.element.specs.Carried.{valueOf}
+use Rattle.element.specs.Carried.{valueOf, PastEquals}
 
 -- what follows the first quote of a text
 abbrev pastQuote : List ℕ → List ℕ
@@ -84,7 +84,7 @@ after-byte s at {c} {t} q =
     let h : drop at s ≡ getD s at 0 ∷ drop (at + 1) s = here s at (omega (arith, n)) in
     (omega (arith, n), cc)
 
-value-past : (s : List ℕ) (at : ℕ) {v r : List ℕ} → value (drop at s) ≡ ok v r → (at < length s) × (r ≡ pastQuote (drop (at + 1) s))
+pub value-past : (s : List ℕ) (at : ℕ) {v r : List ℕ} → value (drop at s) ≡ ok v r → (at < length s) × (r ≡ pastQuote (drop (at + 1) s))
 unfolding value
 value-past s at q = next-ok (byte 34 (drop at s)) (λ c. sized text) q (λ c t x y.
     let (h, z) = after-byte s at (byte-ok 34 (drop at s) x) in
@@ -96,8 +96,7 @@ unfolding after
 past-at [] = (0, omega arith, refl)
 past-at (c ∷ s) = go (eqb c 34) (past-at s)
   where
-    go : (b : Bool) → (e : ℕ) × (e ≤ length s) × (pastQuote s ≡ drop e s)
-        → (e : ℕ) × (e ≤ suc (length s)) × (drop 1 (cond (not b) (after isBare s) (c ∷ s)) ≡ drop e (c ∷ s))
+    go : (b : Bool) → (e : ℕ) × (e ≤ length s) × (pastQuote s ≡ drop e s) → (e : ℕ) × (e ≤ suc (length s)) × (drop 1 (cond (not b) (after isBare s) (c ∷ s)) ≡ drop e (c ∷ s))
     go true x = (1, omega arith, refl)
     go false (e, h, q) = (suc e, omega (arith, h), q)
 
@@ -108,14 +107,12 @@ value-to s at q =
     (at + 1 + e, omega (arith, h, l, length-drop (at + 1) s), p ∙ z ∙ drop-drop e (at + 1) s)
 
 -- the value ends where the first quote is past
-past-here : (s : List ℕ) {j i : ℕ} → Good 0 (many isBare) s j i → drop (i + 1) s ≡ pastQuote (drop j s)
-unfolding many
-past-here s {j} {i} g = let q = g .reads in let z : after isBare (drop j s) ≡ drop i s = cc in rw z (sym (drop-drop 1 i s))
-
 pub ends-at : (s : List ℕ) (at : ℕ) {i r : ℕ} → Good 0 (many isBare) s (at + 1) i → r ≤ length s → drop r s ≡ drop (i + 1) s
     → (v : List ℕ) (e : ℕ) → e ≤ length s → value (drop at s) ≡ ok v (drop e s) → r ≡ e
+unfolding many
 ends-at s at {i} {r} b h p v e g q =
-    let z : drop r s ≡ drop e s = p ∙ past-here s b ∙ sym (value-past s at q .1) in
+    let w : after isBare (drop (at + 1) s) ≡ drop i s = cc (b .reads) in
+    let z : drop r s ≡ drop e s = p ∙ sym (drop-drop 1 i s) ∙ ap (drop 1) (sym w) ∙ sym (value-past s at q .1) in
     let n : length s - r ≡ length s - e = sym (length-drop r s) ∙ ap length z ∙ length-drop e s in
     omega (arith, h, g, n)
 
@@ -123,15 +120,15 @@ pub past-end : (s : List ℕ) (i : ℕ) → length s ≤ i → drop (length s) s
 past-end s i h = rw (drop-of-length-le s {i = length s} (omega arith), drop-of-length-le s {i = i + 1} (omega (arith, h)))
 
 -- the value of an attribute stands past the equals sign, if there is one
-module _ {s : List ℕ} {at i : ℕ} (g : Good 0 space s at i) (n : List ℕ) {a : Attribute} {left : List ℕ} (q : (space >> byte 61 >> space >> valueOf n) (drop at s) ≡ ok a left) where
-  pub equals : (i < length s) × ((space >> valueOf n) (drop (i + 1) s) ≡ ok a left)
-  equals = next-ok (byte 61 (drop i s)) (λ c. space >> valueOf n) (rw (g .reads) at q) (λ c t x y. let (h, z) = after-byte s i (byte-ok 61 (drop i s) x) in (h, rw z at y))
+module _ {s : List ℕ} {at i : ℕ} (g : Good 0 space s at i) where
+  pub equals : (n : List ℕ) {a : Attribute} {left : List ℕ} → (space >> byte 61 >> space >> valueOf n) (drop at s) ≡ ok a left → (i < length s) × ((space >> valueOf n) (drop (i + 1) s) ≡ ok a left)
+  equals n q = next-ok (byte 61 (drop i s)) (λ c. space >> valueOf n) (rw (g .reads) at q) (λ c t x y. let (h, z) = after-byte s i (byte-ok 61 (drop i s) x) in (h, rw z at y))
 
-  pub valued : {j : ℕ} → Good 0 space s (i + 1) j → (j < length s) × (a .name ≡ n) × (value (drop j s) ≡ ok (a .value) left)
-  valued {j} h =
-      let (v, y, w) = map-ok (value (drop j s)) (λ v. record { name = n; value = v }) (rw (h .reads) at (equals .1)) in
-      (value-past s j y .0, ap (λ (b : Attribute). b .name) (sym w), y ∙ ap (λ (b : Attribute). ok (b .value) left) w)
+  module _ {j : ℕ} (h : Good 0 space s (i + 1) j) where
+    pub valued : (n : List ℕ) {a : Attribute} {left : List ℕ} → (space >> byte 61 >> space >> valueOf n) (drop at s) ≡ ok a left → (j < length s) × (a .name ≡ n) × (value (drop j s) ≡ ok (a .value) left)
+    valued n {a} {left} q =
+        let (v, y, w) = map-ok (value (drop j s)) (λ v. record { name = n; value = v }) (rw (h .reads) at (equals n q .1)) in
+        (value-past s j y .0, ap (λ (b : Attribute). b .name) (sym w), y ∙ ap (λ (b : Attribute). ok (b .value) left) w)
 
--- no value at the end of a text
-pub no-value : {P : Type 0} (s : List ℕ) {at : ℕ} → length s ≤ at → {v r : List ℕ} → value (drop at s) ≡ ok v r → P
-no-value s {at} h q = absurd (omega (arith, h, value-past s at q .0))
+    pub value-here : j < length s → PastEquals s at j
+    value-here l = record { low = omega (arith, g .low, h .low); high = l; past = λ n a left q. (omega (arith, g .low, h .low), valued n q .1, valued n q .2) }

@@ -56,8 +56,8 @@ fn one_if(so: bool) -> usize
     if so { 1 } else { 0 }
 }
 
-// Where the value stands of an attribute whose name ends at a position: past `=` and the white space around it. Where nothing stands there,
-// the last byte of the name.
+// Where the value stands of an attribute whose name ends at a position: past `=` and the white space around it; the last byte of the name,
+// if the text ends before.
 fn past_equals(s: &[u8], at: usize) -> usize
     requires { ⌜ 0 < at ⌝ ∗ ⌜ at ≤ length (now s) ⌝ }
     ensures { λ r. ⌜ PastEquals (now (s .entry)) at r ⌝ }

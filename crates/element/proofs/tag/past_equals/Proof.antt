@@ -1,7 +1,8 @@
+-- `element::tag::past_equals` meets its contract.
 use mathlib.Core.Logic.{inl, inr}
 use native.Mathlib.Omega.{arith}
 use borrow.Author.Needs.{needs}
-use Rattle.element.proofs.Quotes.{equals, valued}
+use Rattle.element.proofs.Quotes.{equals, valued, value-here}
 use Rattle.element.proofs.tag.past_equals.Statement.{statement}
 use Rattle.element.proofs.tag.past_equals.Tie as tie
 use Rattle.element.proofs.tag.past_equals.Reads as reads
@@ -22,13 +23,7 @@ skip-space-requires-2 c κs = search needs
 
 -- src/tag.rt:69:13
 returns : tie.Need-returns
-returns c = record {
-  low = omega (arith, c .before .before .before .skip-space .ensures .low, c .before .skip-space2 .ensures .low);
-  high = c .if2 .taken;
-  past = λ n a left q.
-      let (l, w, h) = valued (c .before .before .before .skip-space .ensures) n q (c .before .skip-space2 .ensures) in
-      (omega (arith, c .before .before .before .skip-space .ensures .low, c .before .skip-space2 .ensures .low), w, h);
-}
+returns c = value-here (c .before .before .before .skip-space .ensures) (c .before .skip-space2 .ensures) (c .if2 .taken)
 
 -- src/tag.rt:72:5
 sub-result : tie.Need-sub-result
@@ -40,7 +35,7 @@ returns-2 c = record {
   low = omega arith;
   high = omega arith;
   past = λ n a left q. elim (c .if1 .came) [
-    | inl (t, b, d) ↦ absurd (omega (arith, d .left, valued (c .before .skip-space .ensures) n q (b .ensures) .0))
+    | inl (t, b, d) ↦ absurd (omega (arith, d .left, valued (c .before .skip-space .ensures) (b .ensures) n q .0))
     | inr d ↦ absurd (omega (arith, d .left, equals (c .before .skip-space .ensures) n q .0))
   ];
 }

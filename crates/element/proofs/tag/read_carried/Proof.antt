@@ -93,7 +93,7 @@ loop-less c = omega (arith, further (turn (c .before .before .before .before .be
 
 -- src/tag.rt:85:5
 loop-again : tie.Need-loop-again Inv-loop μ-loop
-loop-again c = so-step _ (c .before .before .before .before .before .before .before .before .before .before .before .loop .inv) (turn (c .before .before .before .before .before .before .before .before .before .before .skip-space .ensures) (c .before .before .before .before .before .before .before .named .given .1) (c .before .before .before .before .before .before .before .before .before .read-name .ensures) (c .before .before .before .before .before .past-equals .ensures) (c .before .before .before .before .end .ensures .0) (c .before .before .before .before .end .ensures .1)) (c .before .before .number-of .ensures) (put (c .before .if1 .taken) (c .if2 .taken)) (known-counted _ (c .before .before .number-of .ensures) (c .before .if1 .taken))
+loop-again c = so-step _ (c .before .before .before .before .before .before .before .before .before .before .before .loop .inv) (turn (c .before .before .before .before .before .before .before .before .before .before .skip-space .ensures) (c .before .before .before .before .before .before .before .named .given .1) (c .before .before .before .before .before .before .before .before .before .read-name .ensures) (c .before .before .before .before .before .past-equals .ensures) (c .before .before .before .before .end .ensures .0) (c .before .before .before .before .end .ensures .1)) (c .before .before .number-of .ensures) (put (omega arith) (c .if2 .taken)) (known-counted _ (c .before .before .number-of .ensures) (omega arith))
 
 -- src/tag.rt:85:5
 loop-less-2 : tie.Need-loop-less-2 Inv-loop μ-loop
@@ -101,7 +101,7 @@ loop-less-2 c = omega (arith, further (turn (c .before .before .before .before .
 
 -- src/tag.rt:85:5
 loop-again-2 : tie.Need-loop-again-2 Inv-loop μ-loop
-loop-again-2 c = so-step _ (c .before .before .before .before .before .before .before .before .before .before .before .loop .inv) (turn (c .before .before .before .before .before .before .before .before .before .before .skip-space .ensures) (c .before .before .before .before .before .before .before .named .given .1) (c .before .before .before .before .before .before .before .before .before .read-name .ensures) (c .before .before .before .before .before .past-equals .ensures) (c .before .before .before .before .end .ensures .0) (c .before .before .before .before .end .ensures .1)) (c .before .before .number-of .ensures) (kept (λ h. c .if2 .left)) (known-counted _ (c .before .before .number-of .ensures) (c .before .if1 .taken))
+loop-again-2 c = so-step _ (c .before .before .before .before .before .before .before .before .before .before .before .loop .inv) (turn (c .before .before .before .before .before .before .before .before .before .before .skip-space .ensures) (c .before .before .before .before .before .before .before .named .given .1) (c .before .before .before .before .before .before .before .before .before .read-name .ensures) (c .before .before .before .before .before .past-equals .ensures) (c .before .before .before .before .end .ensures .0) (c .before .before .before .before .end .ensures .1)) (c .before .before .number-of .ensures) (kept (λ h. c .if2 .left)) (known-counted _ (c .before .before .number-of .ensures) (omega arith))
 
 -- src/tag.rt:105:43
 slice-aggregate-begins-with : tie.Need-slice-aggregate-begins-with Inv-loop μ-loop
@@ -117,7 +117,7 @@ one-if-requires c κs = search needs
 
 -- src/tag.rt:106:22
 add-others : tie.Need-add-others Inv-loop μ-loop
-add-others c = omega (arith, c .before .before .before .before .before .before .before .before .before .before .before .before .before .loop .inv .others, further (turn (c .before .before .before .before .before .before .before .before .before .before .before .before .skip-space .ensures) (c .before .before .before .before .before .before .before .before .before .named .given .1) (c .before .before .before .before .before .before .before .before .before .before .before .read-name .ensures) (c .before .before .before .before .before .before .before .past-equals .ensures) (c .before .before .before .before .before .before .end .ensures .0) (c .before .before .before .before .before .before .end .ensures .1)), c .one-if .ensures .1, c .before .before .before .before .before .before .end .ensures .1 .0)
+add-others c = omega (arith, c .before .before .before .before .before .before .before .before .before .before .before .before .before .loop .inv .few .0, further (turn (c .before .before .before .before .before .before .before .before .before .before .before .before .skip-space .ensures) (c .before .before .before .before .before .before .before .before .before .named .given .1) (c .before .before .before .before .before .before .before .before .before .before .before .read-name .ensures) (c .before .before .before .before .before .before .before .past-equals .ensures) (c .before .before .before .before .before .before .end .ensures .0) (c .before .before .before .before .before .before .end .ensures .1)), c .one-if .ensures .1, c .before .before .before .before .before .before .end .ensures .1 .0)
 
 -- src/tag.rt:107:31
 one-if-requires-2 : tie.Need-one-if-requires-2 Inv-loop μ-loop
@@ -125,7 +125,7 @@ one-if-requires-2 c κs = search needs
 
 -- src/tag.rt:107:22
 add-spaces : tie.Need-add-spaces Inv-loop μ-loop
-add-spaces c = omega (arith, c .before .before .before .before .before .before .before .before .before .before .before .before .before .before .loop .inv .spaces, further (turn (c .before .before .before .before .before .before .before .before .before .before .before .before .before .skip-space .ensures) (c .before .before .before .before .before .before .before .before .before .before .named .given .1) (c .before .before .before .before .before .before .before .before .before .before .before .before .read-name .ensures) (c .before .before .before .before .before .before .before .before .past-equals .ensures) (c .before .before .before .before .before .before .before .end .ensures .0) (c .before .before .before .before .before .before .before .end .ensures .1)), c .one-if2 .ensures .1, c .before .before .before .before .before .before .before .end .ensures .1 .0)
+add-spaces c = omega (arith, c .before .before .before .before .before .before .before .before .before .before .before .before .before .before .loop .inv .few .1, further (turn (c .before .before .before .before .before .before .before .before .before .before .before .before .before .skip-space .ensures) (c .before .before .before .before .before .before .before .before .before .before .named .given .1) (c .before .before .before .before .before .before .before .before .before .before .before .before .read-name .ensures) (c .before .before .before .before .before .before .before .before .past-equals .ensures) (c .before .before .before .before .before .before .before .end .ensures .0) (c .before .before .before .before .before .before .before .end .ensures .1)), c .one-if2 .ensures .1, c .before .before .before .before .before .before .before .end .ensures .1 .0)
 
 -- src/tag.rt:85:5
 loop-less-3 : tie.Need-loop-less-3 Inv-loop μ-loop
@@ -133,7 +133,7 @@ loop-less-3 c = omega (arith, further (turn (c .before .before .before .before .
 
 -- src/tag.rt:85:5
 loop-again-3 : tie.Need-loop-again-3 Inv-loop μ-loop
-loop-again-3 c = so-step _ (c .before .before .before .before .before .before .before .before .before .before .before .before .before .before .loop .inv) (turn (c .before .before .before .before .before .before .before .before .before .before .before .before .before .skip-space .ensures) (c .before .before .before .before .before .before .before .before .before .before .named .given .1) (c .before .before .before .before .before .before .before .before .before .before .before .before .read-name .ensures) (c .before .before .before .before .before .before .before .before .past-equals .ensures) (c .before .before .before .before .before .before .before .end .ensures .0) (c .before .before .before .before .before .before .before .end .ensures .1)) (c .before .before .before .before .before .number-of .ensures) (kept (λ h. absurd (omega (arith, h, c .before .before .before .before .if1 .left)))) (other-counted _ _ _ (c .before .before .before .before .before .number-of .ensures) (c .before .before .before .before .if1 .left) (c .before .before .begins-with .ensures) (c .before .one-if .ensures) (c .one-if2 .ensures))
+loop-again-3 c = so-step _ (c .before .before .before .before .before .before .before .before .before .before .before .before .before .before .loop .inv) (turn (c .before .before .before .before .before .before .before .before .before .before .before .before .before .skip-space .ensures) (c .before .before .before .before .before .before .before .before .before .before .named .given .1) (c .before .before .before .before .before .before .before .before .before .before .before .before .read-name .ensures) (c .before .before .before .before .before .before .before .before .past-equals .ensures) (c .before .before .before .before .before .before .before .end .ensures .0) (c .before .before .before .before .before .before .before .end .ensures .1)) (c .before .before .before .before .before .number-of .ensures) (kept (λ h. absurd (omega (arith, h)))) (other-counted _ _ _ (c .before .before .before .before .before .number-of .ensures) (omega arith) (c .before .before .begins-with .ensures) (c .before .one-if .ensures) (c .one-if2 .ensures))
 
 pub read-carried-spec : {M : Type 1} → statement M
 read-carried-spec =

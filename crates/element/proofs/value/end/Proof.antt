@@ -2,7 +2,7 @@
 use mathlib.Core.Path.{refl}
 use native.Mathlib.Omega.{arith}
 use borrow.Author.Needs.{needs}
-use Rattle.element.proofs.Quotes.{ends-at, past-end, no-value}
+use Rattle.element.proofs.Quotes.{ends-at, past-end, value-past}
 use Rattle.element.proofs.value.end.Statement.{statement}
 use Rattle.element.proofs.value.end.Tie as tie
 use Rattle.element.proofs.value.end.Reads as reads
@@ -31,7 +31,7 @@ returns-2 c = (λ h. h, (omega arith, ends-at _ _ (c .before .quote .ensures) (o
 
 -- src/value.rt:46:1
 returns-3 : tie.Need-returns-3
-returns-3 c = (λ h. h, (omega arith, λ v e l q. no-value _ (c .if1 .left) q))
+returns-3 c = (λ h. h, (omega arith, λ v e l q. absurd (omega (arith, c .if1 .left, value-past (c .before .before .args .s .now) (c .before .before .args .at) q .0))))
 
 pub end-spec : {M : Type 1} → statement M
 end-spec = tie.close (tie.spec add-quote quote-requires add-result returns returns-2 returns-3)
