@@ -1,231 +1,213 @@
 -- The attributes of a start tag put into their places, one after another.
 use Prim.Native.Nat.{ℕ, zero, suc, _+_, _-_, _≤_, _<_}
-use mathlib.Core.Path.{_≡_, refl, sym, _∙_, ap, subst}
-use mathlib.Core.Bool.{Bool, true, false, _&&_, cond}
+use mathlib.Core.Path.{_≡_, refl, sym, _∙_, ap}
+use mathlib.Core.Bool.{Bool, true, false, not, _||_, cond}
 use mathlib.Core.List.{List, [], _∷_}
+use mathlib.Core.Logic.{inl, inr}
 use mathlib.Core.Option.{Option, none, some}
 use native.Mathlib.Omega.{arith}
-use borrow.Author.Tests.{eq-eqb, ne-eqb, eqb-true, eqb-false, lt-ltb, le-ltb, ltb-true, ltb-false}
-use lib.Dec.{eqb, ltb}
-use lib.ListN.{length, take, drop, getD, set, length-set, List·getD-eq-default}
+use borrow.Author.Tests.{eqb-true, eqb-false, lt-ltb, le-ltb, not-true}
+use lib.Dec.{eqb}
+use lib.ListN.{length, take, drop, getD, set, replicate, length-set}
 use lib.Seq.{getD-set-same, getD-set-other}
-use Rattle.rules.specs.Basics.{same}
-use Rattle.rules.specs.Parsers.{Parsed, ok}
-use Rattle.rules.specs.Markup.{Attribute, someSpace, value, attributes, lookup}
+use Rattle.rules.specs.Basics.{bytes, begins}
+use Rattle.rules.specs.Parsers.{bad, ok, pure, _>>=_, _>>_, after, one, many}
+use Rattle.rules.specs.Markup.{isSpace, space, someSpace, name, value, Attribute, attribute, attributes, lookup}
+use Rattle.rules.proofs.Parsers.{next-ok, cons-ok, else-ok, one-ok}
 use Rattle.rules.proofs.Tests.{clash, passes, passed, same-true}
-use Rattle.text.specs.Reads.{Good}
-use Rattle.markup.specs.Attributes.{AttributeTo}
-use Rattle.markup.proofs.Attributes.{Stops, total}
-use Rattle.element.specs.Names.{known, nameAt, numberOf}
+use Rattle.text.specs.Reads.{Good, Reads}
+use Rattle.text.specs.declared.Read.{Read}
+use Rattle.text.specs.declared.Read.the-variants.{At, Bad}
+use Rattle.text.proofs.Reading.{none-of, found}
+use Rattle.markup.proofs.Names.{name-is}
+use Rattle.element.specs.Names.{known, nameAt, numberOf, isKnown}
 use Rattle.element.specs.Tags.{Place, nowhere, stands, Tells, count, isNamespace, isOther}
-use Rattle.element.specs.Carried.{putPlace, With, AttributesTo, CarriedIn, CarriedAs}
+use Rattle.element.specs.Carried.{PastEquals, AttributesTo, CarriedIn, CarriedAs}
 use Rattle.element.specs.declared.tag.Carried.{Carried}
-use Rattle.element.proofs.Numbers.{numbered, number-name}
+use Rattle.element.proofs.Numbers.{number-name, has-number}
+use Rattle.element.proofs.Quotes.{value-to}
 
--- the code's way to put a place in
-pub put-here : (l : List ℕ) (k q : ℕ) → k < known → getD l k 0 ≡ 0 → set l k q ≡ putPlace l k q
-put-here l k q h z = rw (lt-ltb k known h, eq-eqb (getD l k 0) 0 z)
+-- places with that of a number put in, if it has none yet; a number that is not known puts nothing in
+pub data Put (l : List ℕ) (n q : ℕ) : List ℕ → Type 0 where
+  put : n < known → getD l n 0 ≡ 0 → Put l n q (set l n q)
+  kept : (n < known → getD l n 0 ≡ 0 → ⊥) → Put l n q l
 
-put-kept : (l : List ℕ) (k q : ℕ) → eqb (getD l k 0) 0 ≡ false → putPlace l k q ≡ l
-put-kept l k q t = go (ltb k known)
-  where
-    go : (b : Bool) → cond (b && eqb (getD l k 0) 0) (set l k q) l ≡ l
-    go true = rw t
-    go false = refl
-
-pub put-nothing : (l : List ℕ) (k q : ℕ) → (getD l k 0 ≡ 0 → ⊥) → l ≡ putPlace l k q
-put-nothing l k q d = sym (put-kept l k q (ne-eqb (getD l k 0) 0 d))
-
-pub put-unknown : (l : List ℕ) (k q : ℕ) → known ≤ k → l ≡ putPlace l k q
-put-unknown l k q h = rw (le-ltb k known h)
-
--- what is put into a place that has none stands there, and the others stay as they were
-put-first : (l : List ℕ) (k q : ℕ) → k < known → length l ≡ known → eqb (getD l k 0) 0 ≡ true → getD (putPlace l k q) k 0 ≡ q
-put-first l k q h z t = rw (lt-ltb k known h, t) (getD-set-same l k q 0 (omega (arith, h, z)))
-
-put-other : (l : List ℕ) (n k q : ℕ) → (k ≡ n → ⊥) → getD (putPlace l n q) k 0 ≡ getD l k 0
-put-other l n k q d = go (ltb n known && eqb (getD l n 0) 0)
-  where
-    go : (b : Bool) → getD (cond b (set l n q) l) k 0 ≡ getD l k 0
-    go true = getD-set-other l n k q 0 d
-    go false = refl
-
-pub put-size : (l : List ℕ) (n q : ℕ) → length l ≡ known → length (putPlace l n q) ≡ known
-put-size l n q z = go (ltb n known && eqb (getD l n 0) 0)
-  where
-    go : (b : Bool) → length (cond b (set l n q) l) ≡ known
-    go true = length-set l n q ∙ z
-    go false = z
+put-size : {l m : List ℕ} {n q : ℕ} → Put l n q m → length l ≡ known → length m ≡ known
+put-size {l} {n = n} {q} (put h z) w = length-set l n q ∙ w
+put-size (kept d) w = w
 
 -- places stay below a bound
-pub put-low : (l : List ℕ) (n q m : ℕ) → length l ≡ known → ((k : ℕ) → getD l k 0 ≤ m) → q ≤ m → (k : ℕ) → getD (putPlace l n q) k 0 ≤ m
-put-low l n q m z h g k = go (ltb n known) refl (eqb (getD l n 0) 0) (eqb k n) refl
+put-low : {l m : List ℕ} {n q : ℕ} → Put l n q m → length l ≡ known → (b : ℕ) → ((k : ℕ) → getD l k 0 ≤ b) → q ≤ b → (k : ℕ) → getD m k 0 ≤ b
+put-low {l} {n = n} {q} (put h z) w b f g k = go (eqb k n) refl
   where
-    go : (a : Bool) → ltb n known ≡ a → (b c : Bool) → eqb k n ≡ c → getD (cond (a && b) (set l n q) l) k 0 ≤ m
-    go true x true true e = rw (eqb-true k n e, getD-set-same l n q 0 (omega (arith, z, ltb-true n known x))) g
-    go true x true false e = rw (getD-set-other l n k q 0 (eqb-false k n e)) (h k)
-    go true x false c e = h k
-    go false x b c e = h k
+    go : (x : Bool) → eqb k n ≡ x → getD (set l n q) k 0 ≤ b
+    go true e = rw (eqb-true k n e, getD-set-same l n q 0 (omega (arith, h, w))) g
+    go false e = rw (getD-set-other l n k q 0 (eqb-false k n e)) (f k)
+put-low (kept d) w b f g k = f k
 
--- what a place is after some attributes, by what it was before
-pub data After (s : List ℕ) (o : Option (List ℕ)) : (before after : ℕ) → Type 0 where
-  kept : (p : ℕ) → 0 < p → After s o p p
-  looked : (p : ℕ) → Place s o p → After s o 0 p
+-- what is known of an attribute after some: the answer of all is that of those that follow, or its value stands at a place
+pub data Told (s : List ℕ) (all rest : Option (List ℕ)) : ℕ → Type 0 where
+  not-yet : all ≡ rest → Told s all rest 0
+  told : (q : ℕ) → 0 < q → Place s all q → Told s all rest q
 
--- a place that was there stays
-stays : {s : List ℕ} {o : Option (List ℕ)} {p r : ℕ} → 0 < p → After s o p r → r ≡ p
-stays h (kept p x) = refl
-stays h (looked p x) = absurd (omega (arith, h))
+told-last : {s : List ℕ} {all : Option (List ℕ)} {p : ℕ} → Told s all none p → Place s all p
+told-last (not-yet e) = rw e nowhere
+told-last (told q h x) = x
 
--- one attribute more, first: the place of its own name, and each place
-module _ {s : List ℕ} (a : Attribute) (l : List Attribute) (q e : ℕ) (low : 0 < q) (further : q < e) (high : e ≤ length s)
-    (reads : value (drop q s) ≡ ok (a .value) (drop e s)) (before : List ℕ) (size : length before ≡ known) where
-  own : (k r : ℕ) → k < known → {o : Option (List ℕ)} → After s o (getD (putPlace before k q) k 0) r → After s (some (a .value)) (getD before k 0) r
-  own k r h {o} x = go (eqb (getD before k 0) 0) refl
-    where
-      go : (b : Bool) → eqb (getD before k 0) 0 ≡ b → After s (some (a .value)) (getD before k 0) r
-      go true z =
-          let w : r ≡ q = stays low (subst (λ (p : ℕ). After s o p r) (put-first before k q h size z) x) in
-          rw (eqb-true (getD before k 0) 0 z, w) (looked q (stands q e (a .value) low further high reads))
-      go false z =
-          let d : getD before k 0 ≡ 0 → ⊥ = eqb-false (getD before k 0) 0 z in
-          let p : 0 < getD before k 0 = omega (arith, d) in
-          let w : r ≡ getD before k 0 = stays p (subst (λ (m : List ℕ). After s o (getD m k 0) r) (put-kept before k q z) x) in
-          rw w (kept _ p)
+-- one more that has the value v, whose place is put in
+told-more : {s : List ℕ} {all rest : Option (List ℕ)} {v l m : List ℕ} {n q : ℕ} → 0 < q → Place s (some v) q → length l ≡ known → Put l n q m
+    → (k : ℕ) → k < known → (b : Bool) → eqb n k ≡ b → {p : ℕ} → Told s all (cond b (some v) rest) p → p ≡ getD l k 0 → Told s all rest (getD m k 0)
+told-more {l = l} {n = n} {q} low x w (put h z) k g true e (not-yet f) y = rw (← eqb-true n k e, getD-set-same l n q 0 (omega (arith, h, w))) (told q low (rw f x))
+told-more {l = l} {n = n} low x w (put h z) k g true e (told p f t) y = absurd (omega (arith, f, y, z, ap (λ (i : ℕ). getD l i 0) (eqb-true n k e)))
+told-more {l = l} {n = n} {q} low x w (put h z) k g false e t y = rw (getD-set-other l n k q 0 (λ f. eqb-false n k e (sym f)), ← y) t
+told-more {l = l} {n = n} low x w (kept d) k g true e (not-yet f) y = let i = eqb-true n k e in absurd (d (omega (arith, g, i)) (ap (λ (i : ℕ). getD l i 0) i ∙ sym y))
+told-more low x w (kept d) k g true e (told p f t) y = rw (← y) (told p f t)
+told-more low x w (kept d) k g false e t y = rw (← y) t
 
-  each-more : (k r : ℕ) → k < known → After s (lookup (nameAt k) l) (getD (putPlace before (numberOf (a .name)) q) k 0) r → After s (lookup (nameAt k) (a ∷ l)) (getD before k 0) r
-  unfolding lookup
-  each-more k r h x = go (same (a .name) (nameAt k)) refl
-    where
-      go : (b : Bool) → same (a .name) (nameAt k) ≡ b → After s (cond b (some (a .value)) (lookup (nameAt k) l)) (getD before k 0) r
-      go true z =
-          let w : numberOf (a .name) ≡ k = ap numberOf (same-true _ _ z) ∙ numbered k h in
-          own k r h (subst (λ (j : ℕ). After s (lookup (nameAt k) l) (getD (putPlace before j q) k 0) r) w x)
-      go false z =
-          let d : k ≡ numberOf (a .name) → ⊥ = λ w. clash (cc (z, number-name (a .name) (subst (λ (j : ℕ). j < known) w h), w)) in
-          subst (λ (p : ℕ). After s (lookup (nameAt k) l) p r) (put-other before (numberOf (a .name)) k q d) x
+-- what is counted with one more attribute, of a name: no known name begins with xmlns, so nothing with a known one
+abbrev Counted : (t : List ℕ) (others spaces more-others more-spaces : ℕ) → Type 0
+Counted t o p x y = (x ≡ o + cond (not (isKnown t || begins (bytes "xmlns") t)) 1 0) × (y ≡ p + cond (begins (bytes "xmlns") t) 1 0) × (x ≤ o + 1) × (y ≤ p + 1)
 
--- what attributes make of what was carried before them
-pub record Filled (s : List ℕ) (l : List Attribute) (left : List ℕ) (c r : Carried) : Type 0 where
-  pub size : length (r .places) ≡ known
-  pub each : (k : ℕ) → k < known → After s (lookup (nameAt k) l) (getD (c .places) k 0) (getD (r .places) k 0)
-  pub others : r .others ≡ c .others + count isOther l
-  pub spaces : r .spaces ≡ c .spaces + count isNamespace l
-  pub ends : left ≡ drop (r .end) s
+pub known-counted : (t : List ℕ) {o p k : ℕ} → k ≡ numberOf t → k < known → Counted t o p o p
+unfolding begins passes
+known-counted t {k = k} e h =
+    let g : numberOf t < known = omega (arith, e, h) in
+    let n : t ≡ nameAt (numberOf t) = same-true _ _ (number-name t g) in
+    let z : begins (bytes "xmlns") t ≡ false = ap (begins (bytes "xmlns")) n ∙ not-true _ (passed known (λ k. not (begins (bytes "xmlns") (nameAt k))) (numberOf t) refl g) in
+    (rw (lt-ltb (numberOf t) known g) (omega arith), rw z (omega arith), omega arith, omega arith)
 
-abbrev pub FilledFrom : List ℕ → (c r : Carried) → Type 0
-FilledFrom s c r = (l : List Attribute) (left : List ℕ) → AttributesTo s (c .end) l left → Filled s l left c r
+pub other-counted : (t : List ℕ) (o p : ℕ) {k x y : ℕ} {b : Bool} → k ≡ numberOf t → known ≤ k → b ≡ begins (bytes "xmlns") t → (x ≡ cond (not b) 1 0) × (x ≤ 1) → (y ≡ cond b 1 0) × (y ≤ 1)
+    → Counted t o p (o + x) (p + y)
+other-counted t o p e h d (x, u) (y, w) = (rw (x, d, le-ltb (numberOf t) known (omega (arith, e, h))), rw (y, d), omega (arith, u), omega (arith, w))
 
-counted : {A : Type 0} (p : A → Bool) (a : A) (l : List A) (r c d : ℕ) → r ≡ d + count p l → d ≡ c + cond (p a) 1 0 → r ≡ c + count p (a ∷ l)
-counted p a l r c d e f = go (p a) f
+counted : {A : Type 0} (p : A → Bool) (a : A) (l : List A) (o : ℕ) {x t : ℕ} → o + count p (a ∷ l) ≡ t → x ≡ o + cond (p a) 1 0 → x + count p l ≡ t
+counted p a l o {x} {t} = go (p a)
   where
-    go : (b : Bool) → d ≡ c + cond b 1 0 → r ≡ c + cond b (suc (count p l)) (count p l)
-    go true f = omega (arith, e, f)
-    go false f = omega (arith, e, f)
+    go : (b : Bool) → o + cond b (suc (count p l)) (count p l) ≡ t → x ≡ o + cond b 1 0 → x + count p l ≡ t
+    go true e f = omega (arith, e, f)
+    go false e f = omega (arith, e, f)
 
--- no attribute is left
-pub filled-end : {s : List ℕ} (c : Carried) → length (c .places) ≡ known → Stops s (c .end) → FilledFrom s c c
-unfolding lookup
-filled-end {s} c z h l left x =
-    let q : _≡_ {A = Parsed (List Attribute)} (ok [] (drop (c .end) s)) (ok l left) = sym (h (x .fuel)) ∙ x .reads in
-    let w : [] ≡ l = cc in
-    let v : left ≡ drop (c .end) s = cc in
-    subst (λ (k : List Attribute). Filled s k left c c) w (record { size = z; each = λ k g. go (getD (c .places) k 0); others = omega arith; spaces = omega arith; ends = v })
-  where
-    go : (p : ℕ) → After s none p p
-    go zero = looked 0 nowhere
-    go (suc p) = kept (suc p) (omega arith)
+-- what stands where the white space of attributes is past: none of them, or one and others after it
+data Following (s : List ℕ) (i j : ℕ) (l : List Attribute) (left : List ℕ) : Type 0 where
+  nothing : l ≡ [] → left ≡ drop i s → Following s i j l left
+  one-more : (f : ℕ) (a : Attribute) (t : List ℕ) (m : List Attribute) → attribute (drop j s) ≡ ok a t → attributes f t ≡ ok m left → a ∷ m ≡ l → Following s i j l left
 
--- one is left, and others after it
-module _ {s : List ℕ} {i j n q e : ℕ} (g : Good 1 someSpace s i j) (a : AttributeTo s j n q e) where
-  abbrev pub this : Attribute
-  this = record { name = take (n - j) (drop j s); value = a .text }
+same-space : (x : List ℕ) {u w r t : List ℕ} → someSpace x ≡ ok u r → space x ≡ ok w t → r ≡ t
+unfolding someSpace many after
+same-space x p q = next-ok (one isSpace x) (λ c. space) p (λ c y d z. let (e, h) = one-ok isSpace x d in let k = rw (e, h) at q in cc)
 
+following : {s : List ℕ} {i j : ℕ} {l : List Attribute} {left : List ℕ} → Good 0 space s i j → (f : ℕ) → attributes f (drop i s) ≡ ok l left → Following s i j l left
+unfolding attributes
+following g zero q = nothing (cc) (cc)
+following {s} {i} {j} g (suc f) q = elim (else-ok ((someSpace >> attribute >>= (λ a. attributes f >>= (λ l. pure (a ∷ l)))) (drop i s)) _ q) [
+  | inl x ↦ next-ok (someSpace (drop i s)) (λ u. attribute >>= (λ a. attributes f >>= (λ l. pure (a ∷ l)))) x (λ u t y z.
+      let (a, r, m, h, k, w) = cons-ok (attribute (drop j s)) (attributes f) (rw (same-space (drop i s) y (g .reads)) at z) in
+      one-more f a r m h k w)
+  | inr x ↦ nothing (cc) (cc)
+]
+
+-- one turn of the code: white space, a name from j up to n, and its value at q, up to e
+pub record Turn (s : List ℕ) (i j n q e : ℕ) : Type 0 where
+  pub gap : Good 0 space s i j
+  pub named : Good 1 name s j n
+  pub equals : PastEquals s n q
+  pub further : q < e
+  pub high : e ≤ length s
+  pub ends : (v : List ℕ) (k : ℕ) → k ≤ length s → value (drop q s) ≡ ok v (drop k s) → e ≡ k
+
+pub turn : {s : List ℕ} {i j n q e : ℕ} {r : Read} → Good 0 space s i j → r ≡ At n → Reads 1 name s j r → PastEquals s n q
+    → (q < length s → q < e) → (e ≤ length s) × ((v : List ℕ) (k : ℕ) → k ≤ length s → value (drop q s) ≡ ok v (drop k s) → e ≡ k) → Turn s i j n q e
+turn g z b p on (high, ends) = record { gap = g; named = found z b; equals = p; further = on (p .high); high = high; ends = ends }
+
+module _ {s : List ℕ} {i j n q e : ℕ} (x : Turn s i j n q e) where
   pub further : i < e
-  further = omega (arith, g .low, a .name-low, a .name-high, a .value-low)
+  further = omega (arith, x .gap .low, x .named .low, x .equals .low, x .further)
 
-  others-to : (l : List Attribute) (left : List ℕ) → AttributesTo s i l left → (m : List Attribute) × AttributesTo s e m left × (l ≡ this ∷ m)
-  unfolding attributes
-  others-to l left x = go (x .fuel) (x .enough) (x .reads)
-    where
-      go : (f : ℕ) → length s ≤ i + f → attributes f (drop i s) ≡ ok l left → (m : List Attribute) × AttributesTo s e m left × (l ≡ this ∷ m)
-      go zero h u = absurd (omega (arith, h, further, a .high))
-      go (suc f) h u =
-          let (m, r, t) = total f (drop e s) in
-          let z : _≡_ {A = Parsed (List Attribute)} (ok (this ∷ m) r) (ok l left) = rw (g .reads, a .reads, t) at u in
-          let w : r ≡ left = cc in
-          (m, record { fuel = f; enough = omega (arith, h, further); reads = t ∙ ap (ok m) w }, cc)
+  this-one : {a : Attribute} {t : List ℕ} → attribute (drop j s) ≡ ok a t → (a .name ≡ take (n - j) (drop j s)) × (0 < q) × (value (drop q s) ≡ ok (a .value) (drop e s)) × (t ≡ drop e s)
+  unfolding attribute
+  this-one {a} {t} p =
+      let g = x .named in
+      let (h, w, r) = x .equals .past (g .value) a t (rw (g .reads) at p) in
+      let (k, l, z) = value-to s q r in
+      let y : t ≡ drop e s = z ∙ ap (λ (i : ℕ). drop i s) (sym (x .ends (a .value) k l (r ∙ ap (ok (a .value)) z))) in
+      (w ∙ name-is s j n (g .value) (g .low) (g .high) (g .reads), omega (arith, h), r ∙ ap (ok (a .value)) y, y)
 
-  pub filled-step : (c d r : Carried) → c .end ≡ i → length (c .places) ≡ known → With c (take (n - j) (drop j s)) q e d → FilledFrom s d r → FilledFrom s c r
-  filled-step c d r z size w x l left y =
-      let (m, t, u) = others-to l left (subst (λ (k : ℕ). AttributesTo s k l left) z y) in
-      let f = x m left (subst (λ (k : ℕ). AttributesTo s k m left) (sym (w .end)) t) in
-      subst (λ (k : List Attribute). Filled s k left c r) (sym u) (record {
-        size = f .size;
-        each = λ k h. each-more this m q e (omega (arith, g .low, a .name-low, a .name-high)) (a .value-low) (a .high) (a .quoted) (c .places) size k (getD (r .places) k 0) h
-            (subst (λ (p : List ℕ). After s (lookup (nameAt k) m) (getD p k 0) (getD (r .places) k 0)) (w .places) (f .each k h));
-        others = counted isOther this m (r .others) (c .others) (d .others) (f .others) (w .others);
-        spaces = counted isNamespace this m (r .spaces) (c .spaces) (d .spaces) (f .spaces) (w .spaces);
-        ends = f .ends;
-      })
+-- what is carried so far, where all attributes are l: the others follow
+pub record Done (s : List ℕ) (c : Carried) (l : List Attribute) (left : List ℕ) : Type 0 where
+  pub rest : List Attribute
+  pub goes : AttributesTo s (c .end) rest left
+  pub each : (k : ℕ) → k < known → Told s (lookup (nameAt k) l) (lookup (nameAt k) rest) (getD (c .places) k 0)
+  pub others : c .others + count isOther rest ≡ count isOther l
+  pub spaces : c .spaces + count isNamespace rest ≡ count isNamespace l
+
+-- what is known of what was carried so far, from a position on
+pub record So (s : List ℕ) (at : ℕ) (c : Carried) : Type 0 where
+  pub within : CarriedIn s at c
+  pub size : length (c .places) ≡ known
+  pub few : (c .others ≤ c .end) × (c .spaces ≤ c .end)
+  pub done : (l : List Attribute) (left : List ℕ) → AttributesTo s at l left → Done s c l left
 
 -- places of nothing
 abbrev pub noPlaces : List ℕ
 noPlaces = 0 ∷ 0 ∷ 0 ∷ 0 ∷ 0 ∷ 0 ∷ 0 ∷ 0 ∷ 0 ∷ 0 ∷ 0 ∷ 0 ∷ 0 ∷ 0 ∷ []
 
-abbrev pub carriedNone : (at : ℕ) → Carried
-carriedNone at = record { places = noPlaces; others = 0; spaces = 0; end = at }
-
-none-yet : (k : ℕ) → k < known → getD noPlaces k 0 ≡ 0
-unfolding passes
-none-yet k h = eqb-true (getD noPlaces k 0) 0 (passed known (λ j. eqb (getD noPlaces j 0) 0) k refl h)
+zeros : (n k : ℕ) → getD {A = ℕ} (replicate n 0) k 0 ≡ 0
+zeros zero k = refl
+zeros (suc n) zero = refl
+zeros (suc n) (suc k) = zeros n k
 
 pub none-there : (k : ℕ) → getD noPlaces k 0 ≡ 0
-none-there k = go (ltb k known) refl
-  where
-    go : (b : Bool) → ltb k known ≡ b → getD noPlaces k 0 ≡ 0
-    go true h = none-yet k (ltb-true k known h)
-    go false h = List·getD-eq-default noPlaces 0 (ltb-false k known h)
+none-there = zeros known
 
--- all of them, put into places of nothing
-pub filled-all : {s : List ℕ} {at : ℕ} {r : Carried} → FilledFrom s (carriedNone at) r → (l : List Attribute) (left : List ℕ) → AttributesTo s at l left → CarriedAs s l left r
-filled-all {s} {at} {r} x l left y =
-    let f = x l left y in
-    record {
-      tells = record { size = f .size; placed = λ k h. go (none-there k) (f .each k h) };
-      others = omega (arith, f .others);
-      spaces = omega (arith, f .spaces);
-      ends = f .ends;
-    }
-  where
-    go : {o : Option (List ℕ)} {p r : ℕ} → p ≡ 0 → After s o p r → Place s o r
-    go z (kept p h) = absurd (omega (arith, z, h))
-    go z (looked p h) = h
-
--- what is known of what was carried so far, from a position on
-pub record So (s : List ℕ) (at : ℕ) (c : Carried) : Type 0 where
-  pub low : at ≤ c .end
-  pub high : c .end ≤ length s
-  pub size : length (c .places) ≡ known
-  pub others : c .others ≤ c .end
-  pub spaces : c .spaces ≤ c .end
-  pub placed : (n : ℕ) → getD (c .places) n 0 ≤ length s - 1
-  pub fills : (r : Carried) → FilledFrom s c r → FilledFrom s (carriedNone at) r
-
-pub so-none : {s : List ℕ} (at : ℕ) → at ≤ length s → So s at (carriedNone at)
-so-none at h = record { low = omega arith; high = h; size = refl; others = omega arith; spaces = omega arith; placed = λ n. rw (none-there n) (omega arith); fills = λ r x. x }
-
-pub so-step : {s : List ℕ} {at j n q e : ℕ} (c d : Carried) → So s at c → Good 1 someSpace s (c .end) j → AttributeTo s j n q e → With c (take (n - j) (drop j s)) q e d → So s at d
-so-step {s} {at} {j} {n} {q} c d h g a w = record {
-  low = omega (arith, h .low, further g a, w .end);
-  high = omega (arith, a .high, w .end);
-  size = ap length (w .places) ∙ put-size (c .places) (numberOf (take (n - j) (drop j s))) q (h .size);
-  others = omega (arith, w .others-low, w .end);
-  spaces = omega (arith, w .spaces-low, w .end);
-  placed = λ k. subst (λ (l : List ℕ). getD l k 0 ≤ length s - 1) (sym (w .places))
-      (put-low (c .places) (numberOf (take (n - j) (drop j s))) q (length s - 1) (h .size) (h .placed) (omega (arith, a .value-low, a .high)) k);
-  fills = λ r x. h .fills r (filled-step g a c d r refl (h .size) w x);
+pub so-none : {s : List ℕ} (at : ℕ) → at ≤ length s → So s at (record { places = noPlaces; others = 0; spaces = 0; end = at })
+so-none at h = record {
+  within = record { placed = λ n. rw (none-there n) (omega arith); low = omega arith; high = h };
+  size = refl;
+  few = (omega arith, omega arith);
+  done = λ l left x. record { rest = l; goes = x; each = λ k g. rw (none-there k) (not-yet refl); others = omega arith; spaces = omega arith };
 }
 
-pub so-done : {s : List ℕ} {at : ℕ} (c : Carried) → So s at c → Stops s (c .end) → CarriedIn s at c × ((l : List Attribute) (left : List ℕ) → AttributesTo s at l left → CarriedAs s l left c)
-so-done c h x = (record { placed = h .placed; low = h .low; high = h .high }, filled-all (h .fills c (filled-end c (h .size) x)))
+-- one attribute more
+module _ {s : List ℕ} {at j n q e : ℕ} (c : Carried) (h : So s at c) (x : Turn s (c .end) j n q e) where
+  abbrev this : List ℕ
+  this = take (n - j) (drop j s)
+
+  pub so-step : {k : ℕ} {l : List ℕ} {o p : ℕ} → k ≡ numberOf this → Put (c .places) k q l → Counted this (c .others) (c .spaces) o p → So s at (record { places = l; others = o; spaces = p; end = e })
+  unfolding lookup
+  so-step {k} {l} {o} {p} is y (f, g, a, b) = record {
+    within = record { placed = put-low y (h .size) (length s - 1) (h .within .placed) (omega (arith, x .further, x .high)); low = omega (arith, h .within .low, further x); high = x .high };
+    size = put-size y (h .size);
+    few = (omega (arith, h .few .0, further x, a), omega (arith, h .few .1, further x, b));
+    done = λ m left z. more m left (h .done m left z);
+  }
+    where
+      more : (m : List Attribute) (left : List ℕ) → Done s c m left → Done s (record { places = l; others = o; spaces = p; end = e }) m left
+      more m left d = elim (following (x .gap) (d .goes .fuel) (d .goes .reads)) [
+        | nothing r w ↦ let z = rw (w, x .gap .reads, x .named .reads) at (d .goes .all) in clash (cc)
+        | one-more i a t rest r w z ↦
+            let (u, low, v, b) = this-one x r in
+            record {
+              rest = rest;
+              goes = record { fuel = i; reads = rw (← b) w; all = d .goes .all };
+              each = λ j h′. told-more low (stands q e (a .value) low (x .further) (x .high) v) (h .size) y j h′ (eqb k j) refl (rw (← z, has-number (a .name) j h′, u, ← is) at (d .each j h′)) refl;
+              others = counted isOther a rest (c .others) (rw (← z) at (d .others)) (rw u f);
+              spaces = counted isNamespace a rest (c .spaces) (rw (← z) at (d .spaces)) (rw u g);
+            }
+      ]
+
+-- no name is left, and so no attribute
+pub so-done : {s : List ℕ} {at j : ℕ} (c : Carried) → So s at c → Good 0 space s (c .end) j → Reads 1 name s j Bad
+    → CarriedIn s at c × ((l : List Attribute) (left : List ℕ) → AttributesTo s at l left → CarriedAs s l left c)
+unfolding attribute lookup
+so-done {s} {at} {j} c h g b = (h .within, λ l left x. all l left (h .done l left x))
+  where
+    all : (l : List Attribute) (left : List ℕ) → Done s c l left → CarriedAs s l left c
+    all l left d = elim (following g (d .goes .fuel) (d .goes .reads)) [
+      | nothing r w ↦ record {
+        tells = record { size = h .size; placed = λ k k-low. told-last (rw r at (d .each k k-low)) };
+        others = let e = rw r at (d .others) in omega (arith, e);
+        spaces = let e = rw r at (d .spaces) in omega (arith, e);
+        ends = w;
+      }
+      | one-more i a t k r w z ↦ let y = rw (none-of name b) at r in clash (cc)
+    ]

@@ -8,7 +8,7 @@ use native.Mathlib.Omega.{arith}
 use lib.ListN.{length, take, drop, getD, length-drop}
 use Rattle.rules.specs.Basics.{bytes}
 use Rattle.rules.specs.Parsers.{Parser, Parsed, bad, ok, pure, guard, _>>=_, _>>_, one, byte, literal, sized}
-use Rattle.rules.specs.Markup.{Attribute, space, tagAttributes, attributes, isDistinct, Nodes, end, Element, endTag, body, element, content}
+use Rattle.rules.specs.Markup.{Attribute, space, name, tagAttributes, attributes, isDistinct, Nodes, end, Element, endTag, body, element, content}
 use Rattle.rules.proofs.Parsers.{next-ok, map-ok, else-ok, byte-ok}
 use Rattle.rules.proofs.Tests.{clash}
 use Rattle.text.specs.Reads.{Good, Reads, upto, none}
@@ -59,13 +59,21 @@ module _ {s : List ℕ} {at i : ℕ} (g : Good 0 space s at i) (n : List ℕ) (p
 abbrev made : (name : List ℕ) (attrs : List Attribute) (kids : Nodes) → Element
 made n l k = record { name = n; attrs = l; kids = k }
 
+-- how a tag closes is no name
+no-name : (x n : List ℕ) (p : Parser Nodes) {kids : Nodes} {after : List ℕ} → body n p x ≡ ok kids after → name x ≡ bad
+unfolding name one literal
+no-name x n p q = elim (else-ok ((literal (bytes "/>") >> pure end) x) _ q) [
+  | inl y ↦ let (u, z, e) = map-ok (literal (bytes "/>") x) (λ u. end) y in next-ok (byte 47 x) (λ c. literal (bytes ">")) z (λ c t w k. rw (byte-ok 47 x w))
+  | inr y ↦ next-ok (byte 62 x) (λ c. p >>= (λ k. endTag n >> pure k)) y (λ c t w k. rw (byte-ok 62 x w))
+]
+
 -- the attributes of a tag, each name once
-carried-to : {s : List ℕ} {m : ℕ} {l : List Attribute} {left : List ℕ} → tagAttributes (drop m s) ≡ ok l left → AttributesTo s m l left × (isDistinct l ≡ true)
+carried-to : {s : List ℕ} {m : ℕ} {l : List Attribute} {left : List ℕ} → tagAttributes (drop m s) ≡ ok l left → (space >> name) left ≡ bad → AttributesTo s m l left × (isDistinct l ≡ true)
 unfolding tagAttributes
-carried-to {s} {m} {l} {left} q =
+carried-to {s} {m} {l} {left} q b =
     next-ok (attributes (length (drop m s)) (drop m s)) (λ k. guard (isDistinct k) >> pure k) q (λ k t x y.
     let (e, f, g) = passed (isDistinct k) k t y in
-    (record { fuel = length (drop m s); enough = rw length-drop (omega arith); reads = rw (← e, ← f) x }, rw (← e) g))
+    (record { fuel = length (drop m s); reads = rw (← e, ← f) x; all = b }, rw (← e) g))
   where
     passed : (b : Bool) (j : List Attribute) (t : List ℕ) → (guard b >> pure j) t ≡ ok l left → (j ≡ l) × (t ≡ left) × (b ≡ true)
     passed true j t r = (cc, cc, refl)
@@ -89,10 +97,10 @@ module _ {s : List ℕ} {at n m : ℕ} (h : HeadTo s at n m) (c : Carried) (t : 
       go (suc f) zero l q = clash (cc)
       go (suc f) (suc d) l q =
           next-ok (tagAttributes (drop m s)) (λ as′. space >> (body a (content f d) >>= (λ k. pure (made a as′ k)))) (rw (h .less .reads, h .named .reads) at q) (λ as′ u x q₁.
-          let (y, e) = carried-to x in
-          let k = tells as′ u y in
           next-ok (space u) (λ w. body a (content f d) >>= (λ k. pure (made a as′ k))) q₁ (λ w u₁ g q₂.
           let (j, z, made-is) = map-ok (body a (content f d) u₁) (made a as′) q₂ in
+          let (y, e) = carried-to x (rw g (no-name u₁ a (content f d) z)) in
+          let k = tells as′ u y in
           let r : (space >> body a (content f d)) (drop (c .end) s) ≡ ok j after = rw (← k .ends, g) z in
           subst (λ (v : Element). TagOf s (suc d) v after t) made-is (record {
             deep = omega arith;

@@ -1,36 +1,31 @@
 -- The attributes of a start tag, read one after another.
-use Prim.Native.Nat.{ℕ, _+_, _-_, _≤_}
+use Prim.Native.Nat.{ℕ, _+_, _-_, _≤_, _<_}
 use mathlib.Core.Path.{_≡_}
-use mathlib.Core.Bool.{Bool, true, false, _&&_, not, _||_, cond}
+use mathlib.Core.Bool.{Bool, true, false}
 use mathlib.Core.List.{List}
-use lib.Dec.{eqb, ltb}
-use lib.ListN.{length, drop, getD, set}
-use Rattle.rules.specs.Basics.{bytes, begins}
-use Rattle.rules.specs.Parsers.{Parser, ok, pure, _>>=_, _>>_, literal}
-use Rattle.rules.specs.Markup.{Attribute, attributes, space, Nodes, end, endTag, body}
-use Rattle.element.specs.Names.{known, numberOf, isKnown}
+use lib.ListN.{length, drop, getD}
+use Rattle.rules.specs.Parsers.{Parser, bad, ok, pure, _>>=_, _>>_, byte, literal}
+use Rattle.rules.specs.Markup.{space, name, value, Attribute, attributes, Nodes, end, endTag, body}
 use Rattle.element.specs.Tags.{Tells, count, isNamespace, isOther}
 use Rattle.element.specs.declared.tag.Carried.{Carried}
 use Rattle.element.specs.declared.tag.Tag.{Tag}
 
--- places with that of a number put in, if it has none yet; a number that is not known puts nothing in
-abbrev pub putPlace : List ℕ → (n q : ℕ) → List ℕ
-putPlace l n q = cond (ltb n known && eqb (getD l n 0) 0) (set l n q) l
+-- the value of an attribute of a name
+abbrev pub valueOf : List ℕ → Parser Attribute
+valueOf n = value >>= (λ v. pure (record { name = n; value = v }))
 
--- r is c with one attribute more, of a name, whose value stands at q, up to e
-pub record With (c : Carried) (name : List ℕ) (q e : ℕ) (r : Carried) : Type 0 where
-  pub places : r .places ≡ putPlace (c .places) (numberOf name) q
-  pub others : r .others ≡ c .others + cond (not (isKnown name || begins (bytes "xmlns") name)) 1 0
-  pub spaces : r .spaces ≡ c .spaces + cond (begins (bytes "xmlns") name) 1 0
-  pub end : r .end ≡ e
-  pub others-low : r .others ≤ e
-  pub spaces-low : r .spaces ≤ e
+-- the value of an attribute stands at r, if there is one, and its name ends at a position
+pub record PastEquals (s : List ℕ) (at r : ℕ) : Type 0 where
+  pub low : at ≤ r + 1
+  pub high : r < length s
+  pub past : (n : List ℕ) (a : Attribute) (left : List ℕ) → (space >> byte 61 >> space >> valueOf n) (drop at s) ≡ ok a left
+      → (at < r) × (a .name ≡ n) × (value (drop r s) ≡ ok (a .value) left)
 
--- the attributes l stand from a position on, and the text goes on after them
+-- the attributes l stand from a position on, and the text goes on after them with something that is no name
 pub record AttributesTo (s : List ℕ) (at : ℕ) (l : List Attribute) (left : List ℕ) : Type 0 where
   pub fuel : ℕ
-  pub enough : length s ≤ at + fuel
   pub reads : attributes fuel (drop at s) ≡ ok l left
+  pub all : (space >> name) left ≡ bad
 
 pub record CarriedAs (s : List ℕ) (l : List Attribute) (left : List ℕ) (r : Carried) : Type 0 where
   pub tells : Tells s l (r .places)

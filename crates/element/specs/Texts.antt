@@ -1,13 +1,18 @@
 -- The decoded characters of a value at a position, in the words of the rules ("Markup").
 use Prim.Native.Nat.{ℕ, _+_, _≤_, _<_}
 use mathlib.Core.Path.{_≡_}
-use mathlib.Core.Bool.{Bool, true, false}
+use mathlib.Core.Bool.{Bool, true, false, not}
 use mathlib.Core.List.{List, [], _∷_}
+use lib.Dec.{eqb}
 use lib.ListN.{length, drop}
 use Rattle.rules.specs.Parsers.{ok}
 use Rattle.rules.specs.Markup.{text}
 use Rattle.markup.specs.declared.value.Char.{Char}
 use Rattle.markup.specs.declared.value.Char.the-variants.{Is, Nothing}
+
+-- a byte that is no quote
+abbrev pub isBare : ℕ → Bool
+isBare c = not (eqb c 34)
 
 -- the characters from a position on stand for the bytes v
 pub record TextAt (s : List ℕ) (at : ℕ) (v : List ℕ) : Type 0 where

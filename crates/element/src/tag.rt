@@ -8,16 +8,14 @@ ghost use Rattle.rules.specs.Basics.{isSome};
 ghost use Rattle.rules.specs.Markup.{Attribute, lookup, Element};
 ghost use Rattle.element.specs.Names.{known, nameAt};
 ghost use Rattle.element.specs.Tags.{ElementTo, Tells, TagOf, TagIn};
-ghost use Rattle.element.specs.Carried.{putPlace, With, AttributesTo, CarriedIn, CarriedAs, PastLiteral, Closed};
+ghost use Rattle.element.specs.Carried.{PastEquals, AttributesTo, CarriedIn, CarriedAs, PastLiteral, Closed};
 use crate::name::KNOWN;
 use crate::name::number_of;
 use markup::scan::read_byte;
 use markup::scan::read_literal;
-use markup::scan::read_some_space;
+use markup::scan::read_name;
 use markup::scan::skip_space;
 use markup::tag::Head;
-use markup::tag::Parts;
-use markup::tag::read_attribute;
 use markup::tag::read_head;
 use text::Read;
 use text::begins_with;
@@ -58,63 +56,56 @@ fn one_if(so: bool) -> usize
     if so { 1 } else { 0 }
 }
 
-// The places with one more, if there is none of that number yet.
-fn with_place(c: Carried, n: usize, q: usize) -> Carried
-    ensures { λ r. ⌜ r .places ≡ putPlace (c .places) n q ⌝ }
+// Where the value stands of an attribute whose name ends at a position: past `=` and the white space around it; the last byte of the name,
+// if the text ends before.
+fn past_equals(s: &[u8], at: usize) -> usize
+    requires { ⌜ 0 < at ⌝ ∗ ⌜ at ≤ length (now s) ⌝ }
+    ensures { λ r. ⌜ PastEquals (now (s .entry)) at r ⌝ }
 {
-    let mut c = c;
-    if n < KNOWN {
-        if c.places[n] == 0 {
-            c.places[n] = q;
+    let i = skip_space(s, at);
+    if i < s.len() {
+        let value = skip_space(s, i + 1);
+        if value < s.len() {
+            return value;
         }
     }
-    c
+    at - 1
 }
 
-// One attribute more, whose value stands at q, up to e.
-fn with_attribute(c: Carried, name: &[u8], q: usize, e: usize) -> Carried
-    requires { ⌜ c .others ≤ c .end ⌝ ∗ ⌜ c .spaces ≤ c .end ⌝ ∗ ⌜ c .end < e ⌝ }
-    ensures { λ r. ⌜ With c (now (name .entry)) q e r ⌝ }
-{
-    let n = number_of(name);
-    let space = begins_with(name, b"xmlns");
-    let put = with_place(c, n, q);
-    let places = put.places;
-    Carried {
-        places,
-        others: c.others + one_if(!((n < KNOWN) | space)),
-        spaces: c.spaces + one_if(space),
-        end: e,
-    }
-}
-
-// The attributes that stand from a position on.
+// The attributes that stand from a position on. Values are passed by their quotes.
 fn read_carried(s: &[u8], at: usize) -> Carried
     requires { ⌜ at ≤ length (now s) ⌝ }
     ensures within { λ r. ⌜ CarriedIn (now (s .entry)) at r ⌝ }
     ensures tells { λ r. ⌜ ((l : List Attribute) (left : List ℕ) → AttributesTo (now (s .entry)) at l left → CarriedAs (now (s .entry)) l left r) ⌝ }
 {
-    let mut c = Carried {
-        places: [0; KNOWN],
-        others: 0,
-        spaces: 0,
-        end: at,
-    };
+    let mut places: [usize; KNOWN] = [0; KNOWN];
+    let mut others = 0;
+    let mut spaces = 0;
+    let mut end = at;
     loop {
-        let gap = read_some_space(s, c.end);
-        let Read::At(i) = gap else {
-            return c;
+        let i = skip_space(s, end);
+        let named = read_name(s, i);
+        let Read::At(name_end) = named else {
+            return Carried {
+                places,
+                others,
+                spaces,
+                end,
+            };
         };
-        let parts = read_attribute(s, i);
-        let Parts::Attribute {
-            name_end,
-            value,
-            end,
-        } = parts
-        else {
-            return c;
-        };
-        c = with_attribute(c, &s[i..name_end], value, end);
+        let value = past_equals(s, name_end);
+        end = crate::value::end(s, value);
+        let name = &s[i..name_end];
+        let n = number_of(name);
+        if n < KNOWN {
+            if places[n] == 0 {
+                places[n] = value;
+            }
+        } else {
+            let space = begins_with(name, b"xmlns");
+            others = others + one_if(!space);
+            spaces = spaces + one_if(space);
+        }
     }
 }
 

@@ -4,9 +4,10 @@ ghost use mathlib.Core.List.{List};
 ghost use Prim.Native.Nat.{ℕ, _≤_, _<_};
 ghost use lib.ListN.{length, drop};
 ghost use Rattle.rules.specs.Basics.{isEmpty, same};
-ghost use Rattle.rules.specs.Parsers.{ok};
+ghost use Rattle.rules.specs.Parsers.{ok, many};
 ghost use Rattle.rules.specs.Markup.{value};
-ghost use Rattle.element.specs.Texts.{TextAt, CharOn, Chars, isNothing};
+ghost use Rattle.text.specs.Reads.{Good};
+ghost use Rattle.element.specs.Texts.{isBare, TextAt, CharOn, Chars, isNothing};
 use markup::scan::read_byte;
 use markup::value::Char;
 use markup::value::is_simple;
@@ -26,18 +27,32 @@ pub fn start(s: &[u8], at: usize) -> usize
     i
 }
 
+// Where the next quote stands from a position on; the end of the text, if there is none.
+fn quote(s: &[u8], at: usize) -> usize
+    requires { ⌜ at ≤ length (now s) ⌝ }
+    ensures { λ r. ⌜ Good 0 (many isBare) (now (s .entry)) at r ⌝ }
+{
+    let mut i = at;
+    while i < s.len() {
+        if s[i] == b'"' {
+            return i;
+        }
+        i += 1;
+    }
+    i
+}
+
 // Where the value at a position ends, past its quotes. No character of a value is a quote, so none is read.
 pub fn end(s: &[u8], at: usize) -> usize
     requires { ⌜ at ≤ length (now s) ⌝ }
     ensures on { λ r. ⌜ (at < length (now (s .entry)) → at < r) ⌝ ∗ ⌜ r ≤ length (now (s .entry)) ⌝ }
     ensures tells { λ r. ⌜ ((v : List ℕ) (e : ℕ) → e ≤ length (now (s .entry)) → value (drop at (now (s .entry))) ≡ ok v (drop e (now (s .entry))) → r ≡ e) ⌝ }
 {
-    let mut i = at + 1;
-    while i < s.len() {
-        if s[i] == b'"' {
+    if at < s.len() {
+        let i = quote(s, at + 1);
+        if i < s.len() {
             return i + 1;
         }
-        i += 1;
     }
     s.len()
 }

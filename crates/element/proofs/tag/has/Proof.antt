@@ -6,15 +6,15 @@ use Rattle.element.proofs.tag.has.Tie as tie
 use Rattle.element.proofs.tag.has.Reads as reads
 use Rattle.element.proofs.tag.has.Lts as lts
 
--- src/tag.rt:29:5
+-- src/tag.rt:27:5
 mul-result : tie.Need-mul-result
 mul-result c = search needs
 
--- src/tag.rt:29:5
+-- src/tag.rt:27:5
 element-copy-out-result : tie.Need-element-copy-out-result
 element-copy-out-result c = search needs
 
--- src/tag.rt:25:1
+-- src/tag.rt:23:1
 returns : tie.Need-returns
 returns c = λ s l t. present (t .placed (c .before .args .n) (c .before .pre))
 

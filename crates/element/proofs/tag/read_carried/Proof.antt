@@ -1,89 +1,139 @@
-use borrow.Author.Needs.{needs}
-use Rattle.element.proofs.Placing.{So, so-none, so-step, so-done, further}
-use Rattle.markup.proofs.Attributes.{parts-found, parts-none, stops-space, stops-attribute}
-use Rattle.text.proofs.Reading.{answer, found}
-use lib.ListN.{length}
-use native.Mathlib.Omega.{arith}
+-- `element::tag::read_carried` meets its contract.
 use Prim.Native.Nat.{_-_}
+use native.Mathlib.Omega.{arith}
+use borrow.Author.Needs.{needs}
+use lib.ListN.{length}
+use Rattle.text.proofs.Reading.{answer, found}
+use Rattle.element.proofs.Placing.{put, kept, known-counted, other-counted, turn, So, so-none, so-step, so-done, further}
 use Rattle.element.proofs.tag.read_carried.Statement.{statement}
 use Rattle.element.proofs.tag.read_carried.Tie as tie
 use Rattle.element.proofs.tag.read_carried.Reads as reads
 use Rattle.element.proofs.tag.read_carried.Lts as lts
-use Rattle.element.proofs.tag.with_attribute.Reads as with-attribute-reads
-use Rattle.markup.proofs.scan.read_some_space.Reads as read-some-space-reads
-use Rattle.markup.proofs.tag.read_attribute.Reads as read-attribute-reads
+use Rattle.element.proofs.name.number_of.Reads as number-of-reads
+use Rattle.element.proofs.tag.one_if.Reads as one-if-reads
+use Rattle.element.proofs.tag.past_equals.Reads as past-equals-reads
+use Rattle.element.proofs.value.end.Reads as end-reads
+use Rattle.markup.proofs.scan.read_name.Reads as read-name-reads
+use Rattle.markup.proofs.scan.skip_space.Reads as skip-space-reads
+use Rattle.text.proofs.begins_with.Reads as begins-with-reads
 
 abbrev Inv-loop : tie.InvT-loop
-Inv-loop s at c₀ c = So s at c
+Inv-loop s at places₀ others₀ spaces₀ end₀ t14 places others spaces end = So s at (record { places = places; others = others; spaces = spaces; end = end })
 
 abbrev μ-loop : tie.MeasureT-loop
-μ-loop s at c₀ c = length s - c .end
+μ-loop s at places₀ others₀ spaces₀ end₀ t14 places others spaces end = length s - end
 
--- src/tag.rt:103:5
+-- src/tag.rt:85:5
 loop-holds : tie.Need-loop-holds Inv-loop μ-loop
 loop-holds c = so-none (c .before .args .at) (c .before .pre)
 
--- src/tag.rt:104:13
-read-some-space-requires : tie.Need-read-some-space-requires Inv-loop μ-loop
-read-some-space-requires c κs = c .loop .inv .high
+-- src/tag.rt:86:13
+skip-space-requires : tie.Need-skip-space-requires Inv-loop μ-loop
+skip-space-requires c κs = c .loop .inv .within .high
 
--- src/tag.rt:105:22
-enum-known-gap : tie.Need-enum-known-gap Inv-loop μ-loop
-enum-known-gap c = search needs
+-- src/tag.rt:87:13
+read-name-requires : tie.Need-read-name-requires Inv-loop μ-loop
+read-name-requires c κs = c .skip-space .ensures .high
 
--- src/tag.rt:106:13
+-- src/tag.rt:88:22
+enum-known-named : tie.Need-enum-known-named Inv-loop μ-loop
+enum-known-named c = search needs
+
+-- src/tag.rt:90:17
 enum-told : tie.Need-enum-told Inv-loop μ-loop
 enum-told c = search needs
 
--- src/tag.rt:106:13
+-- src/tag.rt:89:13
 returns : tie.Need-returns Inv-loop μ-loop
-returns c =
-    so-done (c .before .before .before .loop .c) (c .before .before .before .loop .inv) (stops-space (answer (c .enum-told .given .1) (c .before .before .read-some-space .ensures)))
+returns c = so-done _ (c .before .before .before .before .loop .inv) (c .before .before .before .skip-space .ensures) (answer (c .enum-told .given .1) (c .before .before .read-name .ensures))
 
--- src/tag.rt:108:13
-read-attribute-requires : tie.Need-read-attribute-requires Inv-loop μ-loop
-read-attribute-requires c κs = (found (c .before .gap .given .1) (c .before .before .before .read-some-space .ensures)) .high
+-- src/tag.rt:96:13
+past-equals-requires : tie.Need-past-equals-requires Inv-loop μ-loop
+past-equals-requires c κs = let g = found (c .before .named .given .1) (c .before .before .before .read-name .ensures) in (omega (arith, g .low), g .high)
 
--- src/tag.rt:110:13
-enum-known-parts : tie.Need-enum-known-parts Inv-loop μ-loop
-enum-known-parts c = search needs
+-- src/tag.rt:97:9
+end-requires : tie.Need-end-requires Inv-loop μ-loop
+end-requires c κs = omega (arith, c .past-equals .ensures .high)
 
--- src/tag.rt:115:13
-enum-told-2 : tie.Need-enum-told-2 Inv-loop μ-loop
-enum-told-2 c = search needs
+-- src/tag.rt:98:20
+sub-name : tie.Need-sub-name Inv-loop μ-loop
+sub-name c = omega (arith, found (c .before .before .before .named .given .1) (c .before .before .before .before .before .read-name .ensures) .low)
 
--- src/tag.rt:115:13
-returns-2 : tie.Need-returns-2 Inv-loop μ-loop
-returns-2 c =
-    so-done (c .before .before .before .before .before .before .before .loop .c) (c .before .before .before .before .before .before .before .loop .inv) (stops-attribute (found (c .before .before .before .before .gap .given .1) (c .before .before .before .before .before .before .read-some-space .ensures)) (parts-none (c .enum-told2 .given .1) (c .before .before .read-attribute .ensures)))
+-- src/tag.rt:98:20
+part-name-start : tie.Need-part-name-start Inv-loop μ-loop
+part-name-start c = omega (arith, found (c .before .before .before .named .given .1) (c .before .before .before .before .before .read-name .ensures) .low)
 
--- src/tag.rt:117:31
-sub-with-attribute : tie.Need-sub-with-attribute Inv-loop μ-loop
-sub-with-attribute c = omega (arith, (parts-found (c .before .parts .given .1) (c .before .before .before .read-attribute .ensures)) .name-low)
+-- src/tag.rt:98:20
+part-name-end : tie.Need-part-name-end Inv-loop μ-loop
+part-name-end c = found (c .before .before .before .named .given .1) (c .before .before .before .before .before .read-name .ensures) .high
 
--- src/tag.rt:117:31
-part-with-attribute-start : tie.Need-part-with-attribute-start Inv-loop μ-loop
-part-with-attribute-start c = omega (arith, (parts-found (c .before .parts .given .1) (c .before .before .before .read-attribute .ensures)) .name-low)
+-- src/tag.rt:99:13
+number-of-requires : tie.Need-number-of-requires Inv-loop μ-loop
+number-of-requires c κs = search needs
 
--- src/tag.rt:117:31
-part-with-attribute-end : tie.Need-part-with-attribute-end Inv-loop μ-loop
-part-with-attribute-end c = let a = parts-found (c .before .parts .given .1) (c .before .before .before .read-attribute .ensures) in omega (arith, a .name-high, a .value-low, a .high)
+-- src/tag.rt:101:16
+mul-if2 : tie.Need-mul-if2 Inv-loop μ-loop
+mul-if2 c = search needs
 
--- src/tag.rt:117:9
-with-attribute-requires : tie.Need-with-attribute-requires Inv-loop μ-loop
-with-attribute-requires c κs =
-    (c .before .before .before .before .before .before .before .before .before .loop .inv .others, (c .before .before .before .before .before .before .before .before .before .loop .inv .spaces, further (found (c .before .before .before .before .before .before .gap .given .1) (c .before .before .before .before .before .before .before .before .read-some-space .ensures)) (parts-found (c .before .before .parts .given .1) (c .before .before .before .before .read-attribute .ensures))))
+-- src/tag.rt:101:16
+array-read-if2 : tie.Need-array-read-if2 Inv-loop μ-loop
+array-read-if2 c = search needs
 
--- src/tag.rt:103:5
+-- src/tag.rt:102:17
+mul-places : tie.Need-mul-places Inv-loop μ-loop
+mul-places c = search needs
+
+-- src/tag.rt:102:17
+array-write-places : tie.Need-array-write-places Inv-loop μ-loop
+array-write-places c = search needs
+
+-- src/tag.rt:85:5
 loop-less : tie.Need-loop-less Inv-loop μ-loop
-loop-less c =
-    let a = parts-found (c .before .before .before .parts .given .1) (c .before .before .before .before .before .read-attribute .ensures) in
-    omega (arith, further (found (c .before .before .before .before .before .before .before .gap .given .1) (c .before .before .before .before .before .before .before .before .before .read-some-space .ensures)) a, a .high, c .with-attribute .ensures .end)
+loop-less c = omega (arith, further (turn (c .before .before .before .before .before .before .before .before .before .before .skip-space .ensures) (c .before .before .before .before .before .before .before .named .given .1) (c .before .before .before .before .before .before .before .before .before .read-name .ensures) (c .before .before .before .before .before .past-equals .ensures) (c .before .before .before .before .end .ensures .0) (c .before .before .before .before .end .ensures .1)), c .before .before .before .before .end .ensures .1 .0)
 
--- src/tag.rt:103:5
+-- src/tag.rt:85:5
 loop-again : tie.Need-loop-again Inv-loop μ-loop
-loop-again c =
-    so-step (c .before .before .before .before .before .before .before .before .before .before .loop .c) (c .with-attribute .result) (c .before .before .before .before .before .before .before .before .before .before .loop .inv) (found (c .before .before .before .before .before .before .before .gap .given .1) (c .before .before .before .before .before .before .before .before .before .read-some-space .ensures)) (parts-found (c .before .before .before .parts .given .1) (c .before .before .before .before .before .read-attribute .ensures)) (c .with-attribute .ensures)
+loop-again c = so-step _ (c .before .before .before .before .before .before .before .before .before .before .before .loop .inv) (turn (c .before .before .before .before .before .before .before .before .before .before .skip-space .ensures) (c .before .before .before .before .before .before .before .named .given .1) (c .before .before .before .before .before .before .before .before .before .read-name .ensures) (c .before .before .before .before .before .past-equals .ensures) (c .before .before .before .before .end .ensures .0) (c .before .before .before .before .end .ensures .1)) (c .before .before .number-of .ensures) (put (omega arith) (c .if2 .taken)) (known-counted _ (c .before .before .number-of .ensures) (omega arith))
+
+-- src/tag.rt:85:5
+loop-less-2 : tie.Need-loop-less-2 Inv-loop μ-loop
+loop-less-2 c = omega (arith, further (turn (c .before .before .before .before .before .before .before .before .before .before .skip-space .ensures) (c .before .before .before .before .before .before .before .named .given .1) (c .before .before .before .before .before .before .before .before .before .read-name .ensures) (c .before .before .before .before .before .past-equals .ensures) (c .before .before .before .before .end .ensures .0) (c .before .before .before .before .end .ensures .1)), c .before .before .before .before .end .ensures .1 .0)
+
+-- src/tag.rt:85:5
+loop-again-2 : tie.Need-loop-again-2 Inv-loop μ-loop
+loop-again-2 c = so-step _ (c .before .before .before .before .before .before .before .before .before .before .before .loop .inv) (turn (c .before .before .before .before .before .before .before .before .before .before .skip-space .ensures) (c .before .before .before .before .before .before .before .named .given .1) (c .before .before .before .before .before .before .before .before .before .read-name .ensures) (c .before .before .before .before .before .past-equals .ensures) (c .before .before .before .before .end .ensures .0) (c .before .before .before .before .end .ensures .1)) (c .before .before .number-of .ensures) (kept (λ h. c .if2 .left)) (known-counted _ (c .before .before .number-of .ensures) (omega arith))
+
+-- src/tag.rt:105:43
+slice-aggregate-begins-with : tie.Need-slice-aggregate-begins-with Inv-loop μ-loop
+slice-aggregate-begins-with c = search needs
+
+-- src/tag.rt:105:17
+begins-with-requires : tie.Need-begins-with-requires Inv-loop μ-loop
+begins-with-requires c κs = search needs
+
+-- src/tag.rt:106:31
+one-if-requires : tie.Need-one-if-requires Inv-loop μ-loop
+one-if-requires c κs = search needs
+
+-- src/tag.rt:106:22
+add-others : tie.Need-add-others Inv-loop μ-loop
+add-others c = omega (arith, c .before .before .before .before .before .before .before .before .before .before .before .before .before .loop .inv .few .0, further (turn (c .before .before .before .before .before .before .before .before .before .before .before .before .skip-space .ensures) (c .before .before .before .before .before .before .before .before .before .named .given .1) (c .before .before .before .before .before .before .before .before .before .before .before .read-name .ensures) (c .before .before .before .before .before .before .before .past-equals .ensures) (c .before .before .before .before .before .before .end .ensures .0) (c .before .before .before .before .before .before .end .ensures .1)), c .one-if .ensures .1, c .before .before .before .before .before .before .end .ensures .1 .0)
+
+-- src/tag.rt:107:31
+one-if-requires-2 : tie.Need-one-if-requires-2 Inv-loop μ-loop
+one-if-requires-2 c κs = search needs
+
+-- src/tag.rt:107:22
+add-spaces : tie.Need-add-spaces Inv-loop μ-loop
+add-spaces c = omega (arith, c .before .before .before .before .before .before .before .before .before .before .before .before .before .before .loop .inv .few .1, further (turn (c .before .before .before .before .before .before .before .before .before .before .before .before .before .skip-space .ensures) (c .before .before .before .before .before .before .before .before .before .before .named .given .1) (c .before .before .before .before .before .before .before .before .before .before .before .before .read-name .ensures) (c .before .before .before .before .before .before .before .before .past-equals .ensures) (c .before .before .before .before .before .before .before .end .ensures .0) (c .before .before .before .before .before .before .before .end .ensures .1)), c .one-if2 .ensures .1, c .before .before .before .before .before .before .before .end .ensures .1 .0)
+
+-- src/tag.rt:85:5
+loop-less-3 : tie.Need-loop-less-3 Inv-loop μ-loop
+loop-less-3 c = omega (arith, further (turn (c .before .before .before .before .before .before .before .before .before .before .before .before .before .skip-space .ensures) (c .before .before .before .before .before .before .before .before .before .before .named .given .1) (c .before .before .before .before .before .before .before .before .before .before .before .before .read-name .ensures) (c .before .before .before .before .before .before .before .before .past-equals .ensures) (c .before .before .before .before .before .before .before .end .ensures .0) (c .before .before .before .before .before .before .before .end .ensures .1)), c .before .before .before .before .before .before .before .end .ensures .1 .0)
+
+-- src/tag.rt:85:5
+loop-again-3 : tie.Need-loop-again-3 Inv-loop μ-loop
+loop-again-3 c = so-step _ (c .before .before .before .before .before .before .before .before .before .before .before .before .before .before .loop .inv) (turn (c .before .before .before .before .before .before .before .before .before .before .before .before .before .skip-space .ensures) (c .before .before .before .before .before .before .before .before .before .before .named .given .1) (c .before .before .before .before .before .before .before .before .before .before .before .before .read-name .ensures) (c .before .before .before .before .before .before .before .before .past-equals .ensures) (c .before .before .before .before .before .before .before .end .ensures .0) (c .before .before .before .before .before .before .before .end .ensures .1)) (c .before .before .before .before .before .number-of .ensures) (kept (λ h. absurd (omega (arith, h)))) (other-counted _ _ _ (c .before .before .before .before .before .number-of .ensures) (omega arith) (c .before .before .begins-with .ensures) (c .before .one-if .ensures) (c .one-if2 .ensures))
 
 pub read-carried-spec : {M : Type 1} → statement M
 read-carried-spec =
@@ -92,17 +142,30 @@ read-carried-spec =
     Inv-loop
     μ-loop
     loop-holds
-    read-some-space-requires
-    enum-known-gap
+    skip-space-requires
+    read-name-requires
+    enum-known-named
     enum-told
     returns
-    read-attribute-requires
-    enum-known-parts
-    enum-told-2
-    returns-2
-    sub-with-attribute
-    part-with-attribute-start
-    part-with-attribute-end
-    with-attribute-requires
+    past-equals-requires
+    end-requires
+    sub-name
+    part-name-start
+    part-name-end
+    number-of-requires
+    mul-if2
+    array-read-if2
+    mul-places
+    array-write-places
     loop-less
-    loop-again)
+    loop-again
+    loop-less-2
+    loop-again-2
+    slice-aggregate-begins-with
+    begins-with-requires
+    one-if-requires
+    add-others
+    one-if-requires-2
+    add-spaces
+    loop-less-3
+    loop-again-3)

@@ -10,19 +10,19 @@ use Rattle.element.proofs.value.is_nothing.Reads as is-nothing-reads
 use Rattle.element.proofs.value.next.Reads as next-reads
 use Rattle.element.proofs.value.start.Reads as start-reads
 
--- src/value.rt:46:9
+-- src/value.rt:61:9
 start-requires : tie.Need-start-requires
 start-requires c κs = search needs
 
--- src/value.rt:47:9
+-- src/value.rt:62:9
 next-requires : tie.Need-next-requires
 next-requires c κs = search needs
 
--- src/value.rt:48:5
+-- src/value.rt:63:5
 is-nothing-requires : tie.Need-is-nothing-requires
 is-nothing-requires c κs = search needs
 
--- src/value.rt:42:1
+-- src/value.rt:57:1
 returns : tie.Need-returns
 returns c = λ v a q. c .is-nothing .ensures ∙ chars-empty (c .before .next .ensures .1 v (c .before .before .start .ensures .1 v a q))
 

@@ -20,67 +20,67 @@ Inv-loop s at t other from onset i₀ j₀ i j = (i ≤ length s) × (j ≤ leng
 abbrev μ-loop : tie.MeasureT-loop
 μ-loop s at t other from onset i₀ j₀ i j = length s - i
 
--- src/value.rt:84:9
+-- src/value.rt:99:9
 start-requires : tie.Need-start-requires Inv-loop μ-loop
 start-requires c κs = search needs
 
--- src/value.rt:85:9
+-- src/value.rt:100:9
 start-requires-2 : tie.Need-start-requires-2 Inv-loop μ-loop
 start-requires-2 c κs = c .before .before .before .pre .1
 
--- src/value.rt:88:5
+-- src/value.rt:103:5
 loop-holds : tie.Need-loop-holds Inv-loop μ-loop
 loop-holds c = (c .before .start .ensures .0, c .start2 .ensures .0, λ b h. h)
 
--- src/value.rt:89:13
+-- src/value.rt:104:13
 next-requires : tie.Need-next-requires Inv-loop μ-loop
 next-requires c κs = c .loop .inv .0
 
--- src/value.rt:90:13
+-- src/value.rt:105:13
 next-requires-2 : tie.Need-next-requires-2 Inv-loop μ-loop
 next-requires-2 c κs = c .before .loop .inv .1
 
--- src/value.rt:91:22
+-- src/value.rt:106:22
 enum-known-first : tie.Need-enum-known-first Inv-loop μ-loop
 enum-known-first c = search needs
 
--- src/value.rt:92:13
+-- src/value.rt:107:13
 enum-told : tie.Need-enum-told Inv-loop μ-loop
 enum-told c = search needs
 
--- src/value.rt:92:13
+-- src/value.rt:107:13
 is-nothing-requires : tie.Need-is-nothing-requires Inv-loop μ-loop
 is-nothing-requires c κs = search needs
 
--- src/value.rt:92:13
+-- src/value.rt:107:13
 returns : tie.Need-returns Inv-loop μ-loop
 returns c =
     λ v w a b p q. c .is-nothing .ensures ∙ c .before .before .before .before .before .loop .inv .2 _ (agree-end (c .before .before .before .before .next .ensures .1) (c .before .before .before .next2 .ensures .1) (c .before .enum-told .given .1)) v w (c .before .before .before .before .before .before .before .start .ensures .1 v a p) (c .before .before .before .before .before .before .start2 .ensures .1 w b q)
 
--- src/value.rt:94:22
+-- src/value.rt:109:22
 enum-known-second : tie.Need-enum-known-second Inv-loop μ-loop
 enum-known-second c = search needs
 
--- src/value.rt:95:13
+-- src/value.rt:110:13
 enum-told-2 : tie.Need-enum-told-2 Inv-loop μ-loop
 enum-told-2 c = search needs
 
--- src/value.rt:95:13
+-- src/value.rt:110:13
 returns-2 : tie.Need-returns-2 Inv-loop μ-loop
 returns-2 c =
     λ v w a b p q. c .before .before .before .before .before .before .before .loop .inv .2 _ (agree-short (c .before .before .before .before .before .before .next .ensures .1) (c .before .before .before .before .before .next2 .ensures .1) (c .before .before .before .first .given .1) (c .enum-told2 .given .1)) v w (c .before .before .before .before .before .before .before .before .before .start .ensures .1 v a p) (c .before .before .before .before .before .before .before .before .start2 .ensures .1 w b q)
 
--- src/value.rt:98:13
+-- src/value.rt:113:13
 returns-3 : tie.Need-returns-3 Inv-loop μ-loop
 returns-3 c =
     λ v w a b p q. c .before .before .before .before .before .before .before .before .before .loop .inv .2 _ (agree-other (c .before .before .before .before .before .before .before .before .next .ensures .1) (c .before .before .before .before .before .before .before .next2 .ensures .1) (c .before .before .before .before .before .first .given .1) (c .before .before .second .given .1) (c .if1 .taken)) v w (c .before .before .before .before .before .before .before .before .before .before .before .start .ensures .1 v a p) (c .before .before .before .before .before .before .before .before .before .before .start2 .ensures .1 w b q)
 
--- src/value.rt:88:5
+-- src/value.rt:103:5
 loop-less : tie.Need-loop-less Inv-loop μ-loop
 loop-less c =
     omega (arith, (on-bounds (c .before .before .before .before .before .first .given .1) (c .before .before .before .before .before .before .before .before .next .ensures .0)) .0, (on-bounds (c .before .before .before .before .before .first .given .1) (c .before .before .before .before .before .before .before .before .next .ensures .0)) .1)
 
--- src/value.rt:88:5
+-- src/value.rt:103:5
 loop-again : tie.Need-loop-again Inv-loop μ-loop
 loop-again c =
     ((on-bounds (c .before .before .before .before .before .first .given .1) (c .before .before .before .before .before .before .before .before .next .ensures .0)) .1, (on-bounds (c .before .before .second .given .1) (c .before .before .before .before .before .before .before .next2 .ensures .0)) .1, λ b n. c .before .before .before .before .before .before .before .before .before .loop .inv .2 b (agree-more (c .before .before .before .before .before .before .before .before .next .ensures .1) (c .before .before .before .before .before .before .before .next2 .ensures .1) (c .before .before .before .before .before .first .given .1) (c .before .before .second .given .1) (c .if1 .left) b n))

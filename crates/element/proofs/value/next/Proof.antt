@@ -12,45 +12,45 @@ use Rattle.markup.proofs.scan.read_byte.Reads as read-byte-reads
 use Rattle.markup.proofs.value.is_simple.Reads as is-simple-reads
 use Rattle.markup.proofs.value.read_char.Reads as read-char-reads
 
--- src/value.rt:52:17
+-- src/value.rt:67:17
 shared-slice-read-c : tie.Need-shared-slice-read-c
 shared-slice-read-c c = search needs
 
--- src/value.rt:53:12
+-- src/value.rt:68:12
 is-simple-requires : tie.Need-is-simple-requires
 is-simple-requires c κs = search needs
 
--- src/value.rt:54:32
+-- src/value.rt:69:32
 add-t10 : tie.Need-add-t10
 add-t10 c = search needs
 
--- src/value.rt:54:13
+-- src/value.rt:69:13
 returns : tie.Need-returns
 returns c =
     let e = sym (c .before .is-simple .ensures) ∙ c .if2 .taken in
     let g = simple-char (c .before .before .before .before .before .args .s .now) (c .before .before .before .before .before .args .at) (c .before .before .before .if1 .taken) e in
     (chars-on g, chars-next (not-quote (c .before .before .before .before .before .args .s .now) (c .before .before .before .before .before .args .at) (c .before .before .before .if1 .taken) e) g)
 
--- src/value.rt:57:9
+-- src/value.rt:72:9
 read-byte-requires : tie.Need-read-byte-requires
 read-byte-requires c κs = search needs
 
--- src/value.rt:59:9
+-- src/value.rt:74:9
 enum-told : tie.Need-enum-told
 enum-told c = search needs
 
--- src/value.rt:59:9
+-- src/value.rt:74:9
 returns-2 : tie.Need-returns-2
 returns-2 c = (no-char-on, chars-end (answer (c .enum-told .given .1) (c .before .before .read-byte .ensures)))
 
 enum-told-2 : tie.Need-enum-told-2
 enum-told-2 c = search needs
 
--- src/value.rt:61:5
+-- src/value.rt:76:5
 read-char-requires : tie.Need-read-char-requires
 read-char-requires c κs = search needs
 
--- src/value.rt:46:1
+-- src/value.rt:61:1
 returns-3 : tie.Need-returns-3
 returns-3 c = (chars-on (c .read-char .ensures), chars-next (answer (c .before .enum-told2 .given .1) (c .before .before .before .read-byte .ensures)) (c .read-char .ensures))
 
