@@ -19,7 +19,7 @@ use Rattle.datatype.specs.Tables.{standingMeant, Step, stepAmong}
 use Rattle.datatype.specs.Said.{Said, nothing, saidMeant, saidBy, BoundsSaid}
 use Rattle.judge.specs.Faults.{judged, childJudged}
 use Rattle.judge.specs.declared.row.Asked.{Asked}
-use Rattle.judge.specs.declared.row.Inside.{Inside}
+use Rattle.judge.specs.declared.row.Content.{Content}
 use Rattle.judge.specs.declared.row.Row.{Row}
 
 -- what an element of a kind says as a bound: a time what it says, another nothing
@@ -80,7 +80,7 @@ pub record AskedAs (shift : ℕ) (o : Option Step) (stage : ℕ) (v : Element) (
   pub to : a .stage ≡ ifSome o (λ t. t .to) stage
 
 -- the row of the element v, of a kind, at its end, at a position: one that has not come far enough is SHAPE
-pub record Finished (shift : ℕ) (k : Kind) (v : Element) (row : Row) (at : ℕ) (r : Inside) : Type 0 where
+pub record Finished (shift : ℕ) (k : Kind) (v : Element) (row : Row) (at : ℕ) (r : Content) : Type 0 where
   pub fault : faultOf (r .fault) ≡ earlier (faultOf (row .fault)) (firstOf (SHAPE when (not (isNull (v .attrs)) && ltb (row .stage) (lineOf k .enough))))
   pub any : r .any ≡ row .any
   pub broken : k ≡ IVL-TS → BoundsSaid shift (v .kids) (row .low) (row .high) → r .broken ≡ breaksInterval shift (v .attrs) (v .kids)
@@ -92,7 +92,7 @@ Hides o = earlier o (some RULE) ≡ o
 
 -- what is inside the element v, of a kind, judged: the first fault, whether there are children, where the element ends, and, unless the fault comes
 -- before RULE, whether the bounds of an interval break a rule
-pub record InsideAs (s : List ℕ) (shift : ℕ) (k : Kind) (v : Element) (after : List ℕ) (r : Inside) : Type 0 where
+pub record ContentAs (s : List ℕ) (shift : ℕ) (k : Kind) (v : Element) (after : List ℕ) (r : Content) : Type 0 where
   pub fault : faultOf (r .fault) ≡ firstOf (childFaults shift k (isNull (v .attrs)) 0 (v .kids))
   pub any : r .any ≡ hasChildren (v .kids)
   pub ends : after ≡ drop (r .end) s

@@ -1,20 +1,21 @@
 // The faults of a record: each of its elements judged by the table of types, each start tag read once. The first on the ladder is given.
 ghost use mathlib.Core.Path.{_≡_};
-ghost use mathlib.Core.Bool.{true};
 ghost use mathlib.Core.List.{List};
-ghost use Prim.Native.Nat.{ℕ, suc, _≤_};
+ghost use Prim.Native.Nat.{ℕ, _≤_};
 ghost use lib.ListN.{length};
 ghost use Rattle.rules.specs.Markup.{Element};
 ghost use Rattle.element.specs.Tags.{TagOf, TagIn};
 ghost use Rattle.datatype.specs.Meaning.{kindMeant};
 ghost use Rattle.judge.specs.Checks.{RefusedAs, DocumentAs, CheckedAs};
-ghost use Rattle.judge.specs.Rows.{InsideAs};
+ghost use Rattle.judge.specs.Rows.{ContentAs};
 
 mod carried;
 mod own;
 mod row;
 mod rule;
 
+use datatype::inside::Inside;
+use datatype::inside::next_inside;
 use datatype::kind::Kind;
 use datatype::kind::Named;
 use datatype::kind::type_at;
@@ -22,16 +23,13 @@ use datatype::record::Record;
 use datatype::table::Standing;
 use element::name::KNOWN;
 use element::name::XSI_TYPE;
-use element::row::Following;
-use element::row::next;
-use element::row::past_end_tag;
 use element::tag;
 use element::tag::Tag;
 use own::judge_with;
 use own::time_in;
 use refusal::Refusal;
 use refusal::Verdict;
-use row::Inside;
+use row::Content;
 use row::begin;
 use row::child_asked;
 use row::finish;
@@ -40,39 +38,24 @@ use row::with_child;
 // How many elements may be open at once.
 const DEPTH: usize = 8;
 
-// What is inside the element of a tag, of a kind, where `depth` may be open at once. It calls the reader of the row of children, which calls
-// it, with `depth` falling.
-fn judge_content(s: &[u8], tag: Tag, depth: usize, kind: Kind, shift: u64) -> Inside
+// What is inside the element of a tag, of a kind, where `depth` may be open at once. It calls itself for each child, with `depth` falling.
+fn judge_content(s: &[u8], tag: Tag, depth: usize, kind: Kind, shift: u64) -> Content
     requires { ⌜ TagIn (now s) tag ⌝ ∗ ⌜ shift ≤ 1680 ⌝ }
     ensures within { λ r. ⌜ (tag .end ≤ r .end) × (r .end ≤ length (now (s .entry))) ⌝ }
-    ensures tells { λ r. ⌜ ((v : Element) (after : List ℕ) → TagOf (now (s .entry)) depth v after tag → InsideAs (now (s .entry)) shift (kindMeant kind) v after r) ⌝ }
-{
-    if tag.full & (depth != 0) {
-        return judge_row(s, tag, depth - 1, kind, shift);
-    }
-    finish(s, tag, kind, begin(tag.end), tag.end)
-}
-
-// The row of children that follows a tag, of an element of a kind.
-fn judge_row(s: &[u8], tag: Tag, depth: usize, kind: Kind, shift: u64) -> Inside
-    requires { ⌜ TagIn (now s) tag ⌝ ∗ ⌜ shift ≤ 1680 ⌝ }
-    ensures within { λ r. ⌜ (tag .end ≤ r .end) × (r .end ≤ length (now (s .entry))) ⌝ }
-    ensures tells { λ r. ⌜ ((v : Element) (after : List ℕ) → TagOf (now (s .entry)) (suc depth) v after tag → tag .full ≡ true → InsideAs (now (s .entry)) shift (kindMeant kind) v after r) ⌝ }
+    ensures tells { λ r. ⌜ ((v : Element) (after : List ℕ) → TagOf (now (s .entry)) depth v after tag → ContentAs (now (s .entry)) shift (kindMeant kind) v after r) ⌝ }
 {
     let mut row = begin(tag.end);
     loop {
-        let following = next(s, row.end);
-        match following {
-            Following::End(i) => {
-                return finish(s, tag, kind, row, past_end_tag(s, i, tag));
-            }
-            Following::Child(i) => {
+        let next = next_inside(s, tag, depth, row.end);
+        match next {
+            Inside::Child(i) => {
                 let child = tag::read(s, i);
                 let asked = child_asked(s, child, kind, row.stage);
                 let as_kind = asked.kind;
-                let inside = judge_content(s, child, depth, as_kind, shift);
-                row = with_child(s, row, child, asked, inside, shift);
+                let content = judge_content(s, child, depth - 1, as_kind, shift);
+                row = with_child(s, row, child, asked, content, shift);
             }
+            Inside::Past(end) => return finish(s, tag, kind, row, end),
         }
     }
 }
@@ -117,10 +100,10 @@ fn check_document(s: &[u8], shift: u64) -> Checked
     let Named::Is(kind) = named else {
         return refused(Refusal::Type);
     };
-    let inside = judge_content(s, tag, DEPTH, kind, shift);
+    let content = judge_content(s, tag, DEPTH, kind, shift);
     let time = time_in(s, tag, kind, shift);
     let text = time.fault;
-    let fault = judge_with(s, tag, kind, Standing::Top, text, inside, shift);
+    let fault = judge_with(s, tag, kind, Standing::Top, text, content, shift);
     let record = Record { kind, tag };
     Checked { fault, record }
 }

@@ -15,11 +15,11 @@ ghost use Rattle.datatype.specs.Meaning.{kindMeant};
 ghost use Rattle.datatype.specs.Tables.{standingMeant};
 ghost use Rattle.datatype.specs.Said.{saidMeant, timeFault};
 ghost use Rattle.judge.specs.Faults.{judged};
-ghost use Rattle.judge.specs.Rows.{saidOf, InsideAs};
+ghost use Rattle.judge.specs.Rows.{saidOf, ContentAs};
 use crate::carried::attributes_fault;
 use crate::carried::has_own;
 use crate::carried::lacks;
-use crate::row::Inside;
+use crate::row::Content;
 use crate::row::refused_if;
 use crate::rule::breaks;
 use datatype::kind::Kind;
@@ -59,11 +59,11 @@ fn breaks_null(tag: Tag, kind: Kind, any: bool) -> bool
 }
 
 // Whether an element breaks a rule of its kind, by its tag and what is inside it.
-fn is_broken(s: &[u8], tag: Tag, kind: Kind, inside: Inside) -> bool
+fn is_broken(s: &[u8], tag: Tag, kind: Kind, content: Content) -> bool
     requires { ⌜ TagIn (now s) tag ⌝ }
-    ensures { λ r. ⌜ ((shift : ℕ) (l : List Attribute) (kids : Nodes) → Tells (now (s .entry)) l (tag .places) → inside .any ≡ hasChildren kids → (kindMeant kind ≡ IVL-TS → inside .broken ≡ breaksInterval shift l kids) → r ≡ (lineOf (kindMeant kind) .invariant shift l kids || breaksNull (kindMeant kind) l kids)) ⌝ }
+    ensures { λ r. ⌜ ((shift : ℕ) (l : List Attribute) (kids : Nodes) → Tells (now (s .entry)) l (tag .places) → content .any ≡ hasChildren kids → (kindMeant kind ≡ IVL-TS → content .broken ≡ breaksInterval shift l kids) → r ≡ (lineOf (kindMeant kind) .invariant shift l kids || breaksNull (kindMeant kind) l kids)) ⌝ }
 {
-    breaks(s, tag, kind, inside.any, inside.broken) | breaks_null(tag, kind, inside.any)
+    breaks(s, tag, kind, content.any, content.broken) | breaks_null(tag, kind, content.any)
 }
 
 // The first fault of an element of a kind and of what is inside it, by its tag; `text` is the fault of the timestamp of a TS.
@@ -73,16 +73,16 @@ pub fn judge_with(
     kind: Kind,
     standing: Standing,
     text: Verdict,
-    inside: Inside,
+    content: Content,
     shift: u64,
 ) -> Verdict
     requires { ⌜ TagIn (now s) tag ⌝ ∗ ⌜ shift ≤ 1680 ⌝ }
-    ensures { λ r. ⌜ ((depth : ℕ) (v : Element) (after : List ℕ) → TagOf (now (s .entry)) depth v after tag → (kindMeant kind ≡ TS → faultOf text ≡ timeFault shift (v .attrs)) → InsideAs (now (s .entry)) shift (kindMeant kind) v after inside → faultOf r ≡ firstOf (judged shift (standingMeant standing) (some (kindMeant kind)) v)) ⌝ }
+    ensures { λ r. ⌜ ((depth : ℕ) (v : Element) (after : List ℕ) → TagOf (now (s .entry)) depth v after tag → (kindMeant kind ≡ TS → faultOf text ≡ timeFault shift (v .attrs)) → ContentAs (now (s .entry)) shift (kindMeant kind) v after content → faultOf r ≡ firstOf (judged shift (standingMeant standing) (some (kindMeant kind)) v)) ⌝ }
 {
     let carried = attributes_fault(s, tag, kind, standing, text, shift);
     let missing = refused_if(Refusal::Shape, lacks(tag, kind));
-    let broken = refused_if(Refusal::Rule, is_broken(s, tag, kind, inside));
+    let broken = refused_if(Refusal::Rule, is_broken(s, tag, kind, content));
     let own = first(carried, first(missing, broken));
-    let below = inside.fault;
+    let below = content.fault;
     first(own, below)
 }

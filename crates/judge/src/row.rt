@@ -13,7 +13,7 @@ ghost use Rattle.datatype.specs.Meaning.{kindMeant};
 ghost use Rattle.datatype.specs.Tables.{stepMeant, stepAmong};
 ghost use Rattle.datatype.specs.declared.kind.Kind.the-variants.{Part};
 ghost use Rattle.datatype.specs.Said.{saidMeant};
-ghost use Rattle.judge.specs.Rows.{rowMeant, beginning, withChild, rowStep, AskedAs, Finished, InsideAs};
+ghost use Rattle.judge.specs.Rows.{rowMeant, beginning, withChild, rowStep, AskedAs, Finished, ContentAs};
 use crate::own::judge_with;
 use crate::own::time_in;
 use crate::rule::breaks_bounds;
@@ -46,7 +46,7 @@ pub struct Row {
 
 // What is inside an element, judged: the first fault, whether there are children, whether the bounds of an interval break a rule, and where
 // the element ends.
-pub struct Inside {
+pub struct Content {
     pub fault: Verdict,
     pub any: bool,
     pub broken: bool,
@@ -182,15 +182,15 @@ fn with_judged(row: Row, stage: u64, fault: Verdict, said: Said, end: usize) -> 
 }
 
 // A row with the child of a tag more, by what it is judged as and what is inside it.
-pub fn with_child(s: &[u8], row: Row, tag: Tag, asked: Asked, inside: Inside, shift: u64) -> Row
+pub fn with_child(s: &[u8], row: Row, tag: Tag, asked: Asked, content: Content, shift: u64) -> Row
     requires { ⌜ TagIn (now s) tag ⌝ ∗ ⌜ shift ≤ 1680 ⌝ }
-    ensures { λ r. ⌜ (r .end ≡ inside .end) × ((k : RulesKind) (depth : ℕ) (v : Element) (after : List ℕ) → TagOf (now (s .entry)) depth v after tag → AskedAs shift (stepAmong (lineOf k .children) (row .stage) (v .name)) (row .stage) v asked → InsideAs (now (s .entry)) shift (kindMeant (asked .kind)) v after inside → rowMeant r ≡ rowStep shift k (rowMeant row) v) ⌝ }
+    ensures { λ r. ⌜ (r .end ≡ content .end) × ((k : RulesKind) (depth : ℕ) (v : Element) (after : List ℕ) → TagOf (now (s .entry)) depth v after tag → AskedAs shift (stepAmong (lineOf k .children) (row .stage) (v .name)) (row .stage) v asked → ContentAs (now (s .entry)) shift (kindMeant (asked .kind)) v after content → rowMeant r ≡ rowStep shift k (rowMeant row) v) ⌝ }
 {
     let kind = asked.kind;
     let standing = asked.standing;
     let time = time_in(s, tag, kind, shift);
     let text = time.fault;
-    let judged = judge_with(s, tag, kind, standing, text, inside, shift);
+    let judged = judge_with(s, tag, kind, standing, text, content, shift);
     let refused = asked.fault;
     let said = time.said;
     with_judged(
@@ -198,12 +198,12 @@ pub fn with_child(s: &[u8], row: Row, tag: Tag, asked: Asked, inside: Inside, sh
         asked.stage,
         unless_refused(refused, judged),
         said,
-        inside.end,
+        content.end,
     )
 }
 
 // A row at its end, which is at a position, of the element of a tag.
-pub fn finish(s: &[u8], tag: Tag, kind: Kind, row: Row, at: usize) -> Inside
+pub fn finish(s: &[u8], tag: Tag, kind: Kind, row: Row, at: usize) -> Content
     requires { ⌜ TagIn (now s) tag ⌝ }
     ensures { λ r. ⌜ (r .end ≡ at) × ((shift : ℕ) (v : Element) → Tells (now (s .entry)) (v .attrs) (tag .places) → Finished shift (kindMeant kind) v row at r) ⌝ }
 {
@@ -212,7 +212,7 @@ pub fn finish(s: &[u8], tag: Tag, kind: Kind, row: Row, at: usize) -> Inside
     let missing = refused_if(Refusal::Shape, !null & (row.stage < enough(kind)));
     let low = row.low;
     let high = row.high;
-    Inside {
+    Content {
         fault: first(before, missing),
         any: row.any,
         broken: breaks_bounds(s, tag, kind, low, high),
