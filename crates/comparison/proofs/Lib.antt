@@ -6,4 +6,3 @@ pub mod Types
 pub mod Parts
 pub mod Flags
 pub mod Sayings
-pub mod Joined
