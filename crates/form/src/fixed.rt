@@ -48,7 +48,10 @@ pub fn is_flag(s: &[u8], q: usize) -> bool
     requires { ⌜ q ≤ length (now s) ⌝ }
     ensures { λ r. ⌜ ((v after : List ℕ) → value (drop q (now (s .entry))) ≡ ok v after → r ≡ isFlag v) ⌝ }
 {
-    is(s, q, b"true") | is(s, q, b"false")
+    if is(s, q, b"true") {
+        return true;
+    }
+    is(s, q, b"false")
 }
 
 // Whether a value is the type of a part of a name.
@@ -56,5 +59,14 @@ pub fn is_part_type(s: &[u8], q: usize) -> bool
     requires { ⌜ q ≤ length (now s) ⌝ }
     ensures { λ r. ⌜ ((v after : List ℕ) → value (drop q (now (s .entry))) ≡ ok v after → r ≡ isPartType v) ⌝ }
 {
-    is(s, q, b"FAM") | is(s, q, b"GIV") | is(s, q, b"TITLE") | is(s, q, b"DEL")
+    if is(s, q, b"FAM") {
+        return true;
+    }
+    if is(s, q, b"GIV") {
+        return true;
+    }
+    if is(s, q, b"TITLE") {
+        return true;
+    }
+    is(s, q, b"DEL")
 }
