@@ -8,7 +8,7 @@ use Rattle.rules.specs.Markup.{Attribute, Nodes, end, node, Element}
 use Rattle.rules.specs.Comparison.{Answer, Yes, No, Unknown, _also_, compareParts, compareAllParts}
 use Rattle.element.specs.Tags.{ElementTo, Tells, TagOf, TagIn}
 use Rattle.element.specs.declared.tag.Tag.{Tag}
-use Rattle.datatype.specs.Inside.{Left, ChildAt, EndsAt}
+use Rattle.element.specs.Inside.{Left, ChildAt, EndsAt}
 
 also-assoc : (a b c : Answer) → ((a also b) also c) ≡ (a also (b also c))
 also-assoc Yes b c = refl
@@ -40,7 +40,7 @@ pub record Compared (s t : List ℕ) (a b : Tag) (depth i j : ℕ) (answer : Ans
   pub first : i ≤ length s
   pub second : j ≤ length t
   pub left : (v w : Element) (after rest : List ℕ) → TagOf s depth v after a → TagOf t depth w rest b
-      → (l m : Nodes) × Left s a depth v after i l × Left t b depth w rest j m × (compareAllParts (v .kids) (w .kids) ≡ (answer also compareAllParts l m))
+      → (l m : Nodes) × Left s (a .full) depth v after i l × Left t (b .full) depth w rest j m × (compareAllParts (v .kids) (w .kids) ≡ (answer also compareAllParts l m))
 
 pub parts-begin : {s t : List ℕ} {a b : Tag} {depth : ℕ} → a .end ≤ length s → b .end ≤ length t → Compared s t a b depth (a .end) (b .end) Yes
 parts-begin h k = record { first = h; second = k; left = λ v w after rest g h. (v .kids, w .kids, g .inner, h .inner, refl) }
@@ -48,10 +48,10 @@ parts-begin h k = record { first = h; second = k; left = λ v w after rest g h. 
 -- a part that stands next, with the tag u, goes up to e
 pub record Part (s : List ℕ) (t u : Tag) (depth at e : ℕ) : Type 0 where
   pub high : e ≤ length s
-  pub first : (v : Element) (after : List ℕ) (l : Nodes) → Left s t depth v after at l
-      → (k : Element) × (others : Nodes) × (l ≡ node (k .name) (k .attrs) (k .kids) others) × Tells s (k .attrs) (u .places) × Left s t depth v after e others
+  pub first : (v : Element) (after : List ℕ) (l : Nodes) → Left s (t .full) depth v after at l
+      → (k : Element) × (others : Nodes) × (l ≡ node (k .name) (k .attrs) (k .kids) others) × Tells s (k .attrs) (u .places) × Left s (t .full) depth v after e others
 
-pub part : {s : List ℕ} {t u : Tag} {depth at i e : ℕ} → ChildAt s t depth at i
+pub part : {s : List ℕ} {t u : Tag} {depth at i e : ℕ} → ChildAt s (t .full) depth at i
     → (TagIn s u × (i < length s → i < u .end)) × ((d : ℕ) (v : Element) (after : List ℕ) → ElementTo s i d v after → TagOf s d v after u)
     → ((u .end ≤ e) × (e ≤ length s)) × ((v : Element) (after : List ℕ) → TagOf s (depth - 1) v after u → after ≡ drop e s) → Part s t u depth at e
 part {depth = depth} {e = e} n ((within, on), tells) ((low, high), past) = record {
@@ -77,21 +77,21 @@ module _ {s t : List ℕ} {a b : Tag} {depth i j : ℕ} {answer : Answer} (h : C
 
   module _ {v w : Element} {after rest : List ℕ} (g : TagOf s depth v after a) (k : TagOf t depth w rest b) where
     -- as many parts
-    pub parts-end : {e o : ℕ} → EndsAt s a depth i e → EndsAt t b depth j o → answer ≡ compareAllParts (v .kids) (w .kids)
+    pub parts-end : {e o : ℕ} → EndsAt s (a .full) (a .name) (a .past) depth i e → EndsAt t (b .full) (b .name) (b .past) depth j o → answer ≡ compareAllParts (v .kids) (w .kids)
     unfolding compareAllParts
     parts-end n m =
         let (l, r, x, y, e) = h .left v w after rest g k in
-        sym (e ∙ ap₂ (λ (l r : Nodes). answer also compareAllParts l r) (n .ends v after l g x .0) (m .ends w rest r k y .0) ∙ also-yes answer)
+        sym (e ∙ ap₂ (λ (l r : Nodes). answer also compareAllParts l r) (n .ends v after l (g .deep) (g .named) x .0) (m .ends w rest r (k .deep) (k .named) y .0) ∙ also-yes answer)
 
     -- differing counts
-    pub parts-over : {p o : ℕ} → ChildAt s a depth i p → EndsAt t b depth j o → No ≡ compareAllParts (v .kids) (w .kids)
+    pub parts-over : {p o : ℕ} → ChildAt s (a .full) depth i p → EndsAt t (b .full) (b .name) (b .past) depth j o → No ≡ compareAllParts (v .kids) (w .kids)
     unfolding compareAllParts
     parts-over n m =
         let (l, r, x, y, e) = h .left v w after rest g k in
-        sym (e ∙ ap₂ (λ (l r : Nodes). answer also compareAllParts l r) (n .first v after l x .is) (m .ends w rest r k y .0) ∙ also-no answer)
+        sym (e ∙ ap₂ (λ (l r : Nodes). answer also compareAllParts l r) (n .first v after l x .is) (m .ends w rest r (k .deep) (k .named) y .0) ∙ also-no answer)
 
-    pub parts-under : {e q : ℕ} → EndsAt s a depth i e → ChildAt t b depth j q → No ≡ compareAllParts (v .kids) (w .kids)
+    pub parts-under : {e q : ℕ} → EndsAt s (a .full) (a .name) (a .past) depth i e → ChildAt t (b .full) depth j q → No ≡ compareAllParts (v .kids) (w .kids)
     unfolding compareAllParts
     parts-under n m =
         let (l, r, x, y, e) = h .left v w after rest g k in
-        sym (e ∙ ap₂ (λ (l r : Nodes). answer also compareAllParts l r) (n .ends v after l g x .0) (m .first w rest r y .is) ∙ also-no answer)
+        sym (e ∙ ap₂ (λ (l r : Nodes). answer also compareAllParts l r) (n .ends v after l (g .deep) (g .named) x .0) (m .first w rest r y .is) ∙ also-no answer)

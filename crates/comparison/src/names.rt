@@ -10,8 +10,8 @@ use crate::Answer;
 use crate::also;
 use crate::answer_if;
 use crate::texts::same_attribute;
-use datatype::inside::Inside;
-use datatype::inside::next_inside;
+use element::inside::Inside;
+use element::inside::next_inside;
 use element::name::NULL_FLAVOR;
 use element::name::PART_TYPE;
 use element::name::VALUE;
@@ -41,8 +41,8 @@ pub fn compare_names(s: &[u8], a: Tag, t: &[u8], b: Tag, depth: usize) -> Answer
     let mut i = a.end;
     let mut j = b.end;
     loop {
-        let first = next_inside(s, a, depth, i);
-        let second = next_inside(t, b, depth, j);
+        let first = next_inside(s, a.full, a.name, a.past, depth, i);
+        let second = next_inside(t, b.full, b.name, b.past, depth, j);
         match first {
             Inside::Child(p) => {
                 let Inside::Child(q) = second else {

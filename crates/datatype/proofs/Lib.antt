@@ -1,5 +1,4 @@
 pub mod Naming
 pub mod Standings
 pub mod Sayings
-pub mod Walks
 pub mod Finding

@@ -2,7 +2,6 @@
 
 pub mod bounds;
 pub mod columns;
-pub mod inside;
 pub mod kind;
 pub mod places;
 pub mod record;

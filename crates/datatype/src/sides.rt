@@ -8,8 +8,8 @@ ghost use Rattle.rules.specs.Markup.{Element};
 ghost use Rattle.element.specs.Tags.{TagOf, TagIn};
 ghost use Rattle.datatype.specs.Said.{saidMeant, saidNamed};
 ghost use Rattle.datatype.specs.Sides.{Settled, Passes};
-use crate::inside::Inside;
-use crate::inside::next_inside;
+use element::inside::Inside;
+use element::inside::next_inside;
 use crate::said::Said;
 use crate::said::time_of;
 use element::row::past_element;
@@ -63,7 +63,7 @@ pub fn read_sides(s: &[u8], tag: Tag, depth: usize, shift: u64) -> Sides
     let mut high = none;
     let mut at = tag.end;
     loop {
-        let next = next_inside(s, tag, depth, at);
+        let next = next_inside(s, tag.full, tag.name, tag.past, depth, at);
         match next {
             Inside::Child(i) => {
                 let child = tag::read(s, i);

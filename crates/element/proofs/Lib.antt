@@ -6,3 +6,4 @@ pub mod Placing
 pub mod Tagging
 pub mod Rows
 pub mod Quotes
+pub mod Walks

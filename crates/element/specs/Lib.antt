@@ -1,4 +1,5 @@
 pub mod Carried
+pub mod Inside
 pub mod Names
 pub mod Rows
 pub mod Tags

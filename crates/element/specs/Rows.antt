@@ -8,8 +8,6 @@ use lib.ListN.{length, drop}
 use Rattle.rules.specs.Parsers.{ok}
 use Rattle.rules.specs.Markup.{Nodes, end, node, Element, endTag}
 use Rattle.element.specs.Tags.{ElementTo, RowTo}
-use Rattle.element.specs.declared.row.Following.{Following}
-use Rattle.element.specs.declared.row.Following.the-variants.{Child, End}
 
 -- a text that begins with `<`, and not with `</`
 abbrev pub isChild : List ℕ → Bool
@@ -29,7 +27,3 @@ pub record Stands (s : List ℕ) (at i : ℕ) (more : Bool) : Type 0 where
   pub high : i ≤ length s
   pub within : more ≡ true → i < length s
   pub steps : (name : List ℕ) (depth : ℕ) (l : Nodes) (after : List ℕ) → RowTo s name at depth l after → RowSteps s name depth i after l more
-
-abbrev pub NextAt : (s : List ℕ) (at : ℕ) → Following → Type 0
-NextAt s at (Child i) = Stands s at i true
-NextAt s at (End i) = Stands s at i false

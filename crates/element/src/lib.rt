@@ -9,6 +9,7 @@ ghost use lib.ListN.{length};
 ghost use Rattle.rules.specs.Markup.{Element, document};
 ghost use Rattle.element.specs.Tags.{ElementTo};
 
+pub mod inside;
 pub mod name;
 pub mod row;
 pub mod tag;

@@ -7,10 +7,9 @@ ghost use lib.ListN.{length, take, drop};
 ghost use Rattle.rules.specs.Parsers.{ok};
 ghost use Rattle.rules.specs.Markup.{Element, endTag};
 ghost use Rattle.element.specs.Tags.{TagOf, TagIn};
-ghost use Rattle.element.specs.Rows.{isChild, NextAt};
+ghost use Rattle.element.specs.Rows.{isChild};
 use crate::tag::Tag;
 use markup::read_content;
-use markup::scan::skip_space;
 use markup::tag::read_end_tag;
 use text::Read;
 
@@ -25,31 +24,13 @@ pub fn is_child(s: &[u8], at: usize) -> bool
     (s[at] == b'<') & (s[at + 1] != b'/')
 }
 
-// What stands next among the children of an element: a child, or the end tag, at a position.
-pub enum Following {
-    Child(usize),
-    End(usize),
-}
-
-// What stands next from a position on, past white space.
-pub fn next(s: &[u8], at: usize) -> Following
-    requires { ⌜ at ≤ length (now s) ⌝ }
-    ensures { λ r. ⌜ NextAt (now (s .entry)) at r ⌝ }
-{
-    let i = skip_space(s, at);
-    if is_child(s, i) {
-        return Following::Child(i);
-    }
-    Following::End(i)
-}
-
-// The position past the end tag at a position, of the element of a tag.
-pub fn past_end_tag(s: &[u8], at: usize, tag: Tag) -> usize
-    requires { ⌜ at ≤ length (now s) ⌝ ∗ ⌜ TagIn (now s) tag ⌝ }
+// The position past the end tag at a position, of the element whose name stands at `name`, up to `past`.
+pub fn past_end_tag(s: &[u8], at: usize, name: usize, past: usize) -> usize
+    requires { ⌜ at ≤ length (now s) ⌝ ∗ ⌜ name ≤ past ⌝ ∗ ⌜ past ≤ length (now s) ⌝ }
     ensures within { λ r. ⌜ (at ≤ r) × (r ≤ length (now (s .entry))) ⌝ }
-    ensures tells { λ r. ⌜ ((c : ℕ) (after : List ℕ) → endTag (take (tag .past - tag .name) (drop (tag .name) (now (s .entry)))) (drop at (now (s .entry))) ≡ ok c after → after ≡ drop r (now (s .entry))) ⌝ }
+    ensures tells { λ r. ⌜ ((c : ℕ) (after : List ℕ) → endTag (take (past - name) (drop name (now (s .entry)))) (drop at (now (s .entry))) ≡ ok c after → after ≡ drop r (now (s .entry))) ⌝ }
 {
-    let read = read_end_tag(s, at, tag.name, tag.past);
+    let read = read_end_tag(s, at, name, past);
     match read {
         Read::At(e) => e,
         Read::Bad => at,
@@ -64,7 +45,7 @@ pub fn past_element(s: &[u8], tag: Tag, depth: usize) -> usize
 {
     if tag.full & (depth != 0) {
         let i = read_content(s, tag.end, depth - 1);
-        return past_end_tag(s, i, tag);
+        return past_end_tag(s, i, tag.name, tag.past);
     }
     tag.end
 }

@@ -14,8 +14,8 @@ use Rattle.rules.specs.Types.{Kind, lineOf}
 use Rattle.refusal.specs.Meaning.{faultOf}
 use Rattle.element.specs.Tags.{Tells, TagOf}
 use Rattle.element.specs.declared.tag.Tag.{Tag}
-use Rattle.datatype.proofs.Walks.{Walked, walk-begins, walk-ends}
-use Rattle.datatype.specs.Inside.{EndsAt}
+use Rattle.element.proofs.Walks.{Walked, walk-begins, walk-ends}
+use Rattle.element.specs.Inside.{EndsAt}
 use Rattle.judge.specs.Rows.{Judging, rowMeant, beginning, rowStep, rowAfter, Finished, ContentAs}
 use Rattle.judge.specs.declared.row.Content.{Content}
 use Rattle.judge.specs.declared.row.Row.{Row}
@@ -56,7 +56,7 @@ module _ {s : List ℕ} {t : Tag} {depth : ℕ} (shift : ℕ) (k : Kind) (row : 
   judged-first h e f = subst (λ (n : ℕ). Walked s t depth n (Judges shift k row)) (sym f) (walk-begins h (λ all. ap (λ (j : Judging). rowAfter shift k j all) e))
 
   -- no child is left
-  pub judged-last : {e : ℕ} → EndsAt s t depth (row .end) e → Walked s t depth (row .end) (Judges shift k row) → (r : Content) → ((v : Element) → Tells s (v .attrs) (t .places) → Finished shift k v row e r)
+  pub judged-last : {e : ℕ} → EndsAt s (t .full) (t .name) (t .past) depth (row .end) e → Walked s t depth (row .end) (Judges shift k row) → (r : Content) → ((v : Element) → Tells s (v .attrs) (t .places) → Finished shift k v row e r)
       → (v : Element) (after : List ℕ) → TagOf s depth v after t → ContentAs s shift k v after r
   unfolding rowAfter
   judged-last {e} n w r f v after x = let (q, z) = walk-ends n w v after x in judged-row shift k v after row e r (f v (x .tells)) q z

@@ -14,8 +14,8 @@ mod own;
 mod row;
 mod rule;
 
-use datatype::inside::Inside;
-use datatype::inside::next_inside;
+use element::inside::Inside;
+use element::inside::next_inside;
 use datatype::kind::Kind;
 use datatype::kind::Named;
 use datatype::kind::type_at;
@@ -46,7 +46,7 @@ fn judge_content(s: &[u8], tag: Tag, depth: usize, kind: Kind, shift: u64) -> Co
 {
     let mut row = begin(tag.end);
     loop {
-        let next = next_inside(s, tag, depth, row.end);
+        let next = next_inside(s, tag.full, tag.name, tag.past, depth, row.end);
         match next {
             Inside::Child(i) => {
                 let child = tag::read(s, i);

@@ -14,8 +14,8 @@ ghost use Rattle.listing.specs.Places.{MeansElement};
 use crate::bound::interval_of;
 use crate::set::Shape;
 use crate::set::shape_of;
-use datatype::inside::Inside;
-use datatype::inside::next_inside;
+use element::inside::Inside;
+use element::inside::next_inside;
 use element::row::past_element;
 use element::tag;
 use element::tag::Tag;
@@ -86,7 +86,7 @@ pub fn is_meant_at(s: &[u8], tag: Tag, depth: usize, shift: u64, n: u64, gap: bo
     let mut any = false;
     let mut at = tag.end;
     loop {
-        let next = next_inside(s, tag, depth, at);
+        let next = next_inside(s, tag.full, tag.name, tag.past, depth, at);
         match next {
             Inside::Child(i) => {
                 let child = tag::read(s, i);

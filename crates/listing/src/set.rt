@@ -12,8 +12,8 @@ ghost use Rattle.interval.specs.Meaning.{opOf};
 ghost use Rattle.element.specs.Tags.{TagOf, TagIn};
 ghost use Rattle.listing.specs.Sets.{shapeOf, WritesAs, Formed, IsSet, Says, SoFar, put, expressed, SaysElement};
 use crate::bound::interval_of;
-use datatype::inside::Inside;
-use datatype::inside::next_inside;
+use element::inside::Inside;
+use element::inside::next_inside;
 use datatype::kind::Kind;
 use datatype::kind::Named;
 use datatype::kind::type_at;
@@ -147,7 +147,7 @@ pub fn evaluate(s: &[u8], tag: Tag, depth: usize, shift: u64) -> Evaluated
     let mut so_far = nothing(tag.end);
     let mut at = tag.end;
     loop {
-        let next = next_inside(s, tag, depth, at);
+        let next = next_inside(s, tag.full, tag.name, tag.past, depth, at);
         match next {
             Inside::Child(i) => {
                 let child = tag::read(s, i);

@@ -7,12 +7,12 @@ use borrow.Author.Needs.{needs}
 use borrow.Fn.Kinds.{In}
 use borrow.Fn.PlainCycle.{Measures, is, falls, and}
 use Rattle.datatype.specs.Meaning.{kindMeant}
-use Rattle.datatype.proofs.Walks.{Walked, walk-less, walk-goes}
+use Rattle.element.proofs.Walks.{Walked, walk-less, walk-goes}
 use Rattle.judge.proofs.Walking.{Judges, judged-first, judged-next, judged-last}
 use Rattle.judge.proofs.judge_content.Reads.{Pre, Post}
 use Rattle.judge.proofs.judge_content.Kinds.{ps}
 use Rattle.judge.proofs.+judge_content.Lts-judge_content as lts
-use Rattle.datatype.proofs.inside.next_inside.Reads as next-inside-reads
+use Rattle.element.proofs.inside.next_inside.Reads as next-inside-reads
 use Rattle.element.proofs.tag.read.Reads as read-reads
 use Rattle.judge.proofs.row.begin.Reads as begin-reads
 use Rattle.judge.proofs.row.child_asked.Reads as child-asked-reads
@@ -44,7 +44,7 @@ module _ (t : ℕ) where
   loop-holds c = let start = c .before .before in judged-first (start .args .shift) (kindMeant (start .args .kind)) (c .begin .result) (start .pre .1 .0 .end) (c .begin .ensures .0) (c .begin .ensures .1)
 
   next-inside-requires : lts.Need-next-inside-requires claims At Post Inv-loop μ-loop
-  next-inside-requires c κs = (c .before .before .before .pre .1 .0, c .loop .inv .within)
+  next-inside-requires c κs = let tag = c .before .before .before .pre .1 .0 in (tag .name, (tag .past, c .loop .inv .within))
 
   enum-known-next : lts.Need-enum-known-next claims At Post Inv-loop μ-loop
   enum-known-next c = search needs

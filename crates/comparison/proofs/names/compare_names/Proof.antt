@@ -3,7 +3,7 @@ use Prim.Native.Nat.{_-_}
 use native.Mathlib.Omega.{arith}
 use lib.ListN.{length}
 use borrow.Author.Needs.{needs}
-use Rattle.datatype.proofs.Walks.{walk-less}
+use Rattle.element.proofs.Walks.{walk-less}
 use Rattle.comparison.specs.Meaning.{answerMeant}
 use Rattle.comparison.proofs.Parts.{Compared, parts-begin, part, parts-more, parts-end, parts-over, parts-under}
 use Rattle.comparison.proofs.names.compare_names.Statement.{statement}
@@ -19,10 +19,10 @@ loop-holds : tie.Need-loop-holds Inv-loop μ-loop
 loop-holds c = parts-begin (c .before .before .pre .0 .end) (c .before .before .pre .1 .0 .end)
 
 next-inside-requires : tie.Need-next-inside-requires Inv-loop μ-loop
-next-inside-requires c κs = (c .before .before .before .pre .0, c .loop .inv .first)
+next-inside-requires c κs = let tag = c .before .before .before .pre .0 in (tag .name, (tag .past, c .loop .inv .first))
 
 next-inside-requires-2 : tie.Need-next-inside-requires-2 Inv-loop μ-loop
-next-inside-requires-2 c κs = (c .before .before .before .before .pre .1 .0, c .before .loop .inv .second)
+next-inside-requires-2 c κs = let tag = c .before .before .before .before .pre .1 .0 in (tag .name, (tag .past, c .before .loop .inv .second))
 
 enum-known-first : tie.Need-enum-known-first Inv-loop μ-loop
 enum-known-first c = search needs

@@ -5,7 +5,7 @@ use native.Mathlib.Omega.{arith}
 use borrow.Author.Needs.{needs}
 use lib.ListN.{length}
 use Rattle.datatype.specs.Sides.{Settled}
-use Rattle.datatype.proofs.Walks.{Walked, walk-begins, walk-less, walk-goes, walk-ends}
+use Rattle.element.proofs.Walks.{Walked, walk-begins, walk-less, walk-goes, walk-ends}
 use Rattle.datatype.proofs.Finding.{Sought, sought-goes, sought-ends}
 use Rattle.datatype.proofs.sides.read_sides.Statement.{statement}
 use Rattle.datatype.proofs.sides.read_sides.Tie as tie
@@ -20,7 +20,7 @@ loop-holds : tie.Need-loop-holds Inv-loop μ-loop
 loop-holds c = ((λ e. refl), (λ e. refl), walk-begins (c .before .pre .0 .end) (λ all. (refl, refl)))
 
 next-inside-requires : tie.Need-next-inside-requires Inv-loop μ-loop
-next-inside-requires c κs = (c .before .before .pre .0, c .loop .inv .2 .within)
+next-inside-requires c κs = let tag = c .before .before .pre .0 in (tag .name, (tag .past, c .loop .inv .2 .within))
 
 enum-known-next : tie.Need-enum-known-next Inv-loop μ-loop
 enum-known-next c = search needs

@@ -24,7 +24,9 @@ read-content-requires c κs = search needs
 
 -- src/row.rt:48:9
 past-end-tag-requires : tie.Need-past-end-tag-requires
-past-end-tag-requires c κs = (content-within (c .before .before .before .before .args .depth - 1) (c .read-content .ensures) .1, c .before .before .before .before .pre)
+past-end-tag-requires c κs =
+    let start = c .before .before .before .before in
+    (content-within (start .args .depth - 1) (c .read-content .ensures) .1, (start .pre .name, start .pre .past))
 
 -- src/row.rt:48:9
 returns : tie.Need-returns

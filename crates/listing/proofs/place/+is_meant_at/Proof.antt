@@ -6,14 +6,14 @@ use borrow.Author.Needs.{needs}
 use lib.ListN.{length}
 use Rattle.rules.proofs.Tests.{clash}
 use Rattle.interval.specs.Meaning.{placeOf}
-use Rattle.datatype.proofs.Walks.{Walked, walk-begins, walk-less, walk-goes, walk-ends}
+use Rattle.element.proofs.Walks.{Walked, walk-begins, walk-less, walk-goes, walk-ends}
 use Rattle.listing.proofs.Placing.{means-single, means-other, means-members, Placing, Begun, place-goes, place-ends}
 use borrow.Fn.Kinds.{In}
 use borrow.Fn.PlainCycle.{Measures, is, falls, and}
 use Rattle.listing.proofs.place.is_meant_at.Reads.{Pre, Post}
 use Rattle.listing.proofs.place.is_meant_at.Kinds.{ps}
 use Rattle.listing.proofs.place.+is_meant_at.Lts-is_meant_at as lts
-use Rattle.datatype.proofs.inside.next_inside.Reads as next-inside-reads
+use Rattle.element.proofs.inside.next_inside.Reads as next-inside-reads
 use Rattle.element.proofs.row.past_element.Reads as past-element-reads
 use Rattle.element.proofs.tag.read.Reads as read-reads
 use Rattle.listing.proofs.place.in_both.Reads as in-both-reads
@@ -83,7 +83,7 @@ module _ (t : ℕ) where
   loop-holds c = ((λ z. c .in-none .ensures), walk-begins (c .before .before .before .before .before .before .pre .1 .0 .end) (λ all. refl))
 
   next-inside-requires : lts.Need-next-inside-requires claims At Post Inv-loop μ-loop
-  next-inside-requires c κs = (c .before .before .before .before .before .before .before .pre .1 .0, c .loop .inv .1 .within)
+  next-inside-requires c κs = let tag = c .before .before .before .before .before .before .before .pre .1 .0 in (tag .name, (tag .past, c .loop .inv .1 .within))
 
   enum-known-next : lts.Need-enum-known-next claims At Post Inv-loop μ-loop
   enum-known-next c = search needs

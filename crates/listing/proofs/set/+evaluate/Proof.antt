@@ -7,7 +7,7 @@ use borrow.Author.Needs.{needs}
 use borrow.Author.Tests.{not-true, not-false}
 use lib.ListN.{length}
 use Rattle.rules.proofs.Tests.{clash}
-use Rattle.datatype.proofs.Walks.{Walked, walk-begins, walk-less, walk-child, walk-goes, walk-ends}
+use Rattle.element.proofs.Walks.{Walked, walk-begins, walk-less, walk-child, walk-goes, walk-ends}
 use Rattle.listing.specs.Sets.{Formed, none-yet}
 use Rattle.listing.proofs.Joining.{ends-formed}
 use Rattle.listing.proofs.Evaluating.{none-said, null-set, single-set, other-set, members-set, Evaluating, member-known, member-unknown, members-said}
@@ -16,7 +16,7 @@ use borrow.Fn.PlainCycle.{Measures, is, falls, and}
 use Rattle.listing.proofs.set.evaluate.Reads.{Pre, Post}
 use Rattle.listing.proofs.set.evaluate.Kinds.{ps}
 use Rattle.listing.proofs.set.+evaluate.Lts-evaluate as lts
-use Rattle.datatype.proofs.inside.next_inside.Reads as next-inside-reads
+use Rattle.element.proofs.inside.next_inside.Reads as next-inside-reads
 use Rattle.element.proofs.tag.has.Reads as has-reads
 use Rattle.element.proofs.tag.read.Reads as read-reads
 use Rattle.listing.proofs.set.join.Reads as join-reads
@@ -102,7 +102,7 @@ module _ (t : ℕ) where
       (f, walk-begins (c .before .before .before .before .before .before .before .before .pre .1 .0 .end) (λ all. (none, none-yet k n, refl)))
 
   next-inside-requires : lts.Need-next-inside-requires claims At Post Inv-loop μ-loop
-  next-inside-requires c κs = (c .before .before .before .before .before .before .before .before .before .pre .1 .0, c .loop .inv .1 .within)
+  next-inside-requires c κs = let tag = c .before .before .before .before .before .before .before .before .before .pre .1 .0 in (tag .name, (tag .past, c .loop .inv .1 .within))
 
   enum-known-next : lts.Need-enum-known-next claims At Post Inv-loop μ-loop
   enum-known-next c = search needs
