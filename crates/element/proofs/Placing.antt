@@ -65,7 +65,7 @@ told-more low x w (kept d) k g true e (told p f t) y = rw (← y) (told p f t)
 told-more low x w (kept d) k g false e t y = rw (← y) t
 
 -- what is counted with one more attribute, of a name: no known name begins with xmlns, so nothing with a known one
-abbrev Counted : (t : List ℕ) (others spaces more-others more-spaces : ℕ) → Type 0
+abbrev Counted : (t : List ℕ) (others namespaces more-others more-namespaces : ℕ) → Type 0
 Counted t o p x y = (x ≡ o + cond (not (isKnown t || begins (bytes "xmlns") t)) 1 0) × (y ≡ p + cond (begins (bytes "xmlns") t) 1 0) × (x ≤ o + 1) × (y ≤ p + 1)
 
 pub known-counted : (t : List ℕ) {o p k : ℕ} → k ≡ numberOf t → k < known → Counted t o p o p
@@ -138,13 +138,13 @@ pub record Done (s : List ℕ) (c : Carried) (l : List Attribute) (left : List �
   pub goes : AttributesTo s (c .end) rest left
   pub each : (k : ℕ) → k < known → Told s (lookup (nameAt k) l) (lookup (nameAt k) rest) (getD (c .places) k 0)
   pub others : c .others + count isOther rest ≡ count isOther l
-  pub spaces : c .spaces + count isNamespace rest ≡ count isNamespace l
+  pub namespaces : c .namespaces + count isNamespace rest ≡ count isNamespace l
 
 -- what is known of what was carried so far, from a position on
 pub record So (s : List ℕ) (at : ℕ) (c : Carried) : Type 0 where
   pub within : CarriedIn s at c
   pub size : length (c .places) ≡ known
-  pub few : (c .others ≤ c .end) × (c .spaces ≤ c .end)
+  pub few : (c .others ≤ c .end) × (c .namespaces ≤ c .end)
   pub done : (l : List Attribute) (left : List ℕ) → AttributesTo s at l left → Done s c l left
 
 -- places of nothing
@@ -159,12 +159,12 @@ zeros (suc n) (suc k) = zeros n k
 pub none-there : (k : ℕ) → getD noPlaces k 0 ≡ 0
 none-there = zeros known
 
-pub so-none : {s : List ℕ} (at : ℕ) → at ≤ length s → So s at (record { places = noPlaces; others = 0; spaces = 0; end = at })
+pub so-none : {s : List ℕ} (at : ℕ) → at ≤ length s → So s at (record { places = noPlaces; others = 0; namespaces = 0; end = at })
 so-none at h = record {
   within = record { placed = λ n. rw (none-there n) (omega arith); low = omega arith; high = h };
   size = refl;
   few = (omega arith, omega arith);
-  done = λ l left x. record { rest = l; goes = x; each = λ k g. rw (none-there k) (not-yet refl); others = omega arith; spaces = omega arith };
+  done = λ l left x. record { rest = l; goes = x; each = λ k g. rw (none-there k) (not-yet refl); others = omega arith; namespaces = omega arith };
 }
 
 -- one attribute more
@@ -172,7 +172,7 @@ module _ {s : List ℕ} {at j n q e : ℕ} (c : Carried) (h : So s at c) (x : Tu
   abbrev this : List ℕ
   this = take (n - j) (drop j s)
 
-  pub so-step : {k : ℕ} {l : List ℕ} {o p : ℕ} → k ≡ numberOf this → Put (c .places) k q l → Counted this (c .others) (c .spaces) o p → So s at (record { places = l; others = o; spaces = p; end = e })
+  pub so-step : {k : ℕ} {l : List ℕ} {o p : ℕ} → k ≡ numberOf this → Put (c .places) k q l → Counted this (c .others) (c .namespaces) o p → So s at (record { places = l; others = o; namespaces = p; end = e })
   unfolding lookup
   so-step {k} {l} {o} {p} is y (f, g, a, b) = record {
     within = record { placed = put-low y (h .size) (length s - 1) (h .within .placed) (omega (arith, x .further, x .high)); low = omega (arith, h .within .low, further x); high = x .high };
@@ -181,7 +181,7 @@ module _ {s : List ℕ} {at j n q e : ℕ} (c : Carried) (h : So s at c) (x : Tu
     done = λ m left z. more m left (h .done m left z);
   }
     where
-      more : (m : List Attribute) (left : List ℕ) → Done s c m left → Done s (record { places = l; others = o; spaces = p; end = e }) m left
+      more : (m : List Attribute) (left : List ℕ) → Done s c m left → Done s (record { places = l; others = o; namespaces = p; end = e }) m left
       more m left d = elim (following (x .gap) (d .goes .fuel) (d .goes .reads)) [
         | nothing r w ↦ let z = rw (w, x .gap .reads, x .named .reads) at (d .goes .all) in clash (cc)
         | one-more i a t rest r w z ↦
@@ -191,7 +191,7 @@ module _ {s : List ℕ} {at j n q e : ℕ} (c : Carried) (h : So s at c) (x : Tu
               goes = record { fuel = i; reads = rw (← b) w; all = d .goes .all };
               each = λ j h′. told-more low (stands q e (a .value) low (x .further) (x .high) v) (h .size) y j h′ (eqb k j) refl (rw (← z, has-number (a .name) j h′, u, ← is) at (d .each j h′)) refl;
               others = counted isOther a rest (c .others) (rw (← z) at (d .others)) (rw u f);
-              spaces = counted isNamespace a rest (c .spaces) (rw (← z) at (d .spaces)) (rw u g);
+              namespaces = counted isNamespace a rest (c .namespaces) (rw (← z) at (d .namespaces)) (rw u g);
             }
       ]
 
@@ -206,7 +206,7 @@ so-done {s} {at} {j} c h g b = (h .within, λ l left x. all l left (h .done l le
       | nothing r w ↦ record {
         tells = record { size = h .size; placed = λ k k-low. told-last (rw r at (d .each k k-low)) };
         others = let e = rw r at (d .others) in omega (arith, e);
-        spaces = let e = rw r at (d .spaces) in omega (arith, e);
+        namespaces = let e = rw r at (d .namespaces) in omega (arith, e);
         ends = w;
       }
       | one-more i a t k r w z ↦ let y = rw (none-of name b) at r in clash (cc)

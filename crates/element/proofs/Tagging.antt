@@ -108,7 +108,7 @@ module _ {s : List ℕ} {at n m : ℕ} (h : HeadTo s at n m) (c : Carried) (t : 
             tells = subst (λ (p : List ℕ). Tells s as′ p) (sym (closed .places)) (k .tells);
             distinct = e;
             others = closed .others ∙ k .others;
-            spaces = closed .spaces ∙ k .spaces;
+            namespaces = closed .namespaces ∙ k .namespaces;
             inner = subst (λ (o : ℕ). Inner s o a (t .end) after j (t .full)) (omega arith) (inner f d l (closed .inner a (content f d) j after r));
           })))
 
@@ -127,5 +127,5 @@ module _ {s : List ℕ} {at n m : ℕ} (h : HeadTo s at n m) (c : Carried) (t : 
 pub no-tag : {P : Type 0} {s : List ℕ} {at depth : ℕ} {v : Element} {after : List ℕ} → ((f d : ℕ) → element f d (drop at s) ≡ bad) → ElementTo s at depth v after → P
 no-tag {depth = depth} b x = let z = sym (b (x .fuel) depth) ∙ x .reads in clash (cc)
 
-pub no-tag-in : (s : List ℕ) {at : ℕ} → TagIn s (record { places = noPlaces; others = 0; spaces = 0; name = 0; past = 0; end = length s; full = false }) × (at < length s → at < length s)
+pub no-tag-in : (s : List ℕ) {at : ℕ} → TagIn s (record { places = noPlaces; others = 0; namespaces = 0; name = 0; past = 0; end = length s; full = false }) × (at < length s → at < length s)
 no-tag-in s = (record { placed = λ k. rw (none-there k) (omega arith); name = omega arith; past = omega arith; end = omega arith }, λ h. h)

@@ -1,4 +1,4 @@
--- The attributes of a start tag, read one after another.
+-- The attributes of a start tag, read one after another, in the words of the rules ("Markup").
 use Prim.Native.Nat.{ℕ, _+_, _-_, _≤_, _<_}
 use mathlib.Core.Path.{_≡_}
 use mathlib.Core.Bool.{Bool, true, false}
@@ -27,13 +27,14 @@ pub record AttributesTo (s : List ℕ) (at : ℕ) (l : List Attribute) (left : L
   pub reads : attributes fuel (drop at s) ≡ ok l left
   pub all : (space >> name) left ≡ bad
 
+-- r is what a tag carries that has the attributes l
 pub record CarriedAs (s : List ℕ) (l : List Attribute) (left : List ℕ) (r : Carried) : Type 0 where
   pub tells : Tells s l (r .places)
   pub others : r .others ≡ count isOther l
-  pub spaces : r .spaces ≡ count isNamespace l
+  pub namespaces : r .namespaces ≡ count isNamespace l
   pub ends : left ≡ drop (r .end) s
 
--- what they name lies in the text
+-- what r names lies in the text, from a position on
 pub record CarriedIn (s : List ℕ) (at : ℕ) (r : Carried) : Type 0 where
   pub placed : (n : ℕ) → getD (r .places) n 0 ≤ length s - 1
   pub low : at ≤ r .end
@@ -54,7 +55,7 @@ pub data Closes (s n : List ℕ) (p : Parser Nodes) (at : ℕ) (after : List ℕ
 pub record Closed (s : List ℕ) (name past : ℕ) (c : Carried) (r : Tag) : Type 0 where
   pub places : r .places ≡ c .places
   pub others : r .others ≡ c .others
-  pub spaces : r .spaces ≡ c .spaces
+  pub namespaces : r .namespaces ≡ c .namespaces
   pub name-is : r .name ≡ name
   pub past-is : r .past ≡ past
   pub low : c .end ≤ r .end

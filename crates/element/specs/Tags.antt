@@ -61,7 +61,7 @@ pub record TagOf (s : List ℕ) (depth : ℕ) (v : Element) (after : List ℕ) (
   pub tells : Tells s (v .attrs) (t .places)
   pub distinct : isDistinct (v .attrs) ≡ true
   pub others : t .others ≡ count isOther (v .attrs)
-  pub spaces : t .spaces ≡ count isNamespace (v .attrs)
+  pub namespaces : t .namespaces ≡ count isNamespace (v .attrs)
   pub inner : Inner s (depth - 1) (v .name) (t .end) after (v .kids) (t .full)
 
 -- what a tag names lies in the text

@@ -26,7 +26,7 @@ use text::begins_with;
 pub struct Tag {
     pub places: [usize; KNOWN],
     pub others: usize,
-    pub spaces: usize,
+    pub namespaces: usize,
     pub name: usize,
     pub past: usize,
     pub end: usize,
@@ -41,11 +41,11 @@ pub fn has(tag: Tag, n: usize) -> bool
     tag.places[n] != 0
 }
 
-// What attributes are: what a tag says of them, and where they end.
+// What a tag carries: the attributes as `Tag` has them, and where the last of them ends.
 struct Carried {
     places: [usize; KNOWN],
     others: usize,
-    spaces: usize,
+    namespaces: usize,
     end: usize,
 }
 
@@ -80,7 +80,7 @@ fn read_carried(s: &[u8], at: usize) -> Carried
 {
     let mut places: [usize; KNOWN] = [0; KNOWN];
     let mut others = 0;
-    let mut spaces = 0;
+    let mut namespaces = 0;
     let mut end = at;
     loop {
         let i = skip_space(s, end);
@@ -89,7 +89,7 @@ fn read_carried(s: &[u8], at: usize) -> Carried
             return Carried {
                 places,
                 others,
-                spaces,
+                namespaces,
                 end,
             };
         };
@@ -104,7 +104,7 @@ fn read_carried(s: &[u8], at: usize) -> Carried
         } else {
             let space = begins_with(name, b"xmlns");
             others = others + one_if(!space);
-            spaces = spaces + one_if(space);
+            namespaces = namespaces + one_if(space);
         }
     }
 }
@@ -121,7 +121,7 @@ fn past_literal(s: &[u8], at: usize, t: &[u8]) -> usize
     }
 }
 
-// A tag whose attributes are known, at whose closing white space may stand.
+// A tag by what it carries, up to where it closes: white space may stand before that.
 fn close(s: &[u8], name: usize, past: usize, c: Carried) -> Tag
     requires { ⌜ c .end ≤ length (now s) ⌝ }
     ensures { λ r. ⌜ Closed (now (s .entry)) name past c r ⌝ }
@@ -133,7 +133,7 @@ fn close(s: &[u8], name: usize, past: usize, c: Carried) -> Tag
         return Tag {
             places,
             others: c.others,
-            spaces: c.spaces,
+            namespaces: c.namespaces,
             name,
             past,
             end,
@@ -143,7 +143,7 @@ fn close(s: &[u8], name: usize, past: usize, c: Carried) -> Tag
     Tag {
         places,
         others: c.others,
-        spaces: c.spaces,
+        namespaces: c.namespaces,
         name,
         past,
         end: past_literal(s, i, b"/>"),
@@ -151,7 +151,7 @@ fn close(s: &[u8], name: usize, past: usize, c: Carried) -> Tag
     }
 }
 
-// The start tag at a position; the whole text, where there is none.
+// The start tag at a position; where none stands, one that carries nothing and ends where the text does.
 pub fn read(s: &[u8], at: usize) -> Tag
     requires { ⌜ at ≤ length (now s) ⌝ }
     ensures within { λ r. ⌜ TagIn (now (s .entry)) r × (at < length (now (s .entry)) → at < r .end) ⌝ }
@@ -162,7 +162,7 @@ pub fn read(s: &[u8], at: usize) -> Tag
         return Tag {
             places: [0; KNOWN],
             others: 0,
-            spaces: 0,
+            namespaces: 0,
             name: 0,
             past: 0,
             end: s.len(),

@@ -42,7 +42,7 @@ fn quote(s: &[u8], at: usize) -> usize
     i
 }
 
-// Where the value at a position ends, past its quotes. No character of a value is a quote, so none is read.
+// Where the value at a position ends, past its second quote. A quote within a value is written as a reference, so no character is read.
 pub fn end(s: &[u8], at: usize) -> usize
     requires { ⌜ at ≤ length (now s) ⌝ }
     ensures on { λ r. ⌜ (at < length (now (s .entry)) → at < r) ⌝ ∗ ⌜ r ≤ length (now (s .entry)) ⌝ }

@@ -30,7 +30,7 @@ use Rattle.judge.specs.declared.Checked.{Checked}
 use Rattle.judge.proofs.Inputs.{input-long, input-not-utf8, input-no-document, input-document}
 
 -- a tag of nothing
-pub no-tag : (s : List ℕ) → TagIn s (record { places = noPlaces; others = 0; spaces = 0; name = 0; past = 0; end = 0; full = false })
+pub no-tag : (s : List ℕ) → TagIn s (record { places = noPlaces; others = 0; namespaces = 0; name = 0; past = 0; end = 0; full = false })
 no-tag s = record { placed = λ k. rw (none-there k) (omega arith); name = omega arith; past = omega arith; end = omega arith }
 
 module _ {s : List ℕ} {at : ℕ} (shift : ℕ) (t : Tag) (root : (v : Element) → document s ≡ some v → (after : List ℕ) × ElementTo s at 8 v after)

@@ -46,10 +46,10 @@ fn is_top(standing: Standing) -> bool
 
 // The first fault of the attributes whose names are not known, where so many have names that begin with xmlns, which are ignored at the top,
 // and so many have others.
-fn others_fault(others: usize, spaces: usize, standing: Standing) -> Verdict
-    ensures { λ r. ⌜ ((l : List Attribute) → others ≡ count isOther l → spaces ≡ count isNamespace l → faultOf r ≡ firstOf (SHAPE when exists (isStrange (standingMeant standing)) l)) ⌝ }
+fn others_fault(others: usize, namespaces: usize, standing: Standing) -> Verdict
+    ensures { λ r. ⌜ ((l : List Attribute) → others ≡ count isOther l → namespaces ≡ count isNamespace l → faultOf r ≡ firstOf (SHAPE when exists (isStrange (standingMeant standing)) l)) ⌝ }
 {
-    let spaced = !is_top(standing) & (spaces != 0);
+    let spaced = !is_top(standing) & (namespaces != 0);
     refused_if(Refusal::Shape, (others != 0) | spaced)
 }
 
@@ -102,7 +102,7 @@ pub fn attributes_fault(
     requires { ⌜ TagIn (now s) tag ⌝ ∗ ⌜ shift ≤ 1680 ⌝ }
     ensures { λ r. ⌜ ((depth : ℕ) (v : Element) (after : List ℕ) → TagOf (now (s .entry)) depth v after tag → (kindMeant kind ≡ TS → faultOf time ≡ timeFault shift (v .attrs)) → faultOf r ≡ firstOf (flatMap (attributeFaults shift (standingMeant standing) (kindMeant kind)) (v .attrs))) ⌝ }
 {
-    let mut so_far = others_fault(tag.others, tag.spaces, standing);
+    let mut so_far = others_fault(tag.others, tag.namespaces, standing);
     let mut n = 0;
     while n < KNOWN {
         let place = tag.places[n];

@@ -14,13 +14,13 @@ mod own;
 mod row;
 mod rule;
 
-use element::inside::Inside;
-use element::inside::next_inside;
 use datatype::kind::Kind;
 use datatype::kind::Named;
 use datatype::kind::type_at;
 use datatype::record::Record;
 use datatype::table::Standing;
+use element::inside::Inside;
+use element::inside::next_inside;
 use element::name::KNOWN;
 use element::name::XSI_TYPE;
 use element::tag;
@@ -76,7 +76,7 @@ fn refused(refusal: Refusal) -> Checked
     let tag = Tag {
         places: [0; KNOWN],
         others: 0,
-        spaces: 0,
+        namespaces: 0,
         name: 0,
         past: 0,
         end: 0,

@@ -27,7 +27,7 @@ enum-known-greater c = search needs
 returns : tie.Need-returns
 returns c =
     let g = found (c .before .greater .given .1) (c .before .before .before .read-byte .ensures) in
-    record { places = refl; others = refl; spaces = refl; name-is = refl; past-is = refl; low = omega (arith, c .before .before .before .before .skip-space .ensures .low, g .low); high = g .high; inner = λ n p kids after q. opens (c .before .before .before .before .skip-space .ensures) n p kids after q g }
+    record { places = refl; others = refl; namespaces = refl; name-is = refl; past-is = refl; low = omega (arith, c .before .before .before .before .skip-space .ensures .low, g .low); high = g .high; inner = λ n p kids after q. opens (c .before .before .before .before .skip-space .ensures) n p kids after q g }
 
 enum-told : tie.Need-enum-told
 enum-told c = search needs
@@ -43,7 +43,7 @@ past-literal-requires c κs = search needs
 -- src/tag.rt:125:1
 returns-2 : tie.Need-returns-2
 returns-2 c =
-    record { places = refl; others = refl; spaces = refl; name-is = refl; past-is = refl; low = omega (arith, c .before .before .before .before .before .skip-space .ensures .low, c .past-literal .ensures .low); high = c .past-literal .ensures .high; inner = λ n p kids after q. shuts (c .before .before .before .before .before .skip-space .ensures) n p kids after q (answer (c .before .before .enum-told .given .1) (c .before .before .before .before .read-byte .ensures)) (c .past-literal .ensures) }
+    record { places = refl; others = refl; namespaces = refl; name-is = refl; past-is = refl; low = omega (arith, c .before .before .before .before .before .skip-space .ensures .low, c .past-literal .ensures .low); high = c .past-literal .ensures .high; inner = λ n p kids after q. shuts (c .before .before .before .before .before .skip-space .ensures) n p kids after q (answer (c .before .before .enum-told .given .1) (c .before .before .before .before .read-byte .ensures)) (c .past-literal .ensures) }
 
 pub close-spec : {M : Type 1} → statement M
 close-spec =

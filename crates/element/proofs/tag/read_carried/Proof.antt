@@ -18,10 +18,10 @@ use Rattle.markup.proofs.scan.skip_space.Reads as skip-space-reads
 use Rattle.text.proofs.begins_with.Reads as begins-with-reads
 
 abbrev Inv-loop : tie.InvT-loop
-Inv-loop s at places₀ others₀ spaces₀ end₀ t14 places others spaces end = So s at (record { places = places; others = others; spaces = spaces; end = end })
+Inv-loop s at places₀ others₀ namespaces₀ end₀ t14 places others namespaces end = So s at (record { places = places; others = others; namespaces = namespaces; end = end })
 
 abbrev μ-loop : tie.MeasureT-loop
-μ-loop s at places₀ others₀ spaces₀ end₀ t14 places others spaces end = length s - end
+μ-loop s at places₀ others₀ namespaces₀ end₀ t14 places others namespaces end = length s - end
 
 -- src/tag.rt:85:5
 loop-holds : tie.Need-loop-holds Inv-loop μ-loop
@@ -124,8 +124,8 @@ one-if-requires-2 : tie.Need-one-if-requires-2 Inv-loop μ-loop
 one-if-requires-2 c κs = search needs
 
 -- src/tag.rt:107:22
-add-spaces : tie.Need-add-spaces Inv-loop μ-loop
-add-spaces c = omega (arith, c .before .before .before .before .before .before .before .before .before .before .before .before .before .before .loop .inv .few .1, further (turn (c .before .before .before .before .before .before .before .before .before .before .before .before .before .skip-space .ensures) (c .before .before .before .before .before .before .before .before .before .before .named .given .1) (c .before .before .before .before .before .before .before .before .before .before .before .before .read-name .ensures) (c .before .before .before .before .before .before .before .before .past-equals .ensures) (c .before .before .before .before .before .before .before .end .ensures .0) (c .before .before .before .before .before .before .before .end .ensures .1)), c .one-if2 .ensures .1, c .before .before .before .before .before .before .before .end .ensures .1 .0)
+add-namespaces : tie.Need-add-namespaces Inv-loop μ-loop
+add-namespaces c = omega (arith, c .before .before .before .before .before .before .before .before .before .before .before .before .before .before .loop .inv .few .1, further (turn (c .before .before .before .before .before .before .before .before .before .before .before .before .before .skip-space .ensures) (c .before .before .before .before .before .before .before .before .before .before .named .given .1) (c .before .before .before .before .before .before .before .before .before .before .before .before .read-name .ensures) (c .before .before .before .before .before .before .before .before .past-equals .ensures) (c .before .before .before .before .before .before .before .end .ensures .0) (c .before .before .before .before .before .before .before .end .ensures .1)), c .one-if2 .ensures .1, c .before .before .before .before .before .before .before .end .ensures .1 .0)
 
 -- src/tag.rt:85:5
 loop-less-3 : tie.Need-loop-less-3 Inv-loop μ-loop
@@ -166,6 +166,6 @@ read-carried-spec =
     one-if-requires
     add-others
     one-if-requires-2
-    add-spaces
+    add-namespaces
     loop-less-3
     loop-again-3)

@@ -79,7 +79,7 @@ returns : tie.Need-returns Inv-loop μ-loop
 returns c = λ d v after t h.
     let a = c .before .before .before .before .args in
     all-judged (a .shift) (standingMeant (a .standing)) (kindMeant (a .kind)) (v .attrs) (t .distinct)
-    (omega (arith, c .loop-test .left, c .before .loop .inv .0)) (c .before .before .others-fault .ensures (v .attrs) (t .others) (t .spaces)) (c .before .loop .inv .1 (v .attrs) (t .tells) h)
+    (omega (arith, c .loop-test .left, c .before .loop .inv .0)) (c .before .before .others-fault .ensures (v .attrs) (t .others) (t .namespaces)) (c .before .loop .inv .1 (v .attrs) (t .tells) h)
 
 pub attributes-fault-spec : {M : Type 1} → statement M
 attributes-fault-spec =
