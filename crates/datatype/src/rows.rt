@@ -1,7 +1,7 @@
 // How a row of children goes on.
 ghost use mathlib.Core.Path.{_≡_};
 ghost use mathlib.Core.Bool.{_&&_, cond};
-ghost use Rattle.rules.specs.Basics.{ifSome, same, isFrom};
+ghost use Rattle.rules.specs.Basics.{same, isFrom};
 ghost use Rattle.rules.specs.Types.{lineOf};
 ghost use Rattle.datatype.specs.Meaning.{kindMeant};
 ghost use Rattle.datatype.specs.Tables.{stepMeant, stepAmong};
@@ -56,16 +56,5 @@ pub fn next_child(name: &[u8], kind: Kind, stage: u64) -> Next
             let step = Next::Always(Kind::Part, 1);
             step_if(name, stage, b"part", 0, 1, step, none)
         }
-    }
-}
-
-// The stage that a row is brought to by a step.
-pub fn next_stage(next: Next, stage: u64) -> u64
-    ensures { λ r. ⌜ r ≡ ifSome (stepMeant next) (λ t. t .to) stage ⌝ }
-{
-    match next {
-        Next::Always(_, to) => to,
-        Next::Typed(to) => to,
-        Next::Nothing => stage,
     }
 }
