@@ -87,9 +87,9 @@ use Service::*;
 const SERVICES: [(Service, &str, usize); 6] = [
     (Cut, "cut", 256),
     (Tick, "tick", 1024),
-    (Check, "check", 16384),
+    (Check, "check", 8192),
     (List, "list", 49152),
-    (Compare, "compare", 16384),
+    (Compare, "compare", 8192),
     (Print, "print", 1024),
 ];
 
