@@ -50,7 +50,7 @@ fn flavor_said(s: &[u8], place: usize) -> Said
     Said::Nothing
 }
 
-// The refusal of a timestamp.
+// The refusal of a timestamp, or that there is none.
 fn fault_of(t: Timestamp) -> Verdict
     ensures { λ r. ⌜ faultOf r ≡ firstOf (faultsOf (outcomeOf t)) ⌝ }
 {

@@ -21,7 +21,7 @@ pub record PastEquals (s : List ℕ) (at r : ℕ) : Type 0 where
   pub past : (n : List ℕ) (a : Attribute) (left : List ℕ) → (space >> byte 61 >> space >> valueOf n) (drop at s) ≡ ok a left
       → (at < r) × (a .name ≡ n) × (value (drop r s) ≡ ok (a .value) left)
 
--- the attributes l stand from a position on, and the text goes on after them with something that is no name
+-- the attributes l stand from a position on, and what follows them, past white space, is no name
 pub record AttributesTo (s : List ℕ) (at : ℕ) (l : List Attribute) (left : List ℕ) : Type 0 where
   pub fuel : ℕ
   pub reads : attributes fuel (drop at s) ≡ ok l left
@@ -34,7 +34,7 @@ pub record CarriedAs (s : List ℕ) (l : List Attribute) (left : List ℕ) (r : 
   pub namespaces : r .namespaces ≡ count isNamespace l
   pub ends : left ≡ drop (r .end) s
 
--- what r names lies in the text, from a position on
+-- what r names lies in the text, and they end no earlier than a position
 pub record CarriedIn (s : List ℕ) (at : ℕ) (r : Carried) : Type 0 where
   pub placed : (n : ℕ) → getD (r .places) n 0 ≤ length s - 1
   pub low : at ≤ r .end

@@ -1,4 +1,4 @@
--- The attribute names that the table of types has, nullFlavor and xsi:type among them, by number: one list ("Types, after decoding the five references").
+-- The attribute names that the type lines have, and nullFlavor and xsi:type, by number: one list ("Types, after decoding the five references").
 use Prim.Native.Nat.{ℕ, suc}
 use mathlib.Core.Bool.{Bool, cond}
 use mathlib.Core.List.{List, [], _∷_}

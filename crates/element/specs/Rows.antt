@@ -9,7 +9,7 @@ use Rattle.rules.specs.Parsers.{ok}
 use Rattle.rules.specs.Markup.{Nodes, end, node, Element, endTag}
 use Rattle.element.specs.Tags.{ElementTo, RowTo}
 
--- a text that begins with `<`, and not with `</`
+-- a text that begins with `<` and another byte than `/`
 abbrev pub isChild : List ℕ → Bool
 isChild [] = false
 isChild (c ∷ []) = false
@@ -21,7 +21,7 @@ pub data RowSteps (s name : List ℕ) (depth i : ℕ) (after : List ℕ) : Nodes
   row-goes : (v : Element) (left : List ℕ) (l : Nodes) → ElementTo s i depth v left → ((e : ℕ) → i < e → left ≡ drop e s → RowTo s name e depth l after)
       → RowSteps s name depth i after (node (v .name) (v .attrs) (v .kids) l) true
 
--- from a position on, past white space, an element or an end tag stands at i
+-- where elements and an end tag stand from a position on, the first of them stands at i, past white space; `more`: it is an element
 pub record Stands (s : List ℕ) (at i : ℕ) (more : Bool) : Type 0 where
   pub low : at ≤ i
   pub high : i ≤ length s

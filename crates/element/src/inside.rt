@@ -12,8 +12,8 @@ pub enum Inside {
     Past(usize),
 }
 
-// What stands next in an element from a position on, where `depth` may be open at once. Of its tag it is asked whether content follows, and
-// where the name stands, up to `past`: a whole tag, copied at each step of a walk, costs more than the step.
+// What stands next in an element from a position on, where `depth` may be open at once. Of its tag this takes whether content follows, and
+// where the name stands, up to `past`: a whole tag would be copied at each step of a walk.
 pub fn next_inside(
     s: &[u8],
     full: bool,

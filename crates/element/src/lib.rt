@@ -1,6 +1,5 @@
-// What a document says, by the start tags of its elements: where the root stands, tags with their attributes by number, what follows them,
-// and decoded values. The contracts go from what stands at a position to what is answered; where nothing of the kind stands there, only
-// the bounds are said.
+// What a document says, by the start tags of its elements: where the root stands, attributes by number, what follows a tag, decoded values.
+// The contracts go from what stands at a position to what is answered; where nothing of the kind stands there, they say no more than bounds.
 ghost use mathlib.Core.Path.{_≡_};
 ghost use mathlib.Core.List.{List};
 ghost use mathlib.Core.Option.{some};

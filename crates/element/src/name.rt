@@ -1,4 +1,4 @@
-// The attribute names that the table of types has, nullFlavor and xsi:type among them, by number.
+// The attribute names that the type lines have, and nullFlavor and xsi:type, by number.
 ghost use mathlib.Core.Path.{_≡_};
 ghost use mathlib.Core.Bool.{cond};
 ghost use mathlib.Core.List.{List, _∷_};
@@ -59,7 +59,7 @@ fn number_of_c(name: &[u8]) -> usize
     number_if(name, b"currency", CURRENCY, code)
 }
 
-// The number of a name: its first byte leaves one known name, or those that begin with c.
+// The number of a name: its first byte leaves at most one known name, or those that begin with c.
 pub fn number_of(name: &[u8]) -> usize
     ensures { λ r. ⌜ r ≡ numberOf (now (name .entry)) ⌝ }
 {

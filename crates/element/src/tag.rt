@@ -1,8 +1,8 @@
 // The start tag of an element, read once.
 ghost use mathlib.Core.Path.{_≡_};
-ghost use mathlib.Core.Bool.{not, _||_, cond};
+ghost use mathlib.Core.Bool.{cond};
 ghost use mathlib.Core.List.{List};
-ghost use Prim.Native.Nat.{ℕ, suc, _≤_, _<_};
+ghost use Prim.Native.Nat.{ℕ, _≤_, _<_};
 ghost use lib.ListN.{length};
 ghost use Rattle.rules.specs.Basics.{isSome};
 ghost use Rattle.rules.specs.Markup.{Attribute, lookup, Element};
@@ -20,9 +20,8 @@ use markup::tag::read_head;
 use text::Read;
 use text::begins_with;
 
-// A start tag: for each known name where its value stands, with the quotes, 0 if there is none; how many attributes have other names, and
-// how many have names that begin with xmlns; where the name of the element stands, and past it; where the tag ends, and whether content
-// follows.
+// A start tag: for each known name where its value stands, with the quotes, 0 if there is none; how many other names do not begin with xmlns,
+// and how many do; where the name of the element stands, up to `past`; where the tag ends, and whether content follows.
 pub struct Tag {
     pub places: [usize; KNOWN],
     pub others: usize,
@@ -41,7 +40,7 @@ pub fn has(tag: Tag, n: usize) -> bool
     tag.places[n] != 0
 }
 
-// What a tag carries: the attributes as `Tag` has them, and where the last of them ends.
+// What a tag carries: the attributes as `Tag` has them, and where they end.
 struct Carried {
     places: [usize; KNOWN],
     others: usize,
@@ -151,7 +150,7 @@ fn close(s: &[u8], name: usize, past: usize, c: Carried) -> Tag
     }
 }
 
-// The start tag at a position; where none stands, one that carries nothing and ends where the text does.
+// The start tag at a position; where no `<` with a name stands, one that carries nothing and ends where the text does.
 pub fn read(s: &[u8], at: usize) -> Tag
     requires { ⌜ at ≤ length (now s) ⌝ }
     ensures within { λ r. ⌜ TagIn (now (s .entry)) r × (at < length (now (s .entry)) → at < r .end) ⌝ }

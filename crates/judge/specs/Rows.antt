@@ -55,7 +55,7 @@ rowMeant r = record { fault = faultOf (r .fault); stage = r .stage; any = r .any
 abbrev pub beginning : Judging
 beginning = record { fault = none; stage = 0; any = false; low = nothing; high = nothing }
 
--- the row with a child more, which is a step to a stage, has a first fault and says something
+-- the row with a child more, after which it stands at a stage, and which has a first fault and says something
 abbrev pub withChild : Judging → (stage : ℕ) → Option Refusal → Said → Judging
 withChild j stage fault said =
     record { fault = earlier (j .fault) fault; stage = stage; any = true; low = cond (eqb stage 1) said (j .low); high = cond (eqb stage 1) (j .high) said }
@@ -79,19 +79,19 @@ pub record AskedAs (shift : ℕ) (o : Option Step) (stage : ℕ) (v : Element) (
   pub said : childSaid shift o v ≡ saidOf (kindMeant (a .kind)) shift (v .attrs)
   pub to : a .stage ≡ ifSome o (λ t. t .to) stage
 
--- the row of the element v, of a kind, at its end, at a position: one that has not come far enough is SHAPE
+-- what is inside the element v, of a kind, by the row of its children, all judged; v ends at a position. A row that has not come far enough is SHAPE
 pub record Finished (shift : ℕ) (k : Kind) (v : Element) (row : Row) (at : ℕ) (r : Content) : Type 0 where
   pub fault : faultOf (r .fault) ≡ earlier (faultOf (row .fault)) (firstOf (SHAPE when (not (isNull (v .attrs)) && ltb (row .stage) (lineOf k .enough))))
   pub any : r .any ≡ row .any
   pub broken : k ≡ IVL-TS → BoundsSaid shift (v .kids) (row .low) (row .high) → r .broken ≡ breaksInterval shift (v .attrs) (v .kids)
   pub end : r .end ≡ at
 
--- a fault before RULE: a broken invariant beside it changes nothing
+-- RULE, or a fault before it on the ladder: a broken invariant beside it changes nothing
 abbrev pub Hides : Option Refusal → Type 0
 Hides o = earlier o (some RULE) ≡ o
 
--- what is inside the element v, of a kind, judged: the first fault, whether there are children, where the element ends, and, unless the fault comes
--- before RULE, whether the bounds of an interval break a rule
+-- what is inside the element v, of a kind, judged: the first fault, whether there are children, where the element ends, and, unless that fault is
+-- RULE or comes before it, whether the bounds of an interval break a rule
 pub record ContentAs (s : List ℕ) (shift : ℕ) (k : Kind) (v : Element) (after : List ℕ) (r : Content) : Type 0 where
   pub fault : faultOf (r .fault) ≡ firstOf (childFaults shift k (isNull (v .attrs)) 0 (v .kids))
   pub any : r .any ≡ hasChildren (v .kids)

@@ -153,7 +153,7 @@ pub fn begin(at: usize) -> Row
     }
 }
 
-// A row with a child more, which brings it to a stage, has a first fault, says something and ends at a position.
+// A row with a child more, after which it stands at a stage, and which has a first fault, says something and ends at a position.
 fn with_judged(row: Row, stage: u64, fault: Verdict, said: Said, end: usize) -> Row
     ensures { λ r. ⌜ (rowMeant r ≡ withChild (rowMeant row) stage (faultOf fault) (saidMeant said)) × (r .end ≡ end) ⌝ }
 {
@@ -202,7 +202,7 @@ pub fn with_child(s: &[u8], row: Row, tag: Tag, asked: Asked, content: Content, 
     )
 }
 
-// A row at its end, which is at a position, of the element of a tag.
+// What is inside the element of a tag, by the row of its children, all judged; the element ends at a position.
 pub fn finish(s: &[u8], tag: Tag, kind: Kind, row: Row, at: usize) -> Content
     requires { ⌜ TagIn (now s) tag ⌝ }
     ensures { λ r. ⌜ (r .end ≡ at) × ((shift : ℕ) (v : Element) → Tells (now (s .entry)) (v .attrs) (tag .places) → Finished shift (kindMeant kind) v row at r) ⌝ }

@@ -46,7 +46,7 @@ pub record Formed (r : Evaluated) : Type 0 where
   pub short : r .set .count ≤ r .count
   pub most : r .count ≤ 33
 
--- it is the set x, with as many intervals written, and, if those are not too many, the places that x means
+-- it is the set x, with as many intervals written, 33 for more than 32, and, up to 32, the places that x means
 pub record IsSet (x : Expression) (r : Evaluated) : Type 0 where
   pub known : r .known ≡ true
   pub count : r .count ≡ min 33 (length (intervals x))

@@ -40,7 +40,7 @@ fn in_none(op: Op) -> bool
     }
 }
 
-// Whether a place is in a set put together with the next one, which it is where there was none.
+// Whether a place is in a set put together with the next one; in the next one, where there was none.
 fn in_both(op: Op, any: bool, first: bool, next: bool) -> bool
     ensures { λ r. ⌜ r ≡ cond any (pageApply (opOf op) first next) next ⌝ }
 {

@@ -31,8 +31,8 @@ pub enum Shape {
     Other,
 }
 
-// A set of times: whether all of it is known, how many intervals are written in it, 33 for more than 32, and, up to 32, its stretches; and,
-// if it is known, the position past the element that writes it.
+// A set of times: whether all of it is known; and, if it is, how many intervals are written in it, 33 for more than 32, up to 32 its
+// stretches, and the position past the element that writes it.
 pub struct Evaluated {
     pub known: bool,
     pub count: usize,
@@ -65,7 +65,7 @@ pub fn shape_of(s: &[u8], tag: Tag) -> Shape
     shape_of_kind(kind)
 }
 
-// A set that is not known, with no interval written in it: that of an element that is null, or of a type that writes neither an interval nor
+// A set that is not known, with no interval counted: that of an element that is null, or of a type that writes neither an interval nor
 // members; and that of members before the first is read.
 fn nothing(end: usize) -> Evaluated
     ensures { λ r. ⌜ Formed r × (r .known ≡ false) × (r .count ≡ 0) × (r .end ≡ end) ⌝ }
@@ -97,7 +97,7 @@ fn of_single(s: &[u8], tag: Tag, depth: usize, shift: u64) -> Evaluated
     }
 }
 
-// A set put together with the next one, which it is where there was none. Where more than 32 intervals are written in the two, no operation
+// A set put together with the next one; the next one, where there was none. Where more than 32 intervals are written in the two, no operation
 // is done.
 fn join(op: Op, a: Evaluated, b: Evaluated) -> Evaluated
     requires { ⌜ Formed a ⌝ ∗ ⌜ Formed b ⌝ }
