@@ -17,8 +17,21 @@ use Rattle.text.specs.declared.Read.the-variants.{At}
 use Rattle.text.proofs.Reading.{good, here}
 use Rattle.markup.specs.Elements.{ReadsContent}
 use Rattle.element.specs.Tags.{ElementTo, closed, RowTo, Inner, empty, full, TagOf}
-use Rattle.element.specs.Rows.{isChild, RowSteps, row-ends, row-goes, Stands}
+use Rattle.element.specs.Rows.{isChild}
 use Rattle.element.specs.declared.tag.Tag.{Tag}
+
+-- what stands at i, past white space: the end tag of a name; or an element, and the others from where it ends on
+pub data RowSteps (s name : List ℕ) (depth i : ℕ) (after : List ℕ) : Nodes → (more : Bool) → Type 0 where
+  row-ends : (c : ℕ) → endTag name (drop i s) ≡ ok c after → RowSteps s name depth i after end false
+  row-goes : (v : Element) (left : List ℕ) (l : Nodes) → ElementTo s i depth v left → ((e : ℕ) → i < e → left ≡ drop e s → RowTo s name e depth l after)
+      → RowSteps s name depth i after (node (v .name) (v .attrs) (v .kids) l) true
+
+-- where elements and an end tag stand from a position on, the first of them stands at i, past white space; `more`: it is an element
+pub record Stands (s : List ℕ) (at i : ℕ) (more : Bool) : Type 0 where
+  pub low : at ≤ i
+  pub high : i ≤ length s
+  pub within : more ≡ true → i < length s
+  pub steps : (name : List ℕ) (depth : ℕ) (l : Nodes) (after : List ℕ) → RowTo s name at depth l after → RowSteps s name depth i after l more
 
 abbrev joined : Element → Nodes → Nodes
 joined e l = node (e .name) (e .attrs) (e .kids) l

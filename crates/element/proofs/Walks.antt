@@ -11,7 +11,7 @@ use Rattle.rules.specs.Parsers.{ok}
 use Rattle.rules.specs.Markup.{Nodes, end, node, Element, endTag}
 use Rattle.rules.proofs.Tests.{clash}
 use Rattle.element.specs.Tags.{ElementTo, RowTo, Inner, empty, full, TagOf, TagIn}
-use Rattle.element.specs.Rows.{RowSteps, row-ends, row-goes, Stands}
+use Rattle.element.proofs.Rows.{RowSteps, row-ends, row-goes, Stands}
 use Rattle.element.specs.declared.tag.Tag.{Tag}
 use Rattle.element.specs.Inside.{Left, FirstAt, ChildAt, EndsAt}
 

@@ -14,8 +14,8 @@ use Rattle.rules.proofs.Tests.{clash, same-true, same-sym}
 use Rattle.datatype.specs.Tables.{Step, stepAmong}
 use Rattle.datatype.specs.Said.{Said, nothing, saidBy, saidNamed}
 use Rattle.judge.specs.Faults.{childJudged}
-use Rattle.judge.specs.Rows.{childSaid, Judging, beginning, withChild, rowStep, rowAfter, Hides}
-use Rattle.judge.proofs.Rowing.{hides-on, shape-hides}
+use Rattle.judge.specs.Rows.{childSaid, Judging, beginning, withChild, Hides}
+use Rattle.judge.proofs.Rowing.{rowAfter, hides-on, shape-hides}
 
 -- the steps of the row of an interval
 abbrev bound : (to : ℕ) → Option Step

@@ -12,8 +12,15 @@ use Rattle.rules.specs.Judge.{Standing, attributeFaults, lacks, breaksNull, ele
 use Rattle.rules.specs.Invariants.{isNull}
 use Rattle.rules.proofs.Precedence.{firstOf-append, earlier-assoc, earlier-comm}
 use Rattle.datatype.specs.Tables.{Step, stepAmong}
-use Rattle.judge.specs.Faults.{ownFaults, judged, childJudged}
+use Rattle.judge.specs.Faults.{judged, childJudged}
 use Rattle.judge.proofs.AttributeFaults.{picked}
+
+-- the faults of an element of a kind, but for those of its children
+abbrev pub ownFaults : (shift : ℕ) → Standing → Kind → Element → List Refusal
+ownFaults shift p k v =
+    flatMap (attributeFaults shift p k) (v .attrs)
+    ++ SHAPE when exists (lacks (v .attrs)) (lineOf k .columns)
+    ++ RULE when (lineOf k .invariant shift (v .attrs) (v .kids) || breaksNull k (v .attrs) (v .kids))
 
 -- a refusal that is given exactly if something is so
 pub when-so : (r : Refusal) {o : Option Refusal} {a b : Bool} → o ≡ firstOf (r when a) → a ≡ b → o ≡ firstOf (r when b)

@@ -21,8 +21,13 @@ use Rattle.datatype.specs.Tables.{standingMeant, stepAmong}
 use Rattle.datatype.specs.Said.{Said}
 use Rattle.judge.specs.Faults.{judged, childJudged}
 use Rattle.judge.proofs.ElementFaults.{child-and-rest}
-use Rattle.judge.specs.Rows.{saidOf, Judging, withChild, rowStep, rowAfter, AskedAs, Hides}
+use Rattle.judge.specs.Rows.{saidOf, Judging, withChild, rowStep, AskedAs, Hides}
 use Rattle.judge.specs.declared.row.Asked.{Asked}
+
+-- the row of an element of a kind with the children l more
+unfoldable pub rowAfter : (shift : ℕ) → Kind → Judging → Nodes → Judging
+rowAfter shift k j end = j
+rowAfter shift k j (node n attrs kids rest) = rowAfter shift k (rowStep shift k j (record { name = n; attrs = attrs; kids = kids })) rest
 
 -- after the child the row stands at stage 1, or it does not
 module _ (j : Judging) (stage : ℕ) (f : Option Refusal) {g : Option Refusal} (s : Said) (h : g ≡ earlier (j .fault) f) where

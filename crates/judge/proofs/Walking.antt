@@ -16,10 +16,10 @@ use Rattle.element.specs.Tags.{Tells, TagOf}
 use Rattle.element.specs.declared.tag.Tag.{Tag}
 use Rattle.element.proofs.Walks.{Walked, walk-begins, walk-ends}
 use Rattle.element.specs.Inside.{EndsAt}
-use Rattle.judge.specs.Rows.{Judging, rowMeant, beginning, rowStep, rowAfter, Finished, ContentAs}
+use Rattle.judge.specs.Rows.{Judging, rowMeant, beginning, rowStep, Finished, ContentAs}
 use Rattle.judge.specs.declared.row.Content.{Content}
 use Rattle.judge.specs.declared.row.Row.{Row}
-use Rattle.judge.proofs.Rowing.{row-faults, row-any, hides-more}
+use Rattle.judge.proofs.Rowing.{rowAfter, row-faults, row-any, hides-more}
 use Rattle.judge.proofs.Bounds.{bounds-said}
 
 -- a row whose children are all judged

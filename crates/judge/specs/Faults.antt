@@ -1,24 +1,17 @@
 -- The faults of an element and of any bytes, put together, in the words of the rules ("The refusal ladder").
 use Prim.Native.Nat.{ℕ}
-use mathlib.Core.Bool.{not, _||_}
-use mathlib.Core.List.{List, [], _∷_, _++_, flatMap}
+use mathlib.Core.Bool.{not}
+use mathlib.Core.List.{List, [], _∷_, _++_}
 use mathlib.Core.Option.{Option}
-use Rattle.rules.specs.Basics.{ifSome, exists}
-use Rattle.rules.specs.Refusal.{Refusal, TOO-LONG, NOT-UTF-8, SHAPE, RULE, faultsIn, _when_}
+use Rattle.rules.specs.Basics.{ifSome}
+use Rattle.rules.specs.Refusal.{Refusal, TOO-LONG, NOT-UTF-8, SHAPE, faultsIn, _when_}
 use Rattle.rules.specs.Markup.{Element}
 use Rattle.rules.specs.Invariants.{isNull}
-use Rattle.rules.specs.Types.{Kind, lineOf}
-use Rattle.rules.specs.Judge.{Standing, attributeFaults, lacks, breaksNull, elementFaults, kindOf, standingOf, childFaults, topFaults}
+use Rattle.rules.specs.Types.{Kind}
+use Rattle.rules.specs.Judge.{Standing, elementFaults, kindOf, standingOf, childFaults, topFaults}
 use Rattle.rules.specs.Utf8.{isUtf8}
 use Rattle.rules.specs.Check.{isTooLong, elementOf}
 use Rattle.datatype.specs.Tables.{Step}
-
--- the faults of an element of a kind, but for those of its children
-abbrev pub ownFaults : (shift : ℕ) → Standing → Kind → Element → List Refusal
-ownFaults shift p k v =
-    flatMap (attributeFaults shift p k) (v .attrs)
-    ++ SHAPE when exists (lacks (v .attrs)) (lineOf k .columns)
-    ++ RULE when (lineOf k .invariant shift (v .attrs) (v .kids) || breaksNull k (v .attrs) (v .kids))
 
 -- every fault of an element, of the kind k if it has one, and of what is inside it
 abbrev pub judged : (shift : ℕ) → Standing → Option Kind → Element → List Refusal

@@ -9,10 +9,10 @@ use lib.Dec.{eqb, ltb}
 use lib.ListN.{drop}
 use Rattle.rules.specs.Basics.{ifSome}
 use Rattle.rules.specs.Refusal.{Refusal, SHAPE, RULE, earlier, firstOf, _when_}
-use Rattle.rules.specs.Markup.{Attribute, Nodes, end, node, Element}
+use Rattle.rules.specs.Markup.{Attribute, Element}
 use Rattle.rules.specs.Invariants.{isNull, hasChildren, breaksInterval}
 use Rattle.rules.specs.Types.{Kind, TS, IVL-TS, QSU-TS, QSI-TS, QSD-TS, MO, II, CD, EN, DisplayName, Part, lineOf}
-use Rattle.rules.specs.Judge.{Standing, kindOf, childFaults}
+use Rattle.rules.specs.Judge.{kindOf, childFaults}
 use Rattle.refusal.specs.Meaning.{faultOf}
 use Rattle.datatype.specs.Meaning.{kindMeant}
 use Rattle.datatype.specs.Tables.{standingMeant, Step, stepAmong}
@@ -66,11 +66,6 @@ rowStep shift k j v =
     withChild j (ifSome (stepAmong (lineOf k .children) (j .stage) (v .name)) (λ t. t .to) (j .stage))
     (firstOf (childJudged shift (stepAmong (lineOf k .children) (j .stage) (v .name)) v))
     (childSaid shift (stepAmong (lineOf k .children) (j .stage) (v .name)) v)
-
--- the same with the children l more
-unfoldable pub rowAfter : (shift : ℕ) → Kind → Judging → Nodes → Judging
-rowAfter shift k j end = j
-rowAfter shift k j (node n attrs kids rest) = rowAfter shift k (rowStep shift k j (record { name = n; attrs = attrs; kids = kids })) rest
 
 -- what a child is judged as, by the step that it is in a row that stands at a stage: the refusal, if it is not allowed or has no type, or else an
 -- element of a kind, where it stands; and the stage that the row is brought to
