@@ -82,13 +82,13 @@ module _ (shift : ℕ) (op : Op) {a : Evaluated} where
         go x s q (answered y) z (is-set t) = (some (put (opOf op) x y), so-far (join x y s t), q ∙ known-more shift (opOf op) v left z x)
         go x s q (refused p) z (is-unknown t) = clash (cc)
 
-    pub member-unknown : m .known ≡ false → Says (membersOf shift (opOf op) all) m
-    member-unknown k = let (x, s, q) = e in go x q (setOf shift v) refl says
+    pub member-unknown : m .known ≡ false → {r : Evaluated} → r .known ≡ false → Says (membersOf shift (opOf op) all) r
+    member-unknown k {r} u = let (x, s, q) = e in go x q (setOf shift v) refl says
       where
         go : (x : Option Expression) → membersOf shift (opOf op) all ≡ withLeft shift (opOf op) x (node (v .name) (v .attrs) (v .kids) left)
-            → (o : Outcome Expression) → setOf shift v ≡ o → Says o m → Says (membersOf shift (opOf op) all) m
+            → (o : Outcome Expression) → setOf shift v ≡ o → Says o m → Says (membersOf shift (opOf op) all) r
         go x q (answered y) z (is-set t) = clash (cc (t .known))
-        go x q (refused p) z (is-unknown t) = subst (λ (o : Outcome Expression). Says o m) (sym (q ∙ unknown-more shift (opOf op) v left z x)) (is-unknown t)
+        go x q (refused p) z (is-unknown t) = subst (λ (o : Outcome Expression). Says o r) (sym (q ∙ unknown-more shift (opOf op) v left z x)) (is-unknown u)
 
   -- no member is left
   pub members-said : (all : Nodes) → Evaluating shift op a all end → (p : ℕ) → Says (membersOf shift (opOf op) all) (record { known = a .known; count = a .count; set = a .set; end = p })

@@ -18,9 +18,9 @@ use Rattle.listing.specs.Sets.{Formed, IsSet, Says, is-set, is-unknown, 
 abbrev made : (known : Bool) (count : ℕ) (set : Stretches) (end : ℕ) → Evaluated
 made k n s e = record { known = k; count = n; set = s; end = e }
 
--- where the element ends does not matter
-pub ends-formed : {a : Evaluated} (e : ℕ) → Formed a → Formed (made (a .known) (a .count) (a .set) e)
-ends-formed e f = record { canonical = f .canonical; short = f .short; most = f .most }
+-- whether it is known, and where the element ends, does not matter
+pub as-formed : {a : Evaluated} (k : Bool) (e : ℕ) → Formed a → Formed (made k (a .count) (a .set) e)
+as-formed k e f = record { canonical = f .canonical; short = f .short; most = f .most }
 
 -- the set of one interval
 module _ (w : Written) {set : Stretches} (h : Holds (holds (intervalOf (w .interval))) 1 set) where
@@ -46,27 +46,31 @@ unfolding intervals
 written-both op x y = length-append (intervals x) (intervals y)
 
 module _ (op : Op) (a b : Evaluated) where
-  -- the second set alone
-  pub join-one : a .count ≡ 0 → (x : Option Expression) (y : Expression) → SoFar x a → IsSet y b → IsSet (put (opOf op) x y) b
-  join-one z none y s t = t
-  join-one z (some x) y (so-far s) t = absurd (omega (arith, z, s .count, some-written x))
+  -- the first set, where there is none before it
+  pub join-first : a .count ≡ 0 → (x : Option Expression) (y : Expression) → SoFar x a → IsSet y b → IsSet (put (opOf op) x y) b
+  join-first z none y s t = t
+  join-first z (some x) y (so-far s) t = absurd (omega (arith, z, s .count, some-written x))
 
-  -- more than 32
-  pub join-many : (a .count ≡ 0 → ⊥) → 32 < a .count + b .count → (set : Stretches) (e : ℕ) → (x : Option Expression) (y : Expression) → SoFar x a → IsSet y b
-      → IsSet (put (opOf op) x y) (made true 33 set e)
-  join-many z l set e none y (none-yet k c) t = absurd (z c)
-  join-many z l set e (some x) y (so-far s) t =
-      let n : 33 ≡ min 33 (length (intervals (combine (opOf op) x y))) = omega (arith, written-both op x y, s .count, t .count) in
-      record { known = refl; count = n; places = λ (f : 33 ≤ 32). absurd (omega arith) }
+  -- another one, put together with those before it
+  pub join-next : (a .count ≡ 0 → ⊥) → {r : Evaluated} → ((x y : Expression) → IsSet x a → IsSet y b → IsSet (combine (opOf op) x y) r)
+      → (x : Option Expression) (y : Expression) → SoFar x a → IsSet y b → IsSet (put (opOf op) x y) r
+  join-next z join none y (none-yet k c) t = absurd (z c)
+  join-next z join (some x) y (so-far s) t = join x y s t
 
-  -- put together
-  pub join-set : (a .count ≡ 0 → ⊥) → a .count + b .count ≤ 32 → {n : ℕ} {set : Stretches} (e : ℕ) → Holds (applied op (a .set) (b .set)) n set
-      → (x : Option Expression) (y : Expression) → SoFar x a → IsSet y b → IsSet (put (opOf op) x y) (made true (a .count + b .count) set e)
-  unfolding meant
-  join-set z l e h none y (none-yet k c) t = absurd (z c)
-  join-set z l e h (some x) y (so-far s) t =
-      let n : a .count + b .count ≡ min 33 (length (intervals (combine (opOf op) x y))) = omega (arith, written-both op x y, s .count, t .count) in
-      record { known = refl; count = n; places = λ f z. h .places z ∙ ap₂ (apply (opOf op)) (s .places (omega arith) z) (t .places (omega arith) z) }
+  module _ (x y : Expression) (s : IsSet x a) (t : IsSet y b) where
+    -- more than 32
+    pub join-many : 32 < a .count + b .count → (set : Stretches) (e : ℕ) → IsSet (combine (opOf op) x y) (made true 33 set e)
+    join-many l set e =
+        let n : 33 ≡ min 33 (length (intervals (combine (opOf op) x y))) = omega (arith, written-both op x y, s .count, t .count) in
+        record { known = refl; count = n; places = λ (f : 33 ≤ 32). absurd (omega arith) }
+
+    -- put together
+    pub join-set : a .count + b .count ≤ 32 → {n : ℕ} {set : Stretches} (e : ℕ) → Holds (applied op (a .set) (b .set)) n set
+        → IsSet (combine (opOf op) x y) (made true (a .count + b .count) set e)
+    unfolding meant
+    join-set l e h =
+        let n : a .count + b .count ≡ min 33 (length (intervals (combine (opOf op) x y))) = omega (arith, written-both op x y, s .count, t .count) in
+        record { known = refl; count = n; places = λ f z. h .places z ∙ ap₂ (apply (opOf op)) (s .places (omega arith) z) (t .places (omega arith) z) }
 
 pub many-formed : {a : Evaluated} (e : ℕ) → Formed a → Formed (made true 33 (a .set) e)
 many-formed e f = record { canonical = f .canonical; short = omega (arith, f .canonical .fits); most = omega arith }

@@ -2,15 +2,14 @@
 ghost use mathlib.Core.Path.{_≡_};
 ghost use mathlib.Core.Bool.{false};
 ghost use mathlib.Core.List.{List};
-ghost use mathlib.Core.Option.{Option};
 ghost use Prim.Native.Nat.{ℕ, _≤_};
 ghost use lib.ListN.{length, drop};
 ghost use Rattle.rules.specs.Markup.{Element};
-ghost use Rattle.rules.specs.Sets.{Expression};
+ghost use Rattle.rules.specs.Sets.{Expression, combine};
 ghost use Rattle.rules.specs.Listing.{intervalOf};
 ghost use Rattle.interval.specs.Meaning.{opOf};
 ghost use Rattle.element.specs.Tags.{TagOf, TagIn};
-ghost use Rattle.listing.specs.Sets.{shapeOf, WritesAs, Formed, IsSet, Says, SoFar, put, expressed, SaysElement};
+ghost use Rattle.listing.specs.Sets.{shapeOf, WritesAs, Formed, IsSet, Says, expressed, SaysElement};
 use crate::bound::interval_of;
 use datatype::kind::Kind;
 use datatype::kind::Named;
@@ -97,16 +96,12 @@ fn of_single(s: &[u8], tag: Tag, depth: usize, shift: u64) -> Evaluated
     }
 }
 
-// A set put together with the next one; the next one, where there was none. Where more than 32 intervals are written in the two, no operation
-// is done.
+// Two sets put together. Where more than 32 intervals are written in them, no operation is done.
 fn join(op: Op, a: Evaluated, b: Evaluated) -> Evaluated
     requires { ⌜ Formed a ⌝ ∗ ⌜ Formed b ⌝ }
-    ensures formed { λ r. ⌜ Formed r ⌝ }
-    ensures tells { λ r. ⌜ ((x : Option Expression) (y : Expression) → SoFar x a → IsSet y b → IsSet (put (opOf op) x y) r) ⌝ }
+    ensures formed { λ r. ⌜ Formed r × (r .end ≡ b .end) ⌝ }
+    ensures tells { λ r. ⌜ ((x y : Expression) → IsSet x a → IsSet y b → IsSet (combine (opOf op) x y) r) ⌝ }
 {
-    if a.count == 0 {
-        return b;
-    }
     let first = a.set;
     let count = a.count + b.count;
     if 32 < count {
@@ -128,35 +123,42 @@ fn join(op: Op, a: Evaluated, b: Evaluated) -> Evaluated
 }
 
 // The set that the element of a tag writes, where `depth` may be open at once: that of its one interval, or of its members, put together
-// from the first on. It calls itself for the members, with `depth` falling. The first member that is not known ends it.
+// from the first on. It calls itself for the members, with `depth` falling. The first member that is not known ends it. What is returned is
+// always `so_far`: a set is large, and each place that it is made at is one more to copy it from.
 pub fn evaluate(s: &[u8], tag: Tag, depth: usize, shift: u64) -> Evaluated
     requires { ⌜ TagIn (now s) tag ⌝ ∗ ⌜ shift ≤ 1680 ⌝ }
     ensures formed { λ r. ⌜ Formed r ⌝ }
     ensures within { λ r. ⌜ (tag .end ≤ r .end) × (r .end ≤ length (now (s .entry))) ⌝ }
     ensures tells { λ r. ⌜ SaysElement (now (s .entry)) tag depth shift r ⌝ }
 {
+    let mut so_far = nothing(tag.end);
     if tag::has(tag, NULL_FLAVOR) {
-        return nothing(tag.end);
+        return so_far;
     }
     let shape = shape_of(s, tag);
     let op = match shape {
-        Shape::Single => return of_single(s, tag, depth, shift),
+        Shape::Single => {
+            so_far = of_single(s, tag, depth, shift);
+            return so_far;
+        }
         Shape::Members(op) => op,
-        Shape::Other => return nothing(tag.end),
+        Shape::Other => return so_far,
     };
-    let mut so_far = nothing(tag.end);
-    let mut at = tag.end;
     loop {
-        let next = next_inside(s, tag.full, tag.name, tag.past, depth, at);
+        let next = next_inside(s, tag.full, tag.name, tag.past, depth, so_far.end);
         match next {
             Inside::Child(i) => {
                 let child = tag::read(s, i);
                 let member = evaluate(s, child, depth - 1, shift);
                 if !member.known {
-                    return member;
+                    so_far.known = false;
+                    return so_far;
                 }
-                so_far = join(op, so_far, member);
-                at = member.end;
+                if so_far.count == 0 {
+                    so_far = member;
+                } else {
+                    so_far = join(op, so_far, member);
+                }
             }
             Inside::Past(end) => {
                 so_far.end = end;
