@@ -2,3 +2,4 @@ pub mod Naming
 pub mod Standings
 pub mod Sayings
 pub mod Finding
+mod Plainly

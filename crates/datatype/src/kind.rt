@@ -8,8 +8,9 @@ ghost use Rattle.rules.specs.Parsers.{ok};
 ghost use Rattle.rules.specs.Markup.{Attribute, value, lookup};
 ghost use Rattle.rules.specs.Types.{memberTypes, allTypes, typeAmong};
 ghost use Rattle.element.specs.Tags.{Place};
-ghost use Rattle.datatype.specs.Meaning.{typeMeant, namedAmong, typesFor};
+ghost use Rattle.datatype.specs.Meaning.{typeMeant, namedAmong, NamesIfAny, typesFor};
 use element::value::is;
+use text::words::stands_at;
 
 // The nine types, and the two kinds of element inside them that have no type.
 pub enum Kind {
@@ -32,8 +33,29 @@ pub enum Named {
     Nothing,
 }
 
-// The type that the value at a position names, where a member of a set may be of it: an IVL_TS or a set type.
-fn named_member(s: &[u8], at: usize) -> Named
+// The type that the value at a position names, where a member of a set may be of it and its name is written as it is, with no reference: with
+// its quotes it has eight bytes, which are compared by fours.
+fn plain_member(s: &[u8], at: usize) -> Named
+    requires { ⌜ at ≤ length (now s) ⌝ }
+    ensures { λ r. ⌜ ((v after : List ℕ) → value (drop at (now (s .entry))) ≡ ok v after → NamesIfAny v r) ⌝ }
+{
+    if stands_at(s, at, b"\"IVL_TS\"") {
+        return Named::Is(Kind::IvlTs);
+    }
+    if stands_at(s, at, b"\"QSU_TS\"") {
+        return Named::Is(Kind::QsuTs);
+    }
+    if stands_at(s, at, b"\"QSI_TS\"") {
+        return Named::Is(Kind::QsiTs);
+    }
+    if stands_at(s, at, b"\"QSD_TS\"") {
+        return Named::Is(Kind::QsdTs);
+    }
+    Named::Nothing
+}
+
+// The type that the value at a position names after decoding, where a member of a set may be of it.
+fn decoded_member(s: &[u8], at: usize) -> Named
     requires { ⌜ at ≤ length (now s) ⌝ }
     ensures { λ r. ⌜ ((v after : List ℕ) → value (drop at (now (s .entry))) ≡ ok v after → typeMeant r ≡ namedAmong memberTypes v) ⌝ }
 {
@@ -50,6 +72,18 @@ fn named_member(s: &[u8], at: usize) -> Named
         return Named::Is(Kind::QsdTs);
     }
     Named::Nothing
+}
+
+// The type that the value at a position names, where a member of a set may be of it: an IVL_TS or a set type.
+fn named_member(s: &[u8], at: usize) -> Named
+    requires { ⌜ at ≤ length (now s) ⌝ }
+    ensures { λ r. ⌜ ((v after : List ℕ) → value (drop at (now (s .entry))) ≡ ok v after → typeMeant r ≡ namedAmong memberTypes v) ⌝ }
+{
+    let plain = plain_member(s, at);
+    if let Named::Is(_) = plain {
+        return plain;
+    }
+    decoded_member(s, at)
 }
 
 // The type that the value at a position names.

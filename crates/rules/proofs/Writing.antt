@@ -96,7 +96,7 @@ text-read (suc f) (c ∷ v) r l h =
     let (i, g) = every-true isBare c v h in
     rw (bare c i .no-quote, char-read c (v ++ 34 ∷ r) i, text-read f v r (omega arith) g)
 
-value-read : (v r : List ℕ) → every isBare v ≡ true → value (34 ∷ v ++ 34 ∷ r) ≡ ok v r
+pub value-read : (v r : List ℕ) → every isBare v ≡ true → value (34 ∷ v ++ 34 ∷ r) ≡ ok v r
 unfolding value one
 value-read v r h = text-read _ v r (omega (arith, length-append v (34 ∷ r))) h
 
