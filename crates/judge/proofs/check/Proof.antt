@@ -55,16 +55,6 @@ returns-4 c =
     a-document (c .before .before .before .before .before .before .before .args .shift) (c .before .before .before .before .before .before .before .args .input .now) (c .check-document .result) (c .before .before .before .before .before .if1 .left) (sym (c .before .before .before .before .is-utf8 .ensures) ∙ not-false _ (c .before .before .before .if2 .left)) (sym (c .before .before .is-document .ensures) ∙ not-false _ (c .before .if3 .left)) (c .check-document .ensures)
 
 pub check-spec : {M : Type 1} → statement M
-check-spec =
-    tie.close
-    (tie.spec
-    refused-requires
-    returns
-    is-utf8-requires
-    refused-requires-2
-    returns-2
-    is-document-requires
-    refused-requires-3
-    returns-3
-    check-document-requires
-    returns-4)
+check-spec = tie.close (tie.spec
+    refused-requires returns is-utf8-requires refused-requires-2 returns-2 is-document-requires refused-requires-3 returns-3
+    check-document-requires returns-4)

@@ -67,18 +67,6 @@ returns-2 c =
     (λ v after x. c .judge-with .ensures 8 v after x (c .before .time-in .ensures (v .attrs) (x .tells) .0) (c .before .before .judge-content .ensures .1 v after x))
 
 pub check-document-spec : {M : Type 1} → statement M
-check-document-spec =
-    tie.close
-    (tie.spec
-    root-requires
-    read-requires
-    element-copy-out-type-at
-    type-at-requires
-    enum-known-named
-    enum-told
-    refused-requires
-    returns
-    judge-content-requires
-    time-in-requires
-    judge-with-requires
-    returns-2)
+check-document-spec = tie.close (tie.spec
+    root-requires read-requires element-copy-out-type-at type-at-requires enum-known-named enum-told refused-requires returns
+    judge-content-requires time-in-requires judge-with-requires returns-2)

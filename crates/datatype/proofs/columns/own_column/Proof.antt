@@ -128,43 +128,8 @@ unfolding lineOf
 returns-11 c = rw (c .before .before .before .enum-told11 .given .1, c .takes15 .ensures, c .before .takes14 .ensures, c .before .before .takes13 .ensures)
 
 pub own-column-spec : {M : Type 1} → statement M
-own-column-spec =
-    tie.close
-    (tie.spec
-    enum-told
-    takes-requires
-    enum-told-2
-    takes-requires-2
-    takes-requires-3
-    enum-told-3
-    enum-told-4
-    enum-told-5
-    enum-told-6
-    takes-requires-4
-    takes-requires-5
-    enum-told-7
-    takes-requires-6
-    takes-requires-7
-    enum-told-8
-    takes-requires-8
-    takes-requires-9
-    takes-requires-10
-    takes-requires-11
-    enum-told-9
-    enum-told-10
-    takes-requires-12
-    enum-told-11
-    takes-requires-13
-    takes-requires-14
-    takes-requires-15
-    returns
-    returns-2
-    returns-3
-    returns-4
-    returns-5
-    returns-6
-    returns-7
-    returns-8
-    returns-9
-    returns-10
-    returns-11)
+own-column-spec = tie.close (tie.spec
+    enum-told takes-requires enum-told-2 takes-requires-2 takes-requires-3 enum-told-3 enum-told-4 enum-told-5 enum-told-6 takes-requires-4
+    takes-requires-5 enum-told-7 takes-requires-6 takes-requires-7 enum-told-8 takes-requires-8 takes-requires-9 takes-requires-10
+    takes-requires-11 enum-told-9 enum-told-10 takes-requires-12 enum-told-11 takes-requires-13 takes-requires-14 takes-requires-15 returns
+    returns-2 returns-3 returns-4 returns-5 returns-6 returns-7 returns-8 returns-9 returns-10 returns-11)

@@ -60,19 +60,6 @@ returns-5 : tie.Need-returns-5
 returns-5 c = λ v a q. rw (sym (c .before .before .before .before .before .before .before .before .before .before .is .ensures v a q) ∙ c .before .before .before .before .before .before .before .before .before .if1 .left, sym (c .before .before .before .before .before .before .before .is2 .ensures v a q) ∙ c .before .before .before .before .before .before .if2 .left, sym (c .before .before .before .before .is3 .ensures v a q) ∙ c .before .before .before .if3 .left, sym (c .before .is4 .ensures v a q) ∙ c .if4 .left)
 
 pub decoded-member-spec : {M : Type 1} → statement M
-decoded-member-spec =
-    tie.close
-    (tie.spec
-    slice-aggregate-is
-    is-requires
-    returns
-    slice-aggregate-is-2
-    is-requires-2
-    returns-2
-    slice-aggregate-is-3
-    is-requires-3
-    returns-3
-    slice-aggregate-is-4
-    is-requires-4
-    returns-4
-    returns-5)
+decoded-member-spec = tie.close (tie.spec
+    slice-aggregate-is is-requires returns slice-aggregate-is-2 is-requires-2 returns-2 slice-aggregate-is-3 is-requires-3 returns-3
+    slice-aggregate-is-4 is-requires-4 returns-4 returns-5)

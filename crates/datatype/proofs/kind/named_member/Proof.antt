@@ -32,12 +32,4 @@ returns-2 : tie.Need-returns-2
 returns-2 c = search needs
 
 pub named-member-spec : {M : Type 1} → statement M
-named-member-spec =
-    tie.close
-    (tie.spec
-    plain-member-requires
-    enum-told
-    returns
-    enum-told-2
-    decoded-member-requires
-    returns-2)
+named-member-spec = tie.close (tie.spec plain-member-requires enum-told returns enum-told-2 decoded-member-requires returns-2)

@@ -77,23 +77,6 @@ returns-6 : tie.Need-returns-6
 returns-6 c = λ v a q. rw (sym (c .before .before .before .before .before .before .before .before .before .before .before .before .before .before .is .ensures v a q) ∙ c .before .before .before .before .before .before .before .before .before .before .before .before .before .if1 .left, sym (c .before .before .before .before .before .before .before .before .before .before .before .is2 .ensures v a q) ∙ c .before .before .before .before .before .before .before .before .before .before .if2 .left, sym (c .before .before .before .before .before .before .before .before .is3 .ensures v a q) ∙ c .before .before .before .before .before .before .before .if3 .left, sym (c .before .before .before .before .before .is4 .ensures v a q) ∙ c .before .before .before .before .if4 .left, sym (c .before .before .is5 .ensures v a q) ∙ c .before .if5 .left) (c .named-member .ensures v a q)
 
 pub named-type-spec : {M : Type 1} → statement M
-named-type-spec =
-    tie.close
-    (tie.spec
-    slice-aggregate-is
-    is-requires
-    returns
-    slice-aggregate-is-2
-    is-requires-2
-    returns-2
-    slice-aggregate-is-3
-    is-requires-3
-    returns-3
-    slice-aggregate-is-4
-    is-requires-4
-    returns-4
-    slice-aggregate-is-5
-    is-requires-5
-    returns-5
-    named-member-requires
-    returns-6)
+named-type-spec = tie.close (tie.spec
+    slice-aggregate-is is-requires returns slice-aggregate-is-2 is-requires-2 returns-2 slice-aggregate-is-3 is-requires-3 returns-3
+    slice-aggregate-is-4 is-requires-4 returns-4 slice-aggregate-is-5 is-requires-5 returns-5 named-member-requires returns-6)

@@ -67,19 +67,6 @@ returns-5 : tie.Need-returns-5
 returns-5 c = search needs
 
 pub plain-member-spec : {M : Type 1} → statement M
-plain-member-spec =
-    tie.close
-    (tie.spec
-    slice-aggregate-stands-at
-    stands-at-requires
-    returns
-    slice-aggregate-stands-at-2
-    stands-at-requires-2
-    returns-2
-    slice-aggregate-stands-at-3
-    stands-at-requires-3
-    returns-3
-    slice-aggregate-stands-at-4
-    stands-at-requires-4
-    returns-4
-    returns-5)
+plain-member-spec = tie.close (tie.spec
+    slice-aggregate-stands-at stands-at-requires returns slice-aggregate-stands-at-2 stands-at-requires-2 returns-2 slice-aggregate-stands-at-3
+    stands-at-requires-3 returns-3 slice-aggregate-stands-at-4 stands-at-requires-4 returns-4 returns-5)

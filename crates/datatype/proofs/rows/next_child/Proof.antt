@@ -94,33 +94,8 @@ unfolding lineOf
 returns-6 c = rw (← c .before .before .before .before .row-of .ensures, c .before .before .enum-told6 .given .1, c .step-if7 .ensures)
 
 pub next-child-spec : {M : Type 1} → statement M
-next-child-spec =
-    tie.close
-    (tie.spec
-    row-of-requires
-    enum-told
-    enum-told-2
-    slice-aggregate-step-if
-    step-if-requires
-    slice-aggregate-step-if-2
-    step-if-requires-2
-    enum-told-3
-    slice-aggregate-step-if-3
-    step-if-requires-3
-    enum-told-4
-    slice-aggregate-step-if-4
-    step-if-requires-4
-    slice-aggregate-step-if-5
-    step-if-requires-5
-    enum-told-5
-    slice-aggregate-step-if-6
-    step-if-requires-6
-    enum-told-6
-    slice-aggregate-step-if-7
-    step-if-requires-7
-    returns
-    returns-2
-    returns-3
-    returns-4
-    returns-5
-    returns-6)
+next-child-spec = tie.close (tie.spec
+    row-of-requires enum-told enum-told-2 slice-aggregate-step-if step-if-requires slice-aggregate-step-if-2 step-if-requires-2 enum-told-3
+    slice-aggregate-step-if-3 step-if-requires-3 enum-told-4 slice-aggregate-step-if-4 step-if-requires-4 slice-aggregate-step-if-5
+    step-if-requires-5 enum-told-5 slice-aggregate-step-if-6 step-if-requires-6 enum-told-6 slice-aggregate-step-if-7 step-if-requires-7 returns
+    returns-2 returns-3 returns-4 returns-5 returns-6)

@@ -62,20 +62,6 @@ returns-6 : tie.Need-returns-6
 returns-6 c = search needs
 
 pub endpoint-spec : {M : Type 1} → statement M
-endpoint-spec =
-    tie.close
-    (tie.spec
-    enum-known-said
-    enum-told
-    enum-told-2
-    enum-told-3
-    enum-told-4
-    enum-told-5
-    enum-told-6
-    enum-told-7
-    returns
-    returns-2
-    returns-3
-    returns-4
-    returns-5
-    returns-6)
+endpoint-spec = tie.close (tie.spec
+    enum-known-said enum-told enum-told-2 enum-told-3 enum-told-4 enum-told-5 enum-told-6 enum-told-7 returns returns-2 returns-3 returns-4
+    returns-5 returns-6)

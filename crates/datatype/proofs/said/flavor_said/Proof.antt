@@ -36,13 +36,5 @@ returns-3 : tie.Need-returns-3
 returns-3 c = λ o p. rw (sym (c .before .before .before .before .has-text .ensures o p) ∙ c .before .before .before .if1 .left, sym (c .before .has-text2 .ensures o p) ∙ c .if2 .left)
 
 pub flavor-said-spec : {M : Type 1} → statement M
-flavor-said-spec =
-    tie.close
-    (tie.spec
-    slice-aggregate-has-text
-    has-text-requires
-    returns
-    slice-aggregate-has-text-2
-    has-text-requires-2
-    returns-2
-    returns-3)
+flavor-said-spec = tie.close (tie.spec
+    slice-aggregate-has-text has-text-requires returns slice-aggregate-has-text-2 has-text-requires-2 returns-2 returns-3)

@@ -50,14 +50,4 @@ returns-3 c = λ o p.
     rw (is, sym (c .before .before .before .moment .ensures w x), c .before .read .given .1) (refl, refl)
 
 pub time-at-spec : {M : Type 1} → statement M
-time-at-spec =
-    tie.close
-    (tie.spec
-    returns
-    end-requires
-    moment-requires
-    enum-known-read
-    enum-told
-    fault-of-requires
-    returns-2
-    returns-3)
+time-at-spec = tie.close (tie.spec returns end-requires moment-requires enum-known-read enum-told fault-of-requires returns-2 returns-3)

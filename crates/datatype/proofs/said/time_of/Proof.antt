@@ -42,12 +42,4 @@ returns-2 c = λ l t.
     (fault, rw (sym (present p) ∙ ap not (ne-eqb _ 0 (c .before .if1 .left))) (c .flavor-said .ensures _ p))
 
 pub time-of-spec : {M : Type 1} → statement M
-time-of-spec =
-    tie.close
-    (tie.spec
-    element-copy-out-time-at
-    time-at-requires
-    element-copy-out-flavor
-    returns
-    flavor-said-requires
-    returns-2)
+time-of-spec = tie.close (tie.spec element-copy-out-time-at time-at-requires element-copy-out-flavor returns flavor-said-requires returns-2)

@@ -43,14 +43,4 @@ returns-3 c = λ l h t.
     (sym (c .before .before .before .before .column-of .ensures) ∙ ap formMeant (c .before .before .column .given .1)) (c .text-fault .ensures)
 
 pub attribute-fault-spec : {M : Type 1} → statement M
-attribute-fault-spec =
-    tie.close
-    (tie.spec
-    enum-told
-    returns
-    column-of-requires
-    enum-known-column
-    enum-told-2
-    returns-2
-    text-fault-requires
-    returns-3)
+attribute-fault-spec = tie.close (tie.spec enum-told returns column-of-requires enum-known-column enum-told-2 returns-2 text-fault-requires returns-3)

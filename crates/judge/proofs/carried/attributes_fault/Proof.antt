@@ -82,18 +82,6 @@ returns c = λ d v after t h.
     (omega (arith, c .loop-test .left, c .before .loop .inv .0)) (c .before .before .others-fault .ensures (v .attrs) (t .others) (t .namespaces)) (c .before .loop .inv .1 (v .attrs) (t .tells) h)
 
 pub attributes-fault-spec : {M : Type 1} → statement M
-attributes-fault-spec =
-    tie.close
-    (tie.spec
-    Inv-loop
-    μ-loop
-    others-fault-requires
-    loop-holds
-    mul-place
-    element-copy-out-place
-    attribute-fault-requires
-    first-requires
-    add-n
-    loop-less
-    loop-again
-    returns)
+attributes-fault-spec = tie.close (tie.spec
+    Inv-loop μ-loop others-fault-requires loop-holds mul-place element-copy-out-place attribute-fault-requires first-requires add-n loop-less
+    loop-again returns)

@@ -67,18 +67,5 @@ returns-2 : tie.Need-returns-2 Inv-loop μ-loop
 returns-2 c = λ s l t. sym (own-end (kindMeant (c .before .before .args .kind)) l (c .before .loop .n) (c .loop-test .left)) ∙ c .before .loop .inv .1 s l t
 
 pub has-own-spec : {M : Type 1} → statement M
-has-own-spec =
-    tie.close
-    (tie.spec
-    Inv-loop
-    μ-loop
-    loop-holds
-    own-column-requires
-    is-column-requires
-    mul-if1
-    element-copy-out-if1
-    returns
-    add-n
-    loop-less
-    loop-again
-    returns-2)
+has-own-spec = tie.close (tie.spec
+    Inv-loop μ-loop loop-holds own-column-requires is-column-requires mul-if1 element-copy-out-if1 returns add-n loop-less loop-again returns-2)

@@ -64,15 +64,6 @@ returns c =
     ]))
 
 pub judge-with-spec : {M : Type 1} → statement M
-judge-with-spec =
-    tie.close
-    (tie.spec
-    attributes-fault-requires
-    lacks-requires
-    refused-if-requires
-    is-broken-requires
-    refused-if-requires-2
-    first-requires
-    first-requires-2
-    first-requires-3
-    returns)
+judge-with-spec = tie.close (tie.spec
+    attributes-fault-requires lacks-requires refused-if-requires is-broken-requires refused-if-requires-2 first-requires first-requires-2
+    first-requires-3 returns)

@@ -47,15 +47,5 @@ returns-3 : tie.Need-returns-3
 returns-3 c = λ shift depth v after t. asked-nothing shift (c .before .before .before .before .before .args .stage) v _ (c .before .before .before .step-of .ensures depth v after t) (c .refuse .result) (c .before .enum-told .given .1) (c .refuse .ensures)
 
 pub child-asked-spec : {M : Type 1} → statement M
-child-asked-spec =
-    tie.close
-    (tie.spec
-    step-of-requires
-    enum-known-step
-    enum-known-step-2
-    member-asked-requires
-    enum-told
-    refuse-requires
-    returns
-    returns-2
-    returns-3)
+child-asked-spec = tie.close (tie.spec
+    step-of-requires enum-known-step enum-known-step-2 member-asked-requires enum-told refuse-requires returns returns-2 returns-3)

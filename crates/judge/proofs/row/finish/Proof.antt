@@ -35,12 +35,4 @@ returns : tie.Need-returns
 returns c = (refl, λ shift v t. record { fault = rw (c .before .first .ensures, c .before .before .refused-if .ensures, c .before .before .before .before .enough .ensures, c .before .before .before .before .before .has .ensures _ (v .attrs) t); any = refl; broken = c .breaks-bounds .ensures shift (v .attrs) (v .kids) t; end = refl })
 
 pub finish-spec : {M : Type 1} → statement M
-finish-spec =
-    tie.close
-    (tie.spec
-    has-requires
-    enough-requires
-    refused-if-requires
-    first-requires
-    breaks-bounds-requires
-    returns)
+finish-spec = tie.close (tie.spec has-requires enough-requires refused-if-requires first-requires breaks-bounds-requires returns)

@@ -37,13 +37,4 @@ returns-2 : tie.Need-returns-2
 returns-2 c = λ shift stage v t. asked-none shift stage v _ (c .refuse .result) (c .before .enum-told .given .1) (c .before .before .before .type-at .ensures (v .attrs) (t .placed 2 (omega arith))) (c .refuse .ensures)
 
 pub member-asked-spec : {M : Type 1} → statement M
-member-asked-spec =
-    tie.close
-    (tie.spec
-    element-copy-out-type-at
-    type-at-requires
-    enum-known-named
-    enum-told
-    refuse-requires
-    returns
-    returns-2)
+member-asked-spec = tie.close (tie.spec element-copy-out-type-at type-at-requires enum-known-named enum-told refuse-requires returns returns-2)

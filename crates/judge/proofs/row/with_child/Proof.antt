@@ -37,11 +37,4 @@ returns c = (
 )
 
 pub with-child-spec : {M : Type 1} → statement M
-with-child-spec =
-    tie.close
-    (tie.spec
-    time-in-requires
-    judge-with-requires
-    unless-refused-requires
-    with-judged-requires
-    returns)
+with-child-spec = tie.close (tie.spec time-in-requires judge-with-requires unless-refused-requires with-judged-requires returns)

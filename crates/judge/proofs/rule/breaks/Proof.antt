@@ -158,38 +158,8 @@ returns-11 c = λ n l k t a d.
     rw (c .before .before .before .enum-told11 .given .1) (c .breaks-part .ensures n l k null (t .placed 0 (omega arith)) (t .placed 13 (omega arith)))
 
 pub breaks-spec : {M : Type 1} → statement M
-breaks-spec =
-    tie.close
-    (tie.spec
-    has-requires
-    has-requires-2
-    enum-told
-    exactly-one-requires
-    enum-told-2
-    enum-told-3
-    enum-told-4
-    enum-told-5
-    enum-told-6
-    has-requires-3
-    exactly-one-requires-2
-    enum-told-7
-    has-requires-4
-    enum-told-8
-    breaks-code-requires
-    enum-told-9
-    enum-told-10
-    enum-told-11
-    element-copy-out-breaks-part
-    element-copy-out-breaks-part-2
-    breaks-part-requires
-    returns
-    returns-2
-    returns-3
-    returns-4
-    returns-5
-    returns-6
-    returns-7
-    returns-8
-    returns-9
-    returns-10
-    returns-11)
+breaks-spec = tie.close (tie.spec
+    has-requires has-requires-2 enum-told exactly-one-requires enum-told-2 enum-told-3 enum-told-4 enum-told-5 enum-told-6 has-requires-3
+    exactly-one-requires-2 enum-told-7 has-requires-4 enum-told-8 breaks-code-requires enum-told-9 enum-told-10 enum-told-11
+    element-copy-out-breaks-part element-copy-out-breaks-part-2 breaks-part-requires returns returns-2 returns-3 returns-4 returns-5 returns-6
+    returns-7 returns-8 returns-9 returns-10 returns-11)

@@ -32,12 +32,5 @@ returns-2 : tie.Need-returns-2
 returns-2 c = λ shift l kids t e. no-interval (c .before .before .args .kind) (c .match .keys2) e
 
 pub breaks-bounds-spec : {M : Type 1} → statement M
-breaks-bounds-spec =
-    tie.close
-    (tie.spec
-    enum-told
-    element-copy-out-breaks-interval
-    element-copy-out-breaks-interval-2
-    breaks-interval-requires
-    returns
-    returns-2)
+breaks-bounds-spec = tie.close (tie.spec
+    enum-told element-copy-out-breaks-interval element-copy-out-breaks-interval-2 breaks-interval-requires returns returns-2)

@@ -40,14 +40,4 @@ returns-3 : tie.Need-returns-3
 returns-3 c = λ side l p. rw (c .enum-told3 .given .1)
 
 pub breaks-flag-spec : {M : Type 1} → statement M
-breaks-flag-spec =
-    tie.close
-    (tie.spec
-    enum-told
-    enum-told-2
-    slice-aggregate-has-text
-    has-text-requires
-    enum-told-3
-    returns
-    returns-2
-    returns-3)
+breaks-flag-spec = tie.close (tie.spec enum-told enum-told-2 slice-aggregate-has-text has-text-requires enum-told-3 returns returns-2 returns-3)

@@ -39,13 +39,5 @@ returns-3 : tie.Need-returns-3
 returns-3 c = λ l p. let w = standing p (c .before .before .before .if1 .left) in rw (w .is, sym (c .before .has-word .ensures (w .text) _ (w .reads)) ∙ c .if2 .left)
 
 pub has-both-ends-spec : {M : Type 1} → statement M
-has-both-ends-spec =
-    tie.close
-    (tie.spec
-    returns
-    slice-aggregate-has-word
-    has-word-requires
-    slice-aggregate-has-word-2
-    has-word-requires-2
-    returns-2
-    returns-3)
+has-both-ends-spec = tie.close (tie.spec
+    returns slice-aggregate-has-word has-word-requires slice-aggregate-has-word-2 has-word-requires-2 returns-2 returns-3)
