@@ -3,8 +3,10 @@ ghost use mathlib.Core.Path.{_≡_};
 ghost use mathlib.Core.List.{List};
 ghost use Prim.Native.Nat.{ℕ, _+_, _^_, _≤_, _<_};
 ghost use lib.ListN.{length, take, drop};
+ghost use Rattle.rules.specs.Basics.{begins};
 ghost use Rattle.rules.specs.LentLists.{unsigned};
 ghost use Rattle.text.specs.Words.{AreEight, PairsOf};
+use crate::begins_with;
 
 // The word of two bytes at a position, the first the lowest.
 pub fn two(s: &[u8], at: usize) -> u64
@@ -47,4 +49,22 @@ pub fn read_pairs(word: u64) -> Pairs
         pairs / 0x1_0000_0000 % 0x100,
         pairs / 0x1_0000_0000_0000 % 0x100,
     )
+}
+
+// Whether a text stands at a position, by four bytes at a time.
+pub fn stands_at(s: &[u8], at: usize, t: &[u8]) -> bool
+    requires { ⌜ at ≤ length (now s) ⌝ }
+    ensures { λ r. ⌜ r ≡ begins (now (t .entry)) (drop at (now (s .entry))) ⌝ }
+{
+    if s.len() - at < t.len() {
+        return false;
+    }
+    let mut k = 0;
+    while 4 <= t.len() - k {
+        if four(s, at + k) != four(t, k) {
+            return false;
+        }
+        k += 4;
+    }
+    begins_with(&s[at + k..], &t[k..])
 }
