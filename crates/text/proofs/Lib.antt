@@ -6,3 +6,4 @@ pub mod Reading
 pub mod Sameness
 pub mod Lanes
 pub mod EightDigits
+pub mod Standing
