@@ -3,10 +3,10 @@ ghost use mathlib.Core.Path.{_≡_};
 ghost use mathlib.Core.Bool.{cond};
 ghost use mathlib.Core.List.{List, _∷_};
 ghost use Prim.Native.Nat.{ℕ, _≤_};
+ghost use lib.ListN.{length};
 ghost use Rattle.rules.specs.Basics.{same};
-ghost use lib.ListN.{length, drop};
 ghost use Rattle.element.specs.Names.{numberOf};
-ghost use Rattle.element.specs.Plain.{PlainAt};
+ghost use Rattle.element.specs.Plain.{PlainIf, PlainAt};
 use text::is_same;
 use text::words::stands_at;
 
@@ -84,22 +84,23 @@ pub fn number_of(name: &[u8]) -> usize
     }
 }
 
-// A known name with `="` right after it: its number and how long it is; KNOWN, where none stands.
+// A known name with `="` right after it: its number and how long it is; KNOWN where none stands.
 pub struct Plain {
     pub number: usize,
-    pub length: usize,
+    pub size: usize,
 }
 
-// A number and a length, if a text stands at a position.
-fn plain_if(s: &[u8], at: usize, text: &[u8], number: usize, length: usize) -> Plain
+// A number and a size, if a text stands at a position.
+fn plain_if(s: &[u8], at: usize, text: &[u8], number: usize, size: usize) -> Plain
     requires { ⌜ at ≤ length (now s) ⌝ }
+    ensures { λ r. ⌜ PlainIf (now (s .entry)) at (now (text .entry)) number size r ⌝ }
 {
     if stands_at(s, at, text) {
-        return Plain { number, length };
+        return Plain { number, size };
     }
     Plain {
         number: KNOWN,
-        length: 0,
+        size: 0,
     }
 }
 
@@ -127,7 +128,7 @@ pub fn plain_at(s: &[u8], at: usize) -> Plain
     if at == s.len() {
         return Plain {
             number: KNOWN,
-            length: 0,
+            size: 0,
         };
     }
     match s[at] {
@@ -143,7 +144,7 @@ pub fn plain_at(s: &[u8], at: usize) -> Plain
         b'q' => plain_if(s, at, b"qualifier=\"", QUALIFIER, 9),
         _ => Plain {
             number: KNOWN,
-            length: 0,
+            size: 0,
         },
     }
 }

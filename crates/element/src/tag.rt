@@ -9,6 +9,7 @@ ghost use Rattle.rules.specs.Markup.{Attribute, lookup, Element};
 ghost use Rattle.element.specs.Names.{known, nameAt};
 ghost use Rattle.element.specs.Tags.{ElementTo, Tells, TagOf, TagIn};
 ghost use Rattle.element.specs.Carried.{PastEquals, AttributesTo, CarriedIn, CarriedAs, PastLiteral, Closed};
+ghost use Rattle.element.specs.Plain.{StartAt};
 use crate::name::KNOWN;
 use crate::name::number_of;
 use crate::name::plain_at;
@@ -89,7 +90,7 @@ fn start_at(s: &[u8], at: usize) -> Start
 {
     let plain = plain_at(s, at);
     if plain.number < KNOWN {
-        let name_end = at + plain.length;
+        let name_end = at + plain.size;
         return Start::Named {
             number: plain.number,
             name_end,
