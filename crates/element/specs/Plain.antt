@@ -14,14 +14,14 @@ use Rattle.element.specs.declared.name.Plain.{Plain}
 use Rattle.element.specs.declared.tag.Start.{Start}
 use Rattle.element.specs.declared.tag.Start.the-variants.{Named, Nothing}
 
--- r is a number and a size if a text stands at a position
+-- r is a number and a size, if a text stands at a position; else it has the number of no known name
 abbrev pub PlainIf : List ℕ → ℕ → (text : List ℕ) → (number size : ℕ) → Plain → Type 0
 PlainIf s at text number size r = r ≡ cond (begins text (drop at s)) (record { number = number; size = size }) (record { number = known; size = 0 })
 
 -- if r has the number of a known name, that name stands at a position, and `="` after it
-abbrev pub PlainAt : List ℕ → ℕ → Plain → Type 0
-PlainAt s at r =
-    r .number < known → (begins (nameAt (r .number) ++ bytes "=\"") (drop at s) ≡ true) × (r .size ≡ length (nameAt (r .number)))
+pub record PlainAt (s : List ℕ) (at : ℕ) (r : Plain) : Type 0 where
+  pub stands : r .number < known → begins (nameAt (r .number) ++ bytes "=\"") (drop at s) ≡ true
+  pub size : r .number < known → r .size ≡ length (nameAt (r .number))
 
 -- r is the attribute that begins at a position, or no name stands there
 abbrev pub StartAt : List ℕ → ℕ → Start → Type 0

@@ -1,6 +1,5 @@
 -- `element::name::plain_at` meets its contract.
-use native.Mathlib.Omega.{arith}
-use Rattle.element.proofs.Plain.{plain-if}
+use Rattle.element.proofs.Plain.{not-plain, plain-if}
 use borrow.Author.Needs.{needs}
 use Rattle.element.proofs.name.plain_at.Statement.{statement}
 use Rattle.element.proofs.name.plain_at.Tie as tie
@@ -11,7 +10,7 @@ use Rattle.element.proofs.name.plain_if.Reads as plain-if-reads
 
 -- src/name.rt:129:9
 returns : tie.Need-returns
-returns c = λ h. absurd (omega arith)
+returns c = not-plain
 
 -- src/name.rt:134:11
 shared-slice-read-match : tie.Need-shared-slice-read-match
@@ -95,23 +94,23 @@ plain-if-requires-9 c κs = search needs
 
 -- src/name.rt:124:1
 returns-2 : tie.Need-returns-2
-returns-2 c = let a = c .before .before .before .before .before .before .args in plain-if (a .s .now) (a .at) 0 (c .plain-if .ensures)
+returns-2 c = plain-if 0 (c .plain-if .ensures)
 
 -- src/name.rt:124:1
 returns-3 : tie.Need-returns-3
-returns-3 c = let a = c .before .before .before .before .before .before .args in plain-if (a .s .now) (a .at) 1 (c .plain-if2 .ensures)
+returns-3 c = plain-if 1 (c .plain-if2 .ensures)
 
 -- src/name.rt:124:1
 returns-4 : tie.Need-returns-4
-returns-4 c = let a = c .before .before .before .before .before .before .args in plain-if (a .s .now) (a .at) 2 (c .plain-if3 .ensures)
+returns-4 c = plain-if 2 (c .plain-if3 .ensures)
 
 -- src/name.rt:124:1
 returns-5 : tie.Need-returns-5
-returns-5 c = let a = c .before .before .before .before .before .before .args in plain-if (a .s .now) (a .at) 3 (c .plain-if4 .ensures)
+returns-5 c = plain-if 3 (c .plain-if4 .ensures)
 
 -- src/name.rt:124:1
 returns-6 : tie.Need-returns-6
-returns-6 c = let a = c .before .before .before .before .before .before .args in plain-if (a .s .now) (a .at) 4 (c .plain-if5 .ensures)
+returns-6 c = plain-if 4 (c .plain-if5 .ensures)
 
 -- src/name.rt:124:1
 returns-7 : tie.Need-returns-7
@@ -119,23 +118,23 @@ returns-7 c = search needs
 
 -- src/name.rt:124:1
 returns-8 : tie.Need-returns-8
-returns-8 c = let a = c .before .before .before .before .before .before .args in plain-if (a .s .now) (a .at) 6 (c .plain-if6 .ensures)
+returns-8 c = plain-if 6 (c .plain-if6 .ensures)
 
 -- src/name.rt:124:1
 returns-9 : tie.Need-returns-9
-returns-9 c = let a = c .before .before .before .before .before .before .args in plain-if (a .s .now) (a .at) 7 (c .plain-if7 .ensures)
+returns-9 c = plain-if 7 (c .plain-if7 .ensures)
 
 -- src/name.rt:124:1
 returns-10 : tie.Need-returns-10
-returns-10 c = let a = c .before .before .before .before .before .before .args in plain-if (a .s .now) (a .at) 12 (c .plain-if8 .ensures)
+returns-10 c = plain-if 12 (c .plain-if8 .ensures)
 
 -- src/name.rt:124:1
 returns-11 : tie.Need-returns-11
-returns-11 c = let a = c .before .before .before .before .before .before .args in plain-if (a .s .now) (a .at) 13 (c .plain-if9 .ensures)
+returns-11 c = plain-if 13 (c .plain-if9 .ensures)
 
 -- src/name.rt:124:1
 returns-12 : tie.Need-returns-12
-returns-12 c = λ h. absurd (omega arith)
+returns-12 c = not-plain
 
 pub plain-at-spec : {M : Type 1} → statement M
 plain-at-spec =

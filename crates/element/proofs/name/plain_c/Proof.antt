@@ -17,7 +17,7 @@ plain-if-requires c κs = search needs
 
 -- src/name.rt:114:9
 returns : tie.Need-returns
-returns c = let a = c .before .before .before .before .before .args in plain-if (a .s .now) (a .at) 8 (c .before .before .plain-if .ensures)
+returns c = plain-if 8 (c .before .before .plain-if .ensures)
 
 -- src/name.rt:116:34
 slice-aggregate-plain-if-2 : tie.Need-slice-aggregate-plain-if-2
@@ -29,7 +29,7 @@ plain-if-requires-2 c κs = search needs
 
 -- src/name.rt:118:9
 returns-2 : tie.Need-returns-2
-returns-2 c = let a = c .before .before .before .before .before .before .before .before .before .args in plain-if (a .s .now) (a .at) 9 (c .before .before .plain-if2 .ensures)
+returns-2 c = plain-if 9 (c .before .before .plain-if2 .ensures)
 
 -- src/name.rt:120:21
 slice-aggregate-plain-if-3 : tie.Need-slice-aggregate-plain-if-3
@@ -41,7 +41,7 @@ plain-if-requires-3 c κs = search needs
 
 -- src/name.rt:108:1
 returns-3 : tie.Need-returns-3
-returns-3 c = let a = c .before .before .before .before .before .before .before .before .before .before .before .args in plain-if (a .s .now) (a .at) 5 (c .plain-if3 .ensures)
+returns-3 c = plain-if 5 (c .plain-if3 .ensures)
 
 pub plain-c-spec : {M : Type 1} → statement M
 plain-c-spec =

@@ -42,7 +42,9 @@ enum-told c = search needs
 
 -- src/tag.rt:130:13
 returns : tie.Need-returns Inv-loop μ-loop
-returns c = so-done _ (c .before .before .before .before .loop .inv) (c .before .before .before .skip-space .ensures) (rw (c .enum-told .given .1) at (c .before .before .start-at .ensures))
+returns c =
+    let s = c .before .before in
+    so-done _ (s .before .before .loop .inv) (s .before .skip-space .ensures) (rw (c .enum-told .given .1) at (s .start-at .ensures))
 
 -- src/tag.rt:137:9
 end-requires : tie.Need-end-requires Inv-loop μ-loop
@@ -78,7 +80,7 @@ loop-again c =
     let e = c .before .before in
     let s = e .before .before .before .before in
     let t = turn (s .before .skip-space .ensures) (e .before .before .start .given .1) (s .start-at .ensures) (e .end .ensures .0) (e .end .ensures .1) in
-    so-step _ (c .before .before .before .before .before .before .before .before .loop .inv) t (put (omega arith) (c .if2 .taken)) (known-counted _ (t .number) (omega arith))
+    so-step _ (s .before .before .loop .inv) t (put (omega arith) (c .if2 .taken)) (known-counted _ (t .number) (omega arith))
 
 -- src/tag.rt:121:5
 loop-less-2 : tie.Need-loop-less-2 Inv-loop μ-loop
@@ -94,7 +96,7 @@ loop-again-2 c =
     let e = c .before .before in
     let s = e .before .before .before .before in
     let t = turn (s .before .skip-space .ensures) (e .before .before .start .given .1) (s .start-at .ensures) (e .end .ensures .0) (e .end .ensures .1) in
-    so-step _ (c .before .before .before .before .before .before .before .before .loop .inv) t (kept (λ h. c .if2 .left)) (known-counted _ (t .number) (omega arith))
+    so-step _ (s .before .before .loop .inv) t (kept (λ h. c .if2 .left)) (known-counted _ (t .number) (omega arith))
 
 -- src/tag.rt:143:37
 sub-begins-with : tie.Need-sub-begins-with Inv-loop μ-loop
@@ -126,7 +128,7 @@ add-others c =
     let e = c .before .before .before .before .before in
     let s = e .before .before .before .before in
     let t = turn (s .before .skip-space .ensures) (e .before .before .start .given .1) (s .start-at .ensures) (e .end .ensures .0) (e .end .ensures .1) in
-    omega (arith, c .before .before .before .before .before .before .before .before .before .before .before .loop .inv .few .0, further t, c .one-if .ensures .1)
+    omega (arith, s .before .before .loop .inv .few .0, further t, c .one-if .ensures .1)
 
 -- src/tag.rt:145:39
 one-if-requires-2 : tie.Need-one-if-requires-2 Inv-loop μ-loop
@@ -138,7 +140,7 @@ add-namespaces c =
     let e = c .before .before .before .before .before .before in
     let s = e .before .before .before .before in
     let t = turn (s .before .skip-space .ensures) (e .before .before .start .given .1) (s .start-at .ensures) (e .end .ensures .0) (e .end .ensures .1) in
-    omega (arith, c .before .before .before .before .before .before .before .before .before .before .before .before .loop .inv .few .1, further t, c .one-if2 .ensures .1)
+    omega (arith, s .before .before .loop .inv .few .1, further t, c .one-if2 .ensures .1)
 
 -- src/tag.rt:121:5
 loop-less-3 : tie.Need-loop-less-3 Inv-loop μ-loop
@@ -154,7 +156,8 @@ loop-again-3 c =
     let e = c .before .before .before .before .before .before in
     let s = e .before .before .before .before in
     let t = turn (s .before .skip-space .ensures) (e .before .before .start .given .1) (s .start-at .ensures) (e .end .ensures .0) (e .end .ensures .1) in
-    so-step _ (c .before .before .before .before .before .before .before .before .before .before .before .before .loop .inv) t (kept (λ h. absurd (omega arith))) (other-counted _ _ _ (t .number) (omega arith) (c .before .before .begins-with .ensures) (c .before .one-if .ensures) (c .one-if2 .ensures))
+    so-step _ (s .before .before .loop .inv) t (kept (λ h. absurd (omega arith)))
+    (other-counted _ _ _ (t .number) (omega arith) (c .before .before .begins-with .ensures) (c .before .one-if .ensures) (c .one-if2 .ensures))
 
 pub read-carried-spec : {M : Type 1} → statement M
 read-carried-spec =

@@ -19,15 +19,15 @@ plain-at-requires c κs = search needs
 
 -- src/tag.rt:93:24
 add-name-end : tie.Need-add-name-end
-add-name-end c = let a = c .before .before .before in omega (arith, plain-start (a .before .before .args .s .now) (a .before .before .args .at) (a .plain-at .result) (a .plain-at .ensures) (c .before .if1 .taken) .0 .high)
+add-name-end c = omega (arith, plain-start (c .before .before .before .plain-at .ensures) (c .before .if1 .taken) .0 .high)
 
 -- src/tag.rt:97:20
 add-t8 : tie.Need-add-t8
-add-t8 c = let a = c .before .before .before in omega (arith, plain-start (a .before .before .args .s .now) (a .before .before .args .at) (a .plain-at .result) (a .plain-at .ensures) (c .before .if1 .taken) .1 .high)
+add-t8 c = omega (arith, plain-start (c .before .before .before .plain-at .ensures) (c .before .if1 .taken) .1 .high)
 
 -- src/tag.rt:94:9
 returns : tie.Need-returns
-returns c = let a = c .before .before .before in plain-start (a .before .before .args .s .now) (a .before .before .args .at) (a .plain-at .result) (a .plain-at .ensures) (c .before .if1 .taken)
+returns c = plain-start (c .before .before .before .plain-at .ensures) (c .before .if1 .taken)
 
 -- src/tag.rt:100:9
 read-name-requires : tie.Need-read-name-requires
@@ -63,11 +63,15 @@ number-of-requires c κs = search needs
 
 -- src/tag.rt:107:16
 past-equals-requires : tie.Need-past-equals-requires
-past-equals-requires c κs = let g = found (c .before .before .before .named .given .1) (c .before .before .before .before .before .read-name .ensures) in (omega (arith, g .low), g .high)
+past-equals-requires c κs =
+    let g = found (c .before .before .before .named .given .1) (c .before .before .before .before .before .read-name .ensures) in
+    (omega (arith, g .low), g .high)
 
 -- src/tag.rt:87:1
 returns-3 : tie.Need-returns-3
-returns-3 c = (found (c .before .before .before .before .named .given .1) (c .before .before .before .before .before .before .read-name .ensures), c .past-equals .ensures, c .before .number-of .ensures)
+returns-3 c =
+    let g = found (c .before .before .before .before .named .given .1) (c .before .before .before .before .before .before .read-name .ensures) in
+    (g, c .past-equals .ensures, c .before .number-of .ensures)
 
 pub start-at-spec : {M : Type 1} → statement M
 start-at-spec =
