@@ -6,4 +6,5 @@ pub mod Placing
 pub mod Tagging
 pub mod Rows
 pub mod Quotes
+pub mod Plain
 pub mod Walks

@@ -15,15 +15,15 @@ use Rattle.rules.specs.Parsers.{bad, ok, pure, _>>=_, _>>_, after, one, many}
 use Rattle.rules.specs.Markup.{isSpace, space, someSpace, name, value, Attribute, attribute, attributes, lookup}
 use Rattle.rules.proofs.Parsers.{next-ok, cons-ok, else-ok, one-ok}
 use Rattle.rules.proofs.Tests.{clash, passes, passed, same-true}
-use Rattle.text.specs.Reads.{Good, Reads}
-use Rattle.text.specs.declared.Read.{Read}
-use Rattle.text.specs.declared.Read.the-variants.{At, Bad}
-use Rattle.text.proofs.Reading.{none-of, found}
+use Rattle.text.specs.Reads.{Good}
 use Rattle.markup.proofs.Names.{name-is}
 use Rattle.element.specs.Names.{known, nameAt, numberOf, isKnown}
 use Rattle.element.specs.Tags.{Place, nowhere, stands, Tells, count, isNamespace, isOther}
 use Rattle.element.specs.Carried.{PastEquals, AttributesTo, CarriedIn, CarriedAs}
+use Rattle.element.specs.Plain.{StartAt}
 use Rattle.element.specs.declared.tag.Carried.{Carried}
+use Rattle.element.specs.declared.tag.Start.{Start}
+use Rattle.element.specs.declared.tag.Start.the-variants.{Named}
 use Rattle.element.proofs.Numbers.{number-name, has-number}
 use Rattle.element.proofs.Quotes.{value-to}
 
@@ -106,20 +106,23 @@ following {s} {i} {j} g (suc f) q = elim (else-ok ((someSpace >> attribute >>= (
   | inr x ↦ nothing (cc) (cc)
 ]
 
--- one turn of the code: white space, a name from j up to n, and its value at q, up to e
-pub record Turn (s : List ℕ) (i j n q e : ℕ) : Type 0 where
+-- one turn of the code: white space, a name from j up to n, which has the number k, and its value at q, up to e
+pub record Turn (s : List ℕ) (i j k n q e : ℕ) : Type 0 where
   pub gap : Good 0 space s i j
   pub named : Good 1 name s j n
   pub equals : PastEquals s n q
+  pub number : k ≡ numberOf (take (n - j) (drop j s))
   pub further : q < e
   pub high : e ≤ length s
   pub ends : (v : List ℕ) (k : ℕ) → k ≤ length s → value (drop q s) ≡ ok v (drop k s) → e ≡ k
 
-pub turn : {s : List ℕ} {i j n q e : ℕ} {r : Read} → Good 0 space s i j → r ≡ At n → Reads 1 name s j r → PastEquals s n q
-    → (q < length s → q < e) → (e ≤ length s) × ((v : List ℕ) (k : ℕ) → k ≤ length s → value (drop q s) ≡ ok v (drop k s) → e ≡ k) → Turn s i j n q e
-turn g z b p on (high, ends) = record { gap = g; named = found z b; equals = p; further = on (p .high); high = high; ends = ends }
+pub turn : {s : List ℕ} {i j k n q e : ℕ} {r : Start} → Good 0 space s i j → r ≡ Named k n q → StartAt s j r → (q < length s → q < e)
+    → (e ≤ length s) × ((v : List ℕ) (k : ℕ) → k ≤ length s → value (drop q s) ≡ ok v (drop k s) → e ≡ k) → Turn s i j k n q e
+turn g z start on (high, ends) =
+    let (b, p, w) = rw z at start in
+    record { gap = g; named = b; equals = p; number = w; further = on (p .high); high = high; ends = ends }
 
-module _ {s : List ℕ} {i j n q e : ℕ} (x : Turn s i j n q e) where
+module _ {s : List ℕ} {i j k n q e : ℕ} (x : Turn s i j k n q e) where
   pub further : i < e
   further = omega (arith, x .gap .low, x .named .low, x .equals .low, x .further)
 
@@ -168,13 +171,13 @@ so-none at h = record {
 }
 
 -- one attribute more
-module _ {s : List ℕ} {at j n q e : ℕ} (c : Carried) (h : So s at c) (x : Turn s (c .end) j n q e) where
+module _ {s : List ℕ} {at j k n q e : ℕ} (c : Carried) (h : So s at c) (x : Turn s (c .end) j k n q e) where
   abbrev this : List ℕ
   this = take (n - j) (drop j s)
 
-  pub so-step : {k : ℕ} {l : List ℕ} {o p : ℕ} → k ≡ numberOf this → Put (c .places) k q l → Counted this (c .others) (c .namespaces) o p → So s at (record { places = l; others = o; namespaces = p; end = e })
+  pub so-step : {l : List ℕ} {o p : ℕ} → Put (c .places) k q l → Counted this (c .others) (c .namespaces) o p → So s at (record { places = l; others = o; namespaces = p; end = e })
   unfolding lookup
-  so-step {k} {l} {o} {p} is y (f, g, a, b) = record {
+  so-step {l} {o} {p} y (f, g, a, b) = record {
     within = record { placed = put-low y (h .size) (length s - 1) (h .within .placed) (omega (arith, x .further, x .high)); low = omega (arith, h .within .low, further x); high = x .high };
     size = put-size y (h .size);
     few = (omega (arith, h .few .0, further x, a), omega (arith, h .few .1, further x, b));
@@ -189,14 +192,14 @@ module _ {s : List ℕ} {at j n q e : ℕ} (c : Carried) (h : So s at c) (x : Tu
             record {
               rest = rest;
               goes = record { fuel = i; reads = rw (← b) w; all = d .goes .all };
-              each = λ j h′. told-more low (stands q e (a .value) low (x .further) (x .high) v) (h .size) y j h′ (eqb k j) refl (rw (← z, has-number (a .name) j h′, u, ← is) at (d .each j h′)) refl;
+              each = λ j h′. told-more low (stands q e (a .value) low (x .further) (x .high) v) (h .size) y j h′ (eqb k j) refl (rw (← z, has-number (a .name) j h′, u, ← x .number) at (d .each j h′)) refl;
               others = counted isOther a rest (c .others) (rw (← z) at (d .others)) (rw u f);
               namespaces = counted isNamespace a rest (c .namespaces) (rw (← z) at (d .namespaces)) (rw u g);
             }
       ]
 
 -- no name is left, and so no attribute
-pub so-done : {s : List ℕ} {at j : ℕ} (c : Carried) → So s at c → Good 0 space s (c .end) j → Reads 1 name s j Bad
+pub so-done : {s : List ℕ} {at j : ℕ} (c : Carried) → So s at c → Good 0 space s (c .end) j → name (drop j s) ≡ bad
     → CarriedIn s at c × ((l : List Attribute) (left : List ℕ) → AttributesTo s at l left → CarriedAs s l left c)
 unfolding attribute lookup
 so-done {s} {at} {j} c h g b = (h .within, λ l left x. all l left (h .done l left x))
@@ -209,5 +212,5 @@ so-done {s} {at} {j} c h g b = (h .within, λ l left x. all l left (h .done l le
         namespaces = let e = rw r at (d .namespaces) in omega (arith, e);
         ends = w;
       }
-      | one-more i a t k r w z ↦ let y = rw (none-of name b) at r in clash (cc)
+      | one-more i a t k r w z ↦ let y = rw b at r in clash (cc)
     ]

@@ -78,7 +78,7 @@ text-past (suc f) (c ∷ s) {v} {r} q = go (eqb c 34) refl q (λ t l y. text-pas
     go false e q below = let (d, t, l, x, y, z) = cons-ok (char (c ∷ s)) (text f) q in below t l y ∙ char-bare c s e x
 
 -- what follows a byte at a position
-after-byte : (s : List ℕ) (at : ℕ) {c : ℕ} {t : List ℕ} → drop at s ≡ c ∷ t → (at < length s) × (t ≡ drop (at + 1) s)
+pub after-byte : (s : List ℕ) (at : ℕ) {c : ℕ} {t : List ℕ} → drop at s ≡ c ∷ t → (at < length s) × (t ≡ drop (at + 1) s)
 after-byte s at {c} {t} q =
     let n : length s - at ≡ suc (length t) = sym (length-drop at s) ∙ ap length q in
     let h : drop at s ≡ getD s at 0 ∷ drop (at + 1) s = here s at (omega (arith, n)) in

@@ -2,10 +2,13 @@
 ghost use mathlib.Core.Path.{_≡_};
 ghost use mathlib.Core.Bool.{cond};
 ghost use mathlib.Core.List.{List, _∷_};
-ghost use Prim.Native.Nat.{ℕ};
+ghost use Prim.Native.Nat.{ℕ, _≤_};
+ghost use lib.ListN.{length};
 ghost use Rattle.rules.specs.Basics.{same};
 ghost use Rattle.element.specs.Names.{numberOf};
+ghost use Rattle.element.specs.Plain.{PlainIf, PlainAt};
 use text::is_same;
+use text::words::stands_at;
 
 pub const VALUE: usize = 0;
 
@@ -78,5 +81,70 @@ pub fn number_of(name: &[u8]) -> usize
         b't' => number_if(name, b"type", PART_TYPE, KNOWN),
         b'q' => number_if(name, b"qualifier", QUALIFIER, KNOWN),
         _ => KNOWN,
+    }
+}
+
+// A known name with `="` right after it: its number and how long it is; KNOWN where none stands.
+pub struct Plain {
+    pub number: usize,
+    pub size: usize,
+}
+
+// A number and a size, if a text stands at a position.
+fn plain_if(s: &[u8], at: usize, text: &[u8], number: usize, size: usize) -> Plain
+    requires { ⌜ at ≤ length (now s) ⌝ }
+    ensures { λ r. ⌜ PlainIf (now (s .entry)) at (now (text .entry)) number size r ⌝ }
+{
+    if stands_at(s, at, text) {
+        return Plain { number, size };
+    }
+    Plain {
+        number: KNOWN,
+        size: 0,
+    }
+}
+
+// The known name that stands at a position, if it begins with c and `="` stands right after it. Two that few records have are left out.
+fn plain_c(s: &[u8], at: usize) -> Plain
+    requires { ⌜ at ≤ length (now s) ⌝ }
+    ensures { λ r. ⌜ PlainAt (now (s .entry)) at r ⌝ }
+{
+    let code = plain_if(s, at, b"code=\"", CODE, 4);
+    if code.number < KNOWN {
+        return code;
+    }
+    let system = plain_if(s, at, b"codeSystem=\"", CODE_SYSTEM, 10);
+    if system.number < KNOWN {
+        return system;
+    }
+    plain_if(s, at, b"currency=\"", CURRENCY, 8)
+}
+
+// The known name that stands at a position, if `="` stands right after it: as most are written.
+pub fn plain_at(s: &[u8], at: usize) -> Plain
+    requires { ⌜ at ≤ length (now s) ⌝ }
+    ensures { λ r. ⌜ PlainAt (now (s .entry)) at r ⌝ }
+{
+    if at == s.len() {
+        return Plain {
+            number: KNOWN,
+            size: 0,
+        };
+    }
+    match s[at] {
+        b'v' => plain_if(s, at, b"value=\"", VALUE, 5),
+        b'n' => plain_if(s, at, b"nullFlavor=\"", NULL_FLAVOR, 10),
+        b'x' => plain_if(s, at, b"xsi:type=\"", XSI_TYPE, 8),
+        b'l' => plain_if(s, at, b"lowClosed=\"", LOW_CLOSED, 9),
+        b'h' => plain_if(s, at, b"highClosed=\"", HIGH_CLOSED, 10),
+        b'c' => plain_c(s, at),
+        b'r' => plain_if(s, at, b"root=\"", ROOT, 4),
+        b'e' => plain_if(s, at, b"extension=\"", EXTENSION, 9),
+        b't' => plain_if(s, at, b"type=\"", PART_TYPE, 4),
+        b'q' => plain_if(s, at, b"qualifier=\"", QUALIFIER, 9),
+        _ => Plain {
+            number: KNOWN,
+            size: 0,
+        },
     }
 }

@@ -9,8 +9,10 @@ ghost use Rattle.rules.specs.Markup.{Attribute, lookup, Element};
 ghost use Rattle.element.specs.Names.{known, nameAt};
 ghost use Rattle.element.specs.Tags.{ElementTo, Tells, TagOf, TagIn};
 ghost use Rattle.element.specs.Carried.{PastEquals, AttributesTo, CarriedIn, CarriedAs, PastLiteral, Closed};
+ghost use Rattle.element.specs.Plain.{StartAt};
 use crate::name::KNOWN;
 use crate::name::number_of;
+use crate::name::plain_at;
 use markup::scan::read_byte;
 use markup::scan::read_literal;
 use markup::scan::read_name;
@@ -71,6 +73,41 @@ fn past_equals(s: &[u8], at: usize) -> usize
     at - 1
 }
 
+// The attribute at a position: the number of its name, where the name ends, and where its value stands; or that no name stands there.
+enum Start {
+    Named {
+        number: usize,
+        name_end: usize,
+        value: usize,
+    },
+    Nothing,
+}
+
+// The attribute at a position. Where a known name stands with `="` right after it, its bytes are not gone through one by one.
+fn start_at(s: &[u8], at: usize) -> Start
+    requires { ⌜ at ≤ length (now s) ⌝ }
+    ensures { λ r. ⌜ StartAt (now (s .entry)) at r ⌝ }
+{
+    let plain = plain_at(s, at);
+    if plain.number < KNOWN {
+        let name_end = at + plain.size;
+        return Start::Named {
+            number: plain.number,
+            name_end,
+            value: name_end + 1,
+        };
+    }
+    let named = read_name(s, at);
+    let Read::At(name_end) = named else {
+        return Start::Nothing;
+    };
+    Start::Named {
+        number: number_of(&s[at..name_end]),
+        name_end,
+        value: past_equals(s, name_end),
+    }
+}
+
 // The attributes that stand from a position on. Values are passed by their quotes.
 fn read_carried(s: &[u8], at: usize) -> Carried
     requires { ⌜ at ≤ length (now s) ⌝ }
@@ -83,8 +120,13 @@ fn read_carried(s: &[u8], at: usize) -> Carried
     let mut end = at;
     loop {
         let i = skip_space(s, end);
-        let named = read_name(s, i);
-        let Read::At(name_end) = named else {
+        let start = start_at(s, i);
+        let Start::Named {
+            number,
+            name_end,
+            value,
+        } = start
+        else {
             return Carried {
                 places,
                 others,
@@ -92,16 +134,13 @@ fn read_carried(s: &[u8], at: usize) -> Carried
                 end,
             };
         };
-        let value = past_equals(s, name_end);
         end = crate::value::end(s, value);
-        let name = &s[i..name_end];
-        let n = number_of(name);
-        if n < KNOWN {
-            if places[n] == 0 {
-                places[n] = value;
+        if number < KNOWN {
+            if places[number] == 0 {
+                places[number] = value;
             }
         } else {
-            let space = begins_with(name, b"xmlns");
+            let space = begins_with(&s[i..name_end], b"xmlns");
             others = others + one_if(!space);
             namespaces = namespaces + one_if(space);
         }

@@ -61,7 +61,7 @@ areBare (node n attrs kids rest) = isBareTag n attrs && areBare kids && areBare 
 abbrev pub isBareTree : Element → Bool
 isBareTree e = isBareTag (e .name) (e .attrs) && areBare (e .kids)
 
-name-read : (n r : List ℕ) → isName n ≡ true → Stops isNameByte r → name (n ++ r) ≡ ok n r
+pub name-read : (n r : List ℕ) → isName n ≡ true → Stops isNameByte r → name (n ++ r) ≡ ok n r
 unfolding name isName one
 name-read [] r h k = clash (cc)
 name-read (c ∷ n) r h k = let (f, g) = both-true (isNameStart c) (every isNameByte n) h in rw (f, many-read isNameByte n r g k)
