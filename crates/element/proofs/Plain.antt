@@ -4,15 +4,15 @@ use mathlib.Core.Path.{_≡_, refl, sym, _∙_, ap}
 use mathlib.Core.Bool.{Bool, true, false, cond}
 use mathlib.Core.List.{List, [], _∷_, _++_, append-assoc}
 use native.Mathlib.Omega.{arith}
-use borrow.Author.Tests.{eqb-true}
 use lib.ListN.{length, drop}
 use lib.Seq.{drop-drop, drop-append-seam, take-at}
 use Rattle.rules.specs.Basics.{bytes, every, begins}
 use Rattle.rules.specs.Markup.{isSpace, space}
-use Rattle.rules.proofs.Tests.{clash, both-true, passes, passed}
+use Rattle.rules.proofs.Tests.{clash, passes, passed}
 use Rattle.rules.proofs.Beginnings.{many-read}
 use Rattle.rules.proofs.Writing.{isName, name-read}
 use Rattle.text.specs.Reads.{Good}
+use Rattle.text.proofs.Sameness.{begins-append}
 use Rattle.element.specs.Names.{known, nameAt, numberOf}
 use Rattle.element.specs.Plain.{PlainIf, PlainAt, StartAt}
 use Rattle.element.specs.declared.name.Plain.{Plain}
@@ -32,13 +32,6 @@ plain-if {s} {at} {r} k = go (begins (nameAt k ++ bytes "=\"") (drop at s)) refl
         → r ≡ cond b (record { number = k; size = length (nameAt k) }) (record { number = known; size = 0 }) → PlainAt s at r
     go true f e = rw e (record { stands = λ h. f; size = λ h. refl })
     go false f e = rw e not-plain
-
--- a text that begins with a is a and what is left
-begins-append : (a s : List ℕ) → begins a s ≡ true → s ≡ a ++ drop (length a) s
-unfolding begins
-begins-append [] s e = refl
-begins-append (c ∷ a) [] e = clash (cc)
-begins-append (c ∷ a) (d ∷ s) e = let (f, g) = both-true _ _ e in cc (eqb-true c d f, begins-append a s g)
 
 -- each known name is a name by the markup rules
 known-name : (k : ℕ) → k < known → isName (nameAt k) ≡ true

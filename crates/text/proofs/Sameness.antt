@@ -2,12 +2,13 @@
 use Prim.Native.Nat.{ℕ, suc, _+_, _≤_, _<_}
 use mathlib.Core.Path.{_≡_, refl, ap}
 use mathlib.Core.Bool.{Bool, true, false, _&&_}
-use mathlib.Core.List.{List, [], _∷_}
+use mathlib.Core.List.{List, [], _∷_, _++_}
 use native.Mathlib.Omega.{arith}
-use borrow.Author.Tests.{eq-eqb, ne-eqb}
+use borrow.Author.Tests.{eqb-true, eq-eqb, ne-eqb}
 use lib.Dec.{eqb}
 use lib.ListN.{length, drop, getD, drop-of-length-le}
 use Rattle.rules.specs.Basics.{same, begins}
+use Rattle.rules.proofs.Tests.{clash, both-true}
 use Rattle.text.proofs.Reading.{here}
 
 pub same-lengths : (a b : List ℕ) → (length a ≡ length b → ⊥) → false ≡ same a b
@@ -56,3 +57,10 @@ module _ (a b : List ℕ) (i : ℕ) (h : i < length a) (k : i < length b) where
 pub begins-end : (a b : List ℕ) (i : ℕ) → length a ≤ i → begins (drop i a) (drop i b) ≡ true
 unfolding begins
 begins-end a b i h = rw (drop-of-length-le a h)
+
+-- a text that begins with a is a and what is left
+pub begins-append : (a s : List ℕ) → begins a s ≡ true → s ≡ a ++ drop (length a) s
+unfolding begins
+begins-append [] s e = refl
+begins-append (c ∷ a) [] e = clash (cc)
+begins-append (c ∷ a) (d ∷ s) e = let (f, g) = both-true _ _ e in cc (eqb-true c d f, begins-append a s g)

@@ -37,12 +37,4 @@ returns-3 : tie.Need-returns-3
 returns-3 c = end-stands (is-full _ (c .before .before .before .before .before .before .args .depth) (c .before .before .before .before .if1 .left)) (stands (c .before .before .before .skip-space .ensures) false (sym (c .before .before .is-child .ensures .0) ∙ c .before .if2 .left) (λ z. clash (cc))) (c .past-end-tag .ensures)
 
 pub next-inside-spec : {M : Type 1} → statement M
-next-inside-spec =
-    tie.close
-    (tie.spec
-    returns
-    skip-space-requires
-    is-child-requires
-    returns-2
-    past-end-tag-requires
-    returns-3)
+next-inside-spec = tie.close (tie.spec returns skip-space-requires is-child-requires returns-2 past-end-tag-requires returns-3)

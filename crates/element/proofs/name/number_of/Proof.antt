@@ -162,38 +162,9 @@ returns-12 c =
     no-initial (c .before .before .before .before .args .name .now) (c .match .rest .0 .0 .0 .0 .0 .0 .0 .0 .0 .1) (c .match .rest .0 .0 .0 .0 .0 .0 .0 .0 .1) (c .match .rest .0 .0 .0 .0 .0 .0 .0 .1) (c .match .rest .0 .0 .0 .0 .0 .0 .1) (c .match .rest .0 .0 .0 .0 .0 .1) (c .match .rest .0 .0 .0 .0 .1) (c .match .rest .0 .0 .0 .1) (c .match .rest .0 .0 .1) (c .match .rest .0 .1) (c .match .rest .1)
 
 pub number-of-spec : {M : Type 1} → statement M
-number-of-spec =
-    tie.close
-    (tie.spec
-    returns
-    shared-slice-read-match
-    slice-aggregate-number-if
-    number-if-requires
-    slice-aggregate-number-if-2
-    number-if-requires-2
-    slice-aggregate-number-if-3
-    number-if-requires-3
-    slice-aggregate-number-if-4
-    number-if-requires-4
-    slice-aggregate-number-if-5
-    number-if-requires-5
-    number-of-c-requires
-    slice-aggregate-number-if-6
-    number-if-requires-6
-    slice-aggregate-number-if-7
-    number-if-requires-7
-    slice-aggregate-number-if-8
-    number-if-requires-8
-    slice-aggregate-number-if-9
-    number-if-requires-9
-    returns-2
-    returns-3
-    returns-4
-    returns-5
-    returns-6
-    returns-7
-    returns-8
-    returns-9
-    returns-10
-    returns-11
-    returns-12)
+number-of-spec = tie.close (tie.spec
+    returns shared-slice-read-match slice-aggregate-number-if number-if-requires slice-aggregate-number-if-2 number-if-requires-2
+    slice-aggregate-number-if-3 number-if-requires-3 slice-aggregate-number-if-4 number-if-requires-4 slice-aggregate-number-if-5
+    number-if-requires-5 number-of-c-requires slice-aggregate-number-if-6 number-if-requires-6 slice-aggregate-number-if-7 number-if-requires-7
+    slice-aggregate-number-if-8 number-if-requires-8 slice-aggregate-number-if-9 number-if-requires-9 returns-2 returns-3 returns-4 returns-5
+    returns-6 returns-7 returns-8 returns-9 returns-10 returns-11 returns-12)

@@ -52,17 +52,6 @@ returns c =
     five _ (c .before .before .before .before .before .before .before .before .number-if .ensures) (c .before .before .before .before .before .before .number-if2 .ensures) (c .before .before .before .before .number-if3 .ensures) (c .before .before .number-if4 .ensures) (c .number-if5 .ensures)
 
 pub number-of-c-spec : {M : Type 1} → statement M
-number-of-c-spec =
-    tie.close
-    (tie.spec
-    slice-aggregate-number-if
-    number-if-requires
-    slice-aggregate-number-if-2
-    number-if-requires-2
-    slice-aggregate-number-if-3
-    number-if-requires-3
-    slice-aggregate-number-if-4
-    number-if-requires-4
-    slice-aggregate-number-if-5
-    number-if-requires-5
-    returns)
+number-of-c-spec = tie.close (tie.spec
+    slice-aggregate-number-if number-if-requires slice-aggregate-number-if-2 number-if-requires-2 slice-aggregate-number-if-3
+    number-if-requires-3 slice-aggregate-number-if-4 number-if-requires-4 slice-aggregate-number-if-5 number-if-requires-5 returns)

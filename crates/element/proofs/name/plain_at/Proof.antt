@@ -137,38 +137,9 @@ returns-12 : tie.Need-returns-12
 returns-12 c = not-plain
 
 pub plain-at-spec : {M : Type 1} → statement M
-plain-at-spec =
-    tie.close
-    (tie.spec
-    returns
-    shared-slice-read-match
-    slice-aggregate-plain-if
-    plain-if-requires
-    slice-aggregate-plain-if-2
-    plain-if-requires-2
-    slice-aggregate-plain-if-3
-    plain-if-requires-3
-    slice-aggregate-plain-if-4
-    plain-if-requires-4
-    slice-aggregate-plain-if-5
-    plain-if-requires-5
-    plain-c-requires
-    slice-aggregate-plain-if-6
-    plain-if-requires-6
-    slice-aggregate-plain-if-7
-    plain-if-requires-7
-    slice-aggregate-plain-if-8
-    plain-if-requires-8
-    slice-aggregate-plain-if-9
-    plain-if-requires-9
-    returns-2
-    returns-3
-    returns-4
-    returns-5
-    returns-6
-    returns-7
-    returns-8
-    returns-9
-    returns-10
-    returns-11
-    returns-12)
+plain-at-spec = tie.close (tie.spec
+    returns shared-slice-read-match slice-aggregate-plain-if plain-if-requires slice-aggregate-plain-if-2 plain-if-requires-2
+    slice-aggregate-plain-if-3 plain-if-requires-3 slice-aggregate-plain-if-4 plain-if-requires-4 slice-aggregate-plain-if-5 plain-if-requires-5
+    plain-c-requires slice-aggregate-plain-if-6 plain-if-requires-6 slice-aggregate-plain-if-7 plain-if-requires-7 slice-aggregate-plain-if-8
+    plain-if-requires-8 slice-aggregate-plain-if-9 plain-if-requires-9 returns-2 returns-3 returns-4 returns-5 returns-6 returns-7 returns-8
+    returns-9 returns-10 returns-11 returns-12)

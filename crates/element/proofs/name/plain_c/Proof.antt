@@ -44,15 +44,6 @@ returns-3 : tie.Need-returns-3
 returns-3 c = plain-if 5 (c .plain-if3 .ensures)
 
 pub plain-c-spec : {M : Type 1} → statement M
-plain-c-spec =
-    tie.close
-    (tie.spec
-    slice-aggregate-plain-if
-    plain-if-requires
-    returns
-    slice-aggregate-plain-if-2
-    plain-if-requires-2
-    returns-2
-    slice-aggregate-plain-if-3
-    plain-if-requires-3
-    returns-3)
+plain-c-spec = tie.close (tie.spec
+    slice-aggregate-plain-if plain-if-requires returns slice-aggregate-plain-if-2 plain-if-requires-2 returns-2 slice-aggregate-plain-if-3
+    plain-if-requires-3 returns-3)

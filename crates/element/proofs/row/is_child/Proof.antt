@@ -33,12 +33,4 @@ returns-2 c =
     (two-bytes (c .before .before .before .args .s .now) (c .before .before .before .args .at) (c .before .before .if1 .left), λ e. omega (arith, c .before .before .if1 .left))
 
 pub is-child-spec : {M : Type 1} → statement M
-is-child-spec =
-    tie.close
-    (tie.spec
-    sub-if1
-    returns
-    shared-slice-read-result
-    add-result
-    shared-slice-read-result-2
-    returns-2)
+is-child-spec = tie.close (tie.spec sub-if1 returns shared-slice-read-result add-result shared-slice-read-result-2 returns-2)

@@ -46,14 +46,5 @@ returns-2 c =
     record { places = refl; others = refl; namespaces = refl; name-is = refl; past-is = refl; low = omega (arith, c .before .before .before .before .before .skip-space .ensures .low, c .past-literal .ensures .low); high = c .past-literal .ensures .high; inner = λ n p kids after q. shuts (c .before .before .before .before .before .skip-space .ensures) n p kids after q (answer (c .before .before .enum-told .given .1) (c .before .before .before .before .read-byte .ensures)) (c .past-literal .ensures) }
 
 pub close-spec : {M : Type 1} → statement M
-close-spec =
-    tie.close
-    (tie.spec
-    skip-space-requires
-    read-byte-requires
-    enum-known-greater
-    returns
-    enum-told
-    slice-aggregate-past-literal
-    past-literal-requires
-    returns-2)
+close-spec = tie.close (tie.spec
+    skip-space-requires read-byte-requires enum-known-greater returns enum-told slice-aggregate-past-literal past-literal-requires returns-2)

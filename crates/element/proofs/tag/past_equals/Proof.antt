@@ -41,12 +41,4 @@ returns-2 c = record {
 }
 
 pub past-equals-spec : {M : Type 1} → statement M
-past-equals-spec =
-    tie.close
-    (tie.spec
-    skip-space-requires
-    add-skip-space
-    skip-space-requires-2
-    returns
-    sub-result
-    returns-2)
+past-equals-spec = tie.close (tie.spec skip-space-requires add-skip-space skip-space-requires-2 returns sub-result returns-2)

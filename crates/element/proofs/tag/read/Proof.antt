@@ -42,13 +42,4 @@ returns-2 c =
     )
 
 pub read-spec : {M : Type 1} → statement M
-read-spec =
-    tie.close
-    (tie.spec
-    read-head-requires
-    enum-known-head
-    enum-told
-    returns
-    read-carried-requires
-    close-requires
-    returns-2)
+read-spec = tie.close (tie.spec read-head-requires enum-known-head enum-told returns read-carried-requires close-requires returns-2)

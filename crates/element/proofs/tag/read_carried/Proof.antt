@@ -160,34 +160,7 @@ loop-again-3 c =
     (other-counted _ _ _ (t .number) (omega arith) (c .before .before .begins-with .ensures) (c .before .one-if .ensures) (c .one-if2 .ensures))
 
 pub read-carried-spec : {M : Type 1} → statement M
-read-carried-spec =
-    tie.close
-    (tie.spec
-    Inv-loop
-    μ-loop
-    loop-holds
-    skip-space-requires
-    start-at-requires
-    enum-known-start
-    enum-told
-    returns
-    end-requires
-    mul-if2
-    array-read-if2
-    mul-places
-    array-write-places
-    loop-less
-    loop-again
-    loop-less-2
-    loop-again-2
-    sub-begins-with
-    part-begins-with-start
-    part-begins-with-end
-    slice-aggregate-begins-with
-    begins-with-requires
-    one-if-requires
-    add-others
-    one-if-requires-2
-    add-namespaces
-    loop-less-3
-    loop-again-3)
+read-carried-spec = tie.close (tie.spec
+    Inv-loop μ-loop loop-holds skip-space-requires start-at-requires enum-known-start enum-told returns end-requires mul-if2 array-read-if2
+    mul-places array-write-places loop-less loop-again loop-less-2 loop-again-2 sub-begins-with part-begins-with-start part-begins-with-end
+    slice-aggregate-begins-with begins-with-requires one-if-requires add-others one-if-requires-2 add-namespaces loop-less-3 loop-again-3)

@@ -74,20 +74,6 @@ returns-3 c =
     (g, c .past-equals .ensures, c .before .number-of .ensures)
 
 pub start-at-spec : {M : Type 1} → statement M
-start-at-spec =
-    tie.close
-    (tie.spec
-    plain-at-requires
-    add-name-end
-    add-t8
-    returns
-    read-name-requires
-    enum-known-named
-    enum-told
-    returns-2
-    sub-number-of
-    part-number-of-start
-    part-number-of-end
-    number-of-requires
-    past-equals-requires
-    returns-3)
+start-at-spec = tie.close (tie.spec
+    plain-at-requires add-name-end add-t8 returns read-name-requires enum-known-named enum-told returns-2 sub-number-of part-number-of-start
+    part-number-of-end number-of-requires past-equals-requires returns-3)

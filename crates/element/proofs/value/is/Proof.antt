@@ -75,20 +75,6 @@ loop-again c = (
 )
 
 pub is-spec : {M : Type 1} → statement M
-is-spec =
-    tie.close
-    (tie.spec
-    Inv-loop
-    μ-loop
-    start-requires
-    loop-holds
-    next-requires
-    enum-known-first
-    enum-told
-    returns
-    returns-2
-    shared-slice-read-if2
-    returns-3
-    add-k
-    loop-less
-    loop-again)
+is-spec = tie.close (tie.spec
+    Inv-loop μ-loop start-requires loop-holds next-requires enum-known-first enum-told returns returns-2 shared-slice-read-if2 returns-3 add-k
+    loop-less loop-again)

@@ -86,23 +86,6 @@ loop-again c =
     ((on-bounds (c .before .before .before .before .before .first .given .1) (c .before .before .before .before .before .before .before .before .next .ensures .0)) .1, (on-bounds (c .before .before .second .given .1) (c .before .before .before .before .before .before .before .next2 .ensures .0)) .1, λ b n. c .before .before .before .before .before .before .before .before .before .loop .inv .2 b (agree-more (c .before .before .before .before .before .before .before .before .next .ensures .1) (c .before .before .before .before .before .before .before .next2 .ensures .1) (c .before .before .before .before .before .first .given .1) (c .before .before .second .given .1) (c .if1 .left) b n))
 
 pub is-same-spec : {M : Type 1} → statement M
-is-same-spec =
-    tie.close
-    (tie.spec
-    Inv-loop
-    μ-loop
-    start-requires
-    start-requires-2
-    loop-holds
-    next-requires
-    next-requires-2
-    enum-known-first
-    enum-told
-    is-nothing-requires
-    returns
-    enum-known-second
-    enum-told-2
-    returns-2
-    returns-3
-    loop-less
-    loop-again)
+is-same-spec = tie.close (tie.spec
+    Inv-loop μ-loop start-requires start-requires-2 loop-holds next-requires next-requires-2 enum-known-first enum-told is-nothing-requires
+    returns enum-known-second enum-told-2 returns-2 returns-3 loop-less loop-again)

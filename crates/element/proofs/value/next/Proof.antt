@@ -55,16 +55,5 @@ returns-3 : tie.Need-returns-3
 returns-3 c = (chars-on (c .read-char .ensures), chars-next (answer (c .before .enum-told2 .given .1) (c .before .before .before .read-byte .ensures)) (c .read-char .ensures))
 
 pub next-spec : {M : Type 1} → statement M
-next-spec =
-    tie.close
-    (tie.spec
-    shared-slice-read-c
-    is-simple-requires
-    add-t10
-    returns
-    read-byte-requires
-    enum-told
-    returns-2
-    enum-told-2
-    read-char-requires
-    returns-3)
+next-spec = tie.close (tie.spec
+    shared-slice-read-c is-simple-requires add-t10 returns read-byte-requires enum-told returns-2 enum-told-2 read-char-requires returns-3)
