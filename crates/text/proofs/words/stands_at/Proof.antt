@@ -6,7 +6,7 @@ use native.Mathlib.Omega.{arith}
 use lib.ListN.{length, drop, length-drop}
 use Rattle.rules.specs.Basics.{begins}
 use Rattle.text.proofs.Sameness.{begins-shorter}
-use Rattle.text.proofs.Standing.{words-same, words-differ, rest}
+use Rattle.text.proofs.Standing.{words-same, words-differ, rests}
 use borrow.Author.Needs.{needs}
 use Rattle.text.proofs.words.stands_at.Statement.{statement}
 use Rattle.text.proofs.words.stands_at.Tie as tie
@@ -116,7 +116,7 @@ returns-3 : tie.Need-returns-3 Inv-loop μ-loop
 returns-3 c =
     let l = c .before .before .before .before in
     let start = l .before .before .before .before in
-    (rw (rest (l .loop .k) (start .args .t .now), rest (start .args .at + l .loop .k) (start .args .s .now)) at (c .begins-with .ensures)) ∙ l .loop .inv .2
+    c .begins-with .ensures ∙ rests (start .args .t .now) (start .args .s .now) (l .loop .k) (start .args .at + l .loop .k) ∙ l .loop .inv .2
 
 pub stands-at-spec : {M : Type 1} → statement M
 stands-at-spec =
