@@ -100,7 +100,7 @@ fn compare_said(flags: bool, a: Said, b: Said, side: Side) -> Answer
     compare_flagged(flags, endpoint(a, side), endpoint(b, side))
 }
 
-// TS: the values of two elements, by their tags.
+// TS: the values of two elements, by their tags. A value says the same on either side.
 pub fn compare_times(s: &[u8], a: Tag, t: &[u8], b: Tag, shift: u64) -> Answer
     requires { ⌜ TagIn (now s) a ⌝ ∗ ⌜ TagIn (now t) b ⌝ ∗ ⌜ shift ≤ 1680 ⌝ }
     ensures { λ r. ⌜ ((v w : Element) → Tells (now (s .entry)) (v .attrs) (a .places) → Tells (now (t .entry)) (w .attrs) (b .places) → answerMeant r ≡ compareTimes shift v w) ⌝ }

@@ -43,7 +43,7 @@ fn takes(n: usize, number: usize, form: Form, other: Column) -> Column
     other
 }
 
-// The attributes of a type line, beside nullFlavor and xsi:type.
+// The form of the attribute of a number on the type line of a kind, beside nullFlavor and xsi:type.
 pub fn own_column(kind: Kind, n: usize) -> Column
     requires { ⌜ n < known ⌝ }
     ensures { λ r. ⌜ formMeant r ≡ formAmong (lineOf (kindMeant kind) .columns) (nameAt n) ⌝ }

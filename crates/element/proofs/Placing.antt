@@ -152,7 +152,7 @@ pub record So (s : List ℕ) (at : ℕ) (c : Carried) : Type 0 where
 
 -- places of nothing
 abbrev pub noPlaces : List ℕ
-noPlaces = 0 ∷ 0 ∷ 0 ∷ 0 ∷ 0 ∷ 0 ∷ 0 ∷ 0 ∷ 0 ∷ 0 ∷ 0 ∷ 0 ∷ 0 ∷ 0 ∷ []
+noPlaces = replicate known 0
 
 zeros : (n k : ℕ) → getD {A = ℕ} (replicate n 0) k 0 ≡ 0
 zeros zero k = refl

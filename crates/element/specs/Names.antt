@@ -3,7 +3,7 @@ use Prim.Native.Nat.{ℕ, suc}
 use mathlib.Core.Bool.{Bool, cond}
 use mathlib.Core.List.{List, [], _∷_}
 use lib.Dec.{ltb}
-use lib.ListN.{getD}
+use lib.ListN.{length, getD}
 use Rattle.rules.specs.Basics.{bytes, same}
 
 abbrev pub knownNames : List (List ℕ)
@@ -14,7 +14,7 @@ knownNames =
 
 -- how many there are
 abbrev pub known : ℕ
-known = 14
+known = length knownNames
 
 abbrev pub nameAt : ℕ → List ℕ
 nameAt n = getD knownNames n []

@@ -1,4 +1,4 @@
-// What stands in an element: its children, one after another, as far as it ends.
+// What stands in an element: its children, one after another, up to its end.
 ghost use Prim.Native.Nat.{_≤_};
 ghost use lib.ListN.{length};
 ghost use Rattle.element.specs.Inside.{InsideAt};

@@ -84,7 +84,7 @@ pub fn number_of(name: &[u8]) -> usize
     }
 }
 
-// A known name with `="` right after it: its number and how long it is; KNOWN where none stands.
+// A known name with `="` right after it: its number and how long it is; KNOWN where none is found.
 pub struct Plain {
     pub number: usize,
     pub size: usize,
@@ -104,7 +104,7 @@ fn plain_if(s: &[u8], at: usize, text: &[u8], number: usize, size: usize) -> Pla
     }
 }
 
-// The known name that stands at a position, if it begins with c and `="` stands right after it. Two that few records have are left out.
+// A known name that begins with c and stands at a position with `="` right after it. Two that few records have are not looked for.
 fn plain_c(s: &[u8], at: usize) -> Plain
     requires { ⌜ at ≤ length (now s) ⌝ }
     ensures { λ r. ⌜ PlainAt (now (s .entry)) at r ⌝ }
@@ -120,7 +120,7 @@ fn plain_c(s: &[u8], at: usize) -> Plain
     plain_if(s, at, b"currency=\"", CURRENCY, 8)
 }
 
-// The known name that stands at a position, if `="` stands right after it: as most are written.
+// A known name that stands at a position with `="` right after it, as most are written. Not all are looked for.
 pub fn plain_at(s: &[u8], at: usize) -> Plain
     requires { ⌜ at ≤ length (now s) ⌝ }
     ensures { λ r. ⌜ PlainAt (now (s .entry)) at r ⌝ }

@@ -83,7 +83,7 @@ enum Start {
     Nothing,
 }
 
-// The attribute at a position. Where a known name stands with `="` right after it, its bytes are not gone through one by one.
+// The attribute at a position. Where a known name is found with `="` right after it, it is not read again as a name.
 fn start_at(s: &[u8], at: usize) -> Start
     requires { ⌜ at ≤ length (now s) ⌝ }
     ensures { λ r. ⌜ StartAt (now (s .entry)) at r ⌝ }

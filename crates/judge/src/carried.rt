@@ -44,8 +44,8 @@ fn is_top(standing: Standing) -> bool
     }
 }
 
-// The first fault of the attributes whose names are not known, where so many have names that begin with xmlns, which are ignored at the top,
-// and so many have others.
+// The first fault of the attributes whose names are not known: so many others, and so many whose names begin with xmlns, which are ignored at
+// the top.
 fn others_fault(others: usize, namespaces: usize, standing: Standing) -> Verdict
     ensures { λ r. ⌜ ((l : List Attribute) → others ≡ count isOther l → namespaces ≡ count isNamespace l → faultOf r ≡ firstOf (SHAPE when exists (isStrange (standingMeant standing)) l)) ⌝ }
 {

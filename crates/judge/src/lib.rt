@@ -1,5 +1,4 @@
 // The faults of a record: each of its elements judged by the table of types, each start tag read once. The first on the ladder is given.
-ghost use mathlib.Core.Path.{_≡_};
 ghost use mathlib.Core.List.{List};
 ghost use Prim.Native.Nat.{ℕ, _≤_};
 ghost use lib.ListN.{length};
@@ -44,6 +43,7 @@ fn judge_content(s: &[u8], tag: Tag, depth: usize, kind: Kind, shift: u64) -> Co
     ensures within { λ r. ⌜ (tag .end ≤ r .end) × (r .end ≤ length (now (s .entry))) ⌝ }
     ensures tells { λ r. ⌜ ((v : Element) (after : List ℕ) → TagOf (now (s .entry)) depth v after tag → ContentAs (now (s .entry)) shift (kindMeant kind) v after r) ⌝ }
 {
+    // Nothing follows the tag, so there is no row to walk.
     if !tag.full {
         return finish(s, tag, kind, begin(tag.end), tag.end);
     }

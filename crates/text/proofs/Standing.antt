@@ -48,5 +48,8 @@ module _ (n : ℕ) (a b : List ℕ) (i j : ℕ) (h : i + n ≤ length a) (k : j 
   words-differ e = from-here ∙ rw (ne-eqb _ _ e) refl
 
 -- what is left of a text, as a part of it
-pub rest : (i : ℕ) (l : List ℕ) → take (length l - i) (drop i l) ≡ drop i l
+rest : (i : ℕ) (l : List ℕ) → take (length l - i) (drop i l) ≡ drop i l
 rest i l = take-all (length l - i) (drop i l) (rw length-drop (omega arith))
+
+pub rests : (a b : List ℕ) (i j : ℕ) → begins (take (length a - i) (drop i a)) (take (length b - j) (drop j b)) ≡ begins (drop i a) (drop j b)
+rests a b i j = rw (rest i a, rest j b)

@@ -1,4 +1,4 @@
-// Bytes taken together as one number, a word, so that eight of them are judged and read at once.
+// Bytes taken together as one number, a word, so that eight of them are judged and read at once, or four compared.
 ghost use mathlib.Core.Path.{_≡_};
 ghost use mathlib.Core.List.{List};
 ghost use Prim.Native.Nat.{ℕ, _+_, _^_, _≤_, _<_};
