@@ -6,7 +6,7 @@ use mathlib.Core.List.{List}
 use Rattle.rules.specs.Basics.{bytes, same}
 use Rattle.rules.specs.Markup.{Nodes, end, node, Element}
 use Rattle.rules.specs.Invariants.{childNamed}
-use Rattle.datatype.specs.Said.{nothing, saidMeant, saidBy, saidNamed, BoundsSaid}
+use Rattle.datatype.specs.Said.{nothing, saidMeant, saidBy, saidNamed}
 use Rattle.datatype.specs.Sides.{saidFrom, Settled, Passes}
 use Rattle.datatype.specs.declared.said.Said.{Said}
 use Rattle.datatype.specs.declared.sides.First.{First}
@@ -35,7 +35,7 @@ module _ (shift : ℕ) (low high : First) where
   sought-goes v first last p q all left (x, y) = (x ∙ p left, y ∙ q left)
 
   pub sought-ends : Settled low → Settled high → (all : Nodes) → Sought shift low high all end
-      → BoundsSaid shift all (low .said) (high .said)
+      → (saidMeant (low .said) ≡ saidNamed shift (bytes "low") all) × (saidMeant (high .said) ≡ saidNamed shift (bytes "high") all)
   unfolding childNamed
   sought-ends p q all (x, y) = (settled low p ∙ sym x, settled high q ∙ sym y)
     where

@@ -3,9 +3,10 @@ ghost use mathlib.Core.Path.{_≡_};
 ghost use mathlib.Core.List.{List};
 ghost use Prim.Native.Nat.{ℕ, _≤_};
 ghost use lib.ListN.{length, drop};
+ghost use Rattle.rules.specs.Basics.{bytes};
 ghost use Rattle.rules.specs.Markup.{Element};
 ghost use Rattle.element.specs.Tags.{TagOf, TagIn};
-ghost use Rattle.datatype.specs.Said.{BoundsSaid};
+ghost use Rattle.datatype.specs.Said.{saidMeant, saidNamed};
 ghost use Rattle.datatype.specs.Sides.{Settled, Passes};
 use crate::said::Said;
 use crate::said::time_of;
@@ -52,7 +53,7 @@ fn after_child(s: &[u8], child: Tag, shift: u64, name: &[u8], first: First) -> F
 pub fn read_sides(s: &[u8], tag: Tag, depth: usize, shift: u64) -> Sides
     requires { ⌜ TagIn (now s) tag ⌝ ∗ ⌜ shift ≤ 1680 ⌝ }
     ensures within { λ r. ⌜ (tag .end ≤ r .end) × (r .end ≤ length (now (s .entry))) ⌝ }
-    ensures tells { λ r. ⌜ ((v : Element) (after : List ℕ) → TagOf (now (s .entry)) depth v after tag → BoundsSaid shift (v .kids) (r .low) (r .high) × (after ≡ drop (r .end) (now (s .entry)))) ⌝ }
+    ensures tells { λ r. ⌜ ((v : Element) (after : List ℕ) → TagOf (now (s .entry)) depth v after tag → (saidMeant (r .low) ≡ saidNamed shift (bytes "low") (v .kids)) × (saidMeant (r .high) ≡ saidNamed shift (bytes "high") (v .kids)) × (after ≡ drop (r .end) (now (s .entry)))) ⌝ }
 {
     let none = First {
         seen: false,
