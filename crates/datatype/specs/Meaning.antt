@@ -1,6 +1,5 @@
 -- What the code's kinds mean, in the words of the rules ("Types, after decoding the five references").
 use Prim.Native.Nat.{ℕ}
-use mathlib.Core.Path.{_≡_}
 use mathlib.Core.Bool.{Bool, true, false, cond}
 use mathlib.Core.List.{List, [], _∷_}
 use mathlib.Core.Option.{Option, none, some}
@@ -32,11 +31,6 @@ typeMeant Nothing = none
 abbrev pub namedAmong : List RulesKind → List ℕ → Option RulesKind
 namedAmong [] v = none
 namedAmong (k ∷ ks) v = cond (same v (nameOf k)) (some k) (namedAmong ks v)
-
--- if r is a type, it is the one that a text names among those of members
-abbrev pub NamesIfAny : List ℕ → Named → Type 0
-NamesIfAny v (Is k) = namedAmong memberTypes v ≡ some (kindMeant k)
-NamesIfAny v Nothing = Unit {0}
 
 -- the types that a record may have, and those that a member of a set may have
 abbrev pub typesFor : (top : Bool) → List RulesKind

@@ -8,8 +8,7 @@ ghost use Rattle.rules.specs.Parsers.{ok};
 ghost use Rattle.rules.specs.Markup.{Attribute, value, lookup};
 ghost use Rattle.rules.specs.Types.{memberTypes, allTypes, typeAmong};
 ghost use Rattle.element.specs.Tags.{Place};
-ghost use Rattle.datatype.specs.Meaning.{typeMeant, namedAmong, NamesIfAny, typesFor};
-use element::value::is;
+ghost use Rattle.datatype.specs.Meaning.{typeMeant, namedAmong, typesFor};
 use text::words::stands_at;
 
 // The nine types, and the two kinds of element inside them that have no type.
@@ -33,11 +32,11 @@ pub enum Named {
     Nothing,
 }
 
-// The type that the value at a position names, where a member of a set may be of it and its name is written as it is, with no reference: with
-// its quotes it has eight bytes, which are compared by fours.
-fn plain_member(s: &[u8], at: usize) -> Named
+// The type that the value at a position names, where a member of a set may be of it: an IVL_TS or a set type. No byte of a name can be written as
+// a reference, so the value is the name exactly if that stands there, in its quotes.
+fn named_member(s: &[u8], at: usize) -> Named
     requires { ⌜ at ≤ length (now s) ⌝ }
-    ensures { λ r. ⌜ ((v after : List ℕ) → value (drop at (now (s .entry))) ≡ ok v after → NamesIfAny v r) ⌝ }
+    ensures { λ r. ⌜ ((v after : List ℕ) → value (drop at (now (s .entry))) ≡ ok v after → typeMeant r ≡ namedAmong memberTypes v) ⌝ }
 {
     if stands_at(s, at, b"\"IVL_TS\"") {
         return Named::Is(Kind::IvlTs);
@@ -54,56 +53,24 @@ fn plain_member(s: &[u8], at: usize) -> Named
     Named::Nothing
 }
 
-// The type that the value at a position names after decoding, where a member of a set may be of it.
-fn decoded_member(s: &[u8], at: usize) -> Named
-    requires { ⌜ at ≤ length (now s) ⌝ }
-    ensures { λ r. ⌜ ((v after : List ℕ) → value (drop at (now (s .entry))) ≡ ok v after → typeMeant r ≡ namedAmong memberTypes v) ⌝ }
-{
-    if is(s, at, b"IVL_TS") {
-        return Named::Is(Kind::IvlTs);
-    }
-    if is(s, at, b"QSU_TS") {
-        return Named::Is(Kind::QsuTs);
-    }
-    if is(s, at, b"QSI_TS") {
-        return Named::Is(Kind::QsiTs);
-    }
-    if is(s, at, b"QSD_TS") {
-        return Named::Is(Kind::QsdTs);
-    }
-    Named::Nothing
-}
-
-// The type that the value at a position names, where a member of a set may be of it: an IVL_TS or a set type.
-fn named_member(s: &[u8], at: usize) -> Named
-    requires { ⌜ at ≤ length (now s) ⌝ }
-    ensures { λ r. ⌜ ((v after : List ℕ) → value (drop at (now (s .entry))) ≡ ok v after → typeMeant r ≡ namedAmong memberTypes v) ⌝ }
-{
-    let plain = plain_member(s, at);
-    if let Named::Is(_) = plain {
-        return plain;
-    }
-    decoded_member(s, at)
-}
-
 // The type that the value at a position names.
 fn named_type(s: &[u8], at: usize) -> Named
     requires { ⌜ at ≤ length (now s) ⌝ }
     ensures { λ r. ⌜ ((v after : List ℕ) → value (drop at (now (s .entry))) ≡ ok v after → typeMeant r ≡ namedAmong allTypes v) ⌝ }
 {
-    if is(s, at, b"TS") {
+    if stands_at(s, at, b"\"TS\"") {
         return Named::Is(Kind::Ts);
     }
-    if is(s, at, b"MO") {
+    if stands_at(s, at, b"\"MO\"") {
         return Named::Is(Kind::Mo);
     }
-    if is(s, at, b"II") {
+    if stands_at(s, at, b"\"II\"") {
         return Named::Is(Kind::Ii);
     }
-    if is(s, at, b"CD") {
+    if stands_at(s, at, b"\"CD\"") {
         return Named::Is(Kind::Cd);
     }
-    if is(s, at, b"EN") {
+    if stands_at(s, at, b"\"EN\"") {
         return Named::Is(Kind::En);
     }
     named_member(s, at)
