@@ -7,16 +7,41 @@ use mathlib.Core.List.{List, [], append-eq-nil-iff}
 use mathlib.Core.Option.{Option, none, some}
 use native.Mathlib.Omega.{arith}
 use lib.IntN.{ℤ}
-use Rattle.rules.specs.Refusal.{Refusal, number, firstOf, Outcome, answered, refused, faultsOf}
+use Rattle.rules.specs.Basics.{exists}
+use Rattle.rules.specs.Refusal.{Refusal, OFFSET, TOO-LONG, NOT-UTF-8, MARKUP, TYPE, SHAPE, VALUE, RULE, UNKNOWN-BOUND, TOO-MANY, NOT-WRITABLE, NO-ROOM, NO-ROW, TOTAL, DAMAGED, DAY-FULL, number, rankIn, firstOf, Outcome, answered, refused, faultsOf}
 use Rattle.rules.specs.Timestamp.{Moment, readTimestamp}
 use Rattle.rules.specs.Check.{shiftBy}
 use Rattle.rules.specs.Services.{packed}
 use Rattle.rules.specs.ListingPromise.{numberIn}
 use Rattle.rules.proofs.Tests.{clash}
 use Rattle.rules.proofs.Precedence.{number-injective, first-is, no-fault}
+use Rattle.rules.proofs.CheckRefusals.{isOfRecord, of-record}
 use Rattle.rules.proofs.ListingPromise.{small, low-bits, count-bits}
 use Rattle.demands.specs.Services.{isAmong, Answers, accepts, refuses}
-use Rattle.demands.specs.Demands.{IsFirst, timeFaults}
+use Rattle.demands.specs.Demands.{recordRefusals, listRefusals, addRefusals, IsFirst, timeFaults}
+
+pub iff-trans : {A B C : Type 0} → (A ↔ B) → (B ↔ C) → A ↔ C
+iff-trans f g = (λ a. g .0 (f .0 a), λ c. f .1 (g .1 c))
+
+-- what checking may give, listing and adding may give too
+pub record-among : (r : Refusal) → isOfRecord r ≡ true → (isAmong recordRefusals r ≡ true) × (isAmong listRefusals r ≡ true) × (isAmong addRefusals r ≡ true)
+unfolding exists rankIn
+record-among OFFSET h = (refl, refl, refl)
+record-among TOO-LONG h = (refl, refl, refl)
+record-among NOT-UTF-8 h = (refl, refl, refl)
+record-among MARKUP h = (refl, refl, refl)
+record-among TYPE h = (refl, refl, refl)
+record-among SHAPE h = (refl, refl, refl)
+record-among VALUE h = (refl, refl, refl)
+record-among RULE h = (refl, refl, refl)
+record-among UNKNOWN-BOUND h = clash (omega (arith, of-record UNKNOWN-BOUND h))
+record-among TOO-MANY h = clash (omega (arith, of-record TOO-MANY h))
+record-among NOT-WRITABLE h = clash (omega (arith, of-record NOT-WRITABLE h))
+record-among NO-ROOM h = clash (omega (arith, of-record NO-ROOM h))
+record-among NO-ROW h = clash (omega (arith, of-record NO-ROW h))
+record-among TOTAL h = clash (omega (arith, of-record TOTAL h))
+record-among DAMAGED h = clash (omega (arith, of-record DAMAGED h))
+record-among DAY-FULL h = clash (omega (arith, of-record DAY-FULL h))
 
 module _ {A : Type 0} (result : A → ℕ) where
   pub packed-refused : (o : Outcome A) (r : Refusal) → numberIn (packed result o) ≡ number r ↔ o ≡ refused r

@@ -10,7 +10,7 @@ use native.Mathlib.Omega.{arith}
 use lib.ListN.{length}
 use lib.IntN.{ℤ}
 use Rattle.rules.specs.Basics.{exists}
-use Rattle.rules.specs.Refusal.{Refusal, OFFSET, TOO-LONG, NOT-UTF-8, MARKUP, TYPE, SHAPE, VALUE, RULE, UNKNOWN-BOUND, TOO-MANY, NOT-WRITABLE, NO-ROOM, number, rankIn, rank, firstOf, Outcome, answered, refused, faultsOf, _when_}
+use Rattle.rules.specs.Refusal.{Refusal, OFFSET, TOO-LONG, NOT-UTF-8, TYPE, VALUE, number, firstOf, Outcome, answered, refused, faultsOf, _when_}
 use Rattle.rules.specs.Utf8.{isUtf8, cutLength}
 use Rattle.rules.specs.Markup.{Element}
 use Rattle.rules.specs.Timestamp.{Moment, readTimestamp, tickOf}
@@ -30,33 +30,15 @@ use Rattle.rules.proofs.ComparedRecords.{says as says-answer, comparison-of}
 use Rattle.rules.proofs.ComparisonPromise.{names-first, names-second, comparison-promise}
 use Rattle.demands.specs.Services.{services, resultIn, isAmong, Answers, accepts, refuses, Compares, says, names}
 use Rattle.demands.specs.Demands.{recordRefusals, listRefusals, IsFirst, timeFaults, cutFaults, IsCut, Demand2, Demands}
-use Rattle.demands.proofs.Answers.{packed-refused, packed-accepted, packed-answers}
+use Rattle.demands.proofs.Answers.{iff-trans, record-among, packed-refused, packed-accepted, packed-answers}
 use Rattle.demands.proofs.Printing.{print-answers, print-promise}
 use Rattle.demands.proofs.Years.{years-kept}
-
-iff-trans : {A B C : Type 0} → (A ↔ B) → (B ↔ C) → A ↔ C
-iff-trans f g = (λ a. g .0 (f .0 a), λ c. f .1 (g .1 c))
-
--- what stands up to RULE on the ladder may be given by checking and by listing
-early-among : (r : Refusal) → rank r ≤ rank RULE → (isAmong recordRefusals r ≡ true) × (isAmong listRefusals r ≡ true)
-unfolding exists rankIn
-early-among OFFSET h = (refl, refl)
-early-among TOO-LONG h = (refl, refl)
-early-among NOT-UTF-8 h = (refl, refl)
-early-among MARKUP h = (refl, refl)
-early-among TYPE h = (refl, refl)
-early-among SHAPE h = (refl, refl)
-early-among VALUE h = (refl, refl)
-early-among RULE h = (refl, refl)
-early-among UNKNOWN-BOUND h = clash (omega arith)
-early-among TOO-MANY h = clash (omega arith)
-early-among NOT-WRITABLE h = clash (omega arith)
-early-among NO-ROOM h = clash (omega arith)
+use Rattle.demands.proofs.Totals.{totals-kept, add-answers, report-answers}
 
 -- checking
 module _ (offset : ℤ) (input : List ℕ) where
   among-checked : (r : Refusal) → check offset input ≡ refused r → isAmong recordRefusals r ≡ true
-  among-checked r e = early-among r (check-refusals offset input e .0) .0
+  among-checked r e = record-among r (check-refusals offset input e) .0
 
   check-answers : Answers recordRefusals (λ n. n ≡ 0) (Unit {0}) (checkAnswer offset input)
   check-answers = packed-answers (λ e. 0) (check offset input) (λ e h. refl) (λ r h. (among-checked r h, tt))
@@ -101,7 +83,7 @@ module _ (offset : ℤ) (input list : List ℕ) {answer : ℕ} {after : List ℕ
   list-answers : ListAnswers
   unfolding exists
   list-answers = elim (case offset input) [
-    | faulty r q c f ↦ by-refusal (early-among q (faulty-early offset (roomOf list) input r c f) .1) (p .faulty r q c f)
+    | faulty r q c f ↦ by-refusal (record-among q (faulty-early offset (roomOf list) input r c f) .1) (p .faulty r q c f)
     | other-type e c l ↦ by-refusal refl (p .other-type e c l)
     | unclear e c l u ↦ by-refusal refl (p .unknown-bound .1 (e, c, l, u))
     | many e c l u m ↦ by-refusal refl (p .too-many .1 (e, c, l, u, m))
@@ -206,9 +188,13 @@ demands-met = record {
     tick-answers = tick-answers;
     cut-answers = cut-answers;
     print-answers = print-answers;
+    open-answers = λ numbers. refl;
+    add-answers = add-answers;
+    report-answers = report-answers;
   };
   two = met-2;
   three = record { read-back = signed-eight; listing-promise = listing-promise };
   print = print-promise;
   years = years-kept services met-2;
+  totals = totals-kept;
 }

@@ -6,8 +6,9 @@ use mathlib.Core.List.{List, []}
 use mathlib.Core.Option.{Option, none, some}
 use native.Mathlib.Decide.{decLe}
 use native.Mathlib.Omega.{arith}
-use lib.ListN.{length, take-append-drop}
+use lib.ListN.{length, replicate, take-append-drop}
 use lib.IntN.{ℤ, pos}
+use Rattle.rules.specs.Basics.{every}
 use Rattle.rules.specs.Refusal.{Refusal, NOT-WRITABLE, NO-ROOM, number, firstOf, Outcome, answered, refused}
 use Rattle.rules.specs.Markup.{Element}
 use Rattle.rules.specs.Check.{recordFaults, check}
@@ -15,6 +16,8 @@ use Rattle.rules.specs.Comparison.{Answer, Comparer, comparerFor}
 use Rattle.rules.specs.Sets.{Interval, meant, AreStretches}
 use Rattle.rules.specs.Services.{roomOf}
 use Rattle.rules.specs.ListingPromise.{numberIn, Refuses, Lists, PromiseOfSet, ListingPromise}
+use Rattle.rules.specs.TotalNumbers.{Lent}
+use Rattle.rules.specs.TotalsPromise.{Call}
 use Rattle.rules.specs.ComparisonPromise.{recordIn, answerIn, Names, Says, IsOf}
 use Rattle.rules.proofs.Tests.{clash}
 use Rattle.rules.proofs.Precedence.{first-is, no-fault}
@@ -26,6 +29,7 @@ use Rattle.demands.specs.Services.{Services, services, resultIn, Answers
 use Rattle.demands.specs.Printing.{Prints}
 use Rattle.demands.specs.Demands.{IsFirst, timeFaults, cutFaults, IsCut, Demands}
 use Rattle.demands.proofs.Answers.{no-number, faultless-read}
+use Rattle.demands.proofs.Totals.{adding-only, reporting-only}
 use Rattle.demands.proofs.Demands.{demands-met}
 
 same-answer : {a b : ℕ} → numberIn a ≡ numberIn b → resultIn a ≡ resultIn b → a ≡ b
@@ -48,6 +52,11 @@ module _ {faults : List Refusal} {R Q : ℕ → Type 0} {K L : Type 0} {a b : �
   same-given f (faultless e n h) (first-given r d m z k) = let i = no-fault faults .1 e in clash (cc)
   same-given f (first-given r d m z k) (faultless e n h) = let i = no-fault faults .1 e in clash (cc)
   same-given f (first-given r e n y k) (first-given q d m z l) = let i : r ≡ q = cc in same-answer (n ∙ ap number i ∙ sym m) (y ∙ sym z)
+
+-- a report's memory, all numbers 0
+blank : Lent 35 (replicate 35 0)
+unfolding every
+blank = record { long = refl; bits = refl }
 
 -- the bits of a comparison
 three-parts : (a : ℕ) → a ≡ numberIn a + 2 ^ 8 * recordIn a + 2 ^ 16 * answerIn a
@@ -179,6 +188,22 @@ module _ {s t : Services} (p : Demands s) (q : Demands t) where
         | fitting w l ↦ same-printed (p .print .printed list record′ w l) (q .print .printed list record′ w l)
       ]
 
+  -- a table afterwards, and the answer, are the rules' of either
+  same-add : (offset : ℤ) (record′ numbers : List ℕ) → Lent 36 numbers
+      → (s .add-says offset record′ numbers ≡ t .add-says offset record′ numbers) × (s .add-leaves offset record′ numbers ≡ t .add-leaves offset record′ numbers)
+  same-add offset record′ numbers l =
+      let k : Call = record { offset = offset; record′ = record′ } in
+      let (e, f) = adding-only numbers l k (p .totals .adds numbers l k) in
+      let (g, h) = adding-only numbers l k (q .totals .adds numbers l k) in
+      (e ∙ sym g, f ∙ sym h)
+
+  same-report : (numbers report : List ℕ) → Lent 36 numbers → Lent 35 report
+      → (s .report-says numbers ≡ t .report-says numbers) × (s .report-leaves numbers report ≡ t .report-leaves numbers report)
+  same-report numbers report l m =
+      let (e, f) = reporting-only numbers report (p .totals .reports numbers report l m) in
+      let (g, h) = reporting-only numbers report (q .totals .reports numbers report l m) in
+      (e ∙ sym g, f ∙ sym h)
+
   pub demands-agree : Same s t
   demands-agree = record {
     same-check = same-check;
@@ -190,6 +215,12 @@ module _ {s t : Services} (p : Demands s) (q : Demands t) where
     same-cut = same-cut;
     same-print = λ list record′. same-print list record′ .0;
     same-print-left = λ list record′. same-print list record′ .1;
+    same-open = λ numbers l. p .totals .opens numbers l .0 ∙ sym (q .totals .opens numbers l .0);
+    same-open-left = λ numbers l. p .totals .opens numbers l .1 ∙ sym (q .totals .opens numbers l .1);
+    same-add = λ offset record′ numbers l. same-add offset record′ numbers l .0;
+    same-add-left = λ offset record′ numbers l. same-add offset record′ numbers l .1;
+    same-report = λ numbers l. same-report numbers (replicate 35 0) l blank .0;
+    same-report-left = λ numbers report l m. same-report numbers report l m .1;
   }
 
 pub demands-determine : (s : Services) → Demands s → Same s services

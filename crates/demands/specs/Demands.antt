@@ -3,13 +3,13 @@
 -- `demands-determine` that nothing else does.
 use Prim.Native.Nat.{ℕ, _≤_}
 use mathlib.Core.Path.{_≡_}
-use mathlib.Core.Logic.{_↔_}
+use mathlib.Core.Logic.{_⊎_, _↔_}
 use mathlib.Core.Bool.{true, not}
 use mathlib.Core.List.{List, [], _∷_, _++_, map, List·Memᴰ}
 use mathlib.Core.Option.{some}
 use lib.ListN.{length, take}
 use lib.IntN.{ℤ}
-use Rattle.rules.specs.Refusal.{Refusal, OFFSET, TOO-LONG, NOT-UTF-8, MARKUP, TYPE, SHAPE, VALUE, RULE, UNKNOWN-BOUND, TOO-MANY, NOT-WRITABLE, NO-ROOM, number, precedence, rank, answered, faultsOf, _when_}
+use Rattle.rules.specs.Refusal.{Refusal, OFFSET, TOO-LONG, NOT-UTF-8, MARKUP, TYPE, SHAPE, VALUE, RULE, UNKNOWN-BOUND, TOO-MANY, NOT-WRITABLE, NO-ROOM, NO-ROW, TOTAL, DAMAGED, DAY-FULL, number, precedence, rank, answered, faultsOf, _when_}
 use Rattle.rules.specs.Utf8.{isUtf8}
 use Rattle.rules.specs.Markup.{Element}
 use Rattle.rules.specs.Timestamp.{Moment, readTimestamp, tickOf}
@@ -22,6 +22,7 @@ use Rattle.rules.specs.ComparisonPromise.{Says, ComparisonPromise}
 use Rattle.demands.specs.Services.{Services, resultIn, Answers, Compares}
 use Rattle.demands.specs.Printing.{PrintPromise}
 use Rattle.demands.specs.Years.{YearsPromise}
+use Rattle.demands.specs.Totals.{TotalsPromise}
 
 -- what checking may give
 abbrev pub recordRefusals : List Refusal
@@ -31,12 +32,18 @@ recordRefusals = OFFSET ∷ TOO-LONG ∷ NOT-UTF-8 ∷ MARKUP ∷ TYPE ∷ SHAPE
 abbrev pub listRefusals : List Refusal
 listRefusals = OFFSET ∷ TOO-LONG ∷ NOT-UTF-8 ∷ MARKUP ∷ TYPE ∷ SHAPE ∷ VALUE ∷ RULE ∷ UNKNOWN-BOUND ∷ TOO-MANY ∷ NO-ROOM ∷ []
 
+-- what adding to a day's totals may give
+abbrev pub addRefusals : List Refusal
+addRefusals = DAMAGED ∷ DAY-FULL ∷ OFFSET ∷ TOO-LONG ∷ NOT-UTF-8 ∷ MARKUP ∷ TYPE ∷ SHAPE ∷ VALUE ∷ RULE ∷ NO-ROW ∷ TOTAL ∷ []
+
 -- 1. "Give the box any bytes and it ends with an answer. Each entry point refuses what is wrong by one number from your rules page, from
 -- OFFSET to NO ROOM, and asks nothing of its caller. A refusal hands back that number (in a comparison, also which record it was) and no
 -- result, and every lent buffer keeps its bytes."
 pub record Demand1 (s : Services) : Type 0 where
-  pub order : precedence ≡ OFFSET ∷ TOO-LONG ∷ NOT-UTF-8 ∷ MARKUP ∷ TYPE ∷ SHAPE ∷ VALUE ∷ RULE ∷ UNKNOWN-BOUND ∷ TOO-MANY ∷ NOT-WRITABLE ∷ NO-ROOM ∷ []
-  pub numbers : map number precedence ≡ 1 ∷ 2 ∷ 3 ∷ 4 ∷ 5 ∷ 6 ∷ 7 ∷ 8 ∷ 9 ∷ 10 ∷ 12 ∷ 11 ∷ []
+  pub order : precedence
+      ≡ DAMAGED ∷ DAY-FULL ∷ OFFSET ∷ TOO-LONG ∷ NOT-UTF-8 ∷ MARKUP ∷ TYPE ∷ SHAPE ∷ VALUE ∷ RULE ∷ UNKNOWN-BOUND ∷ TOO-MANY ∷ NOT-WRITABLE ∷ NO-ROOM
+      ∷ NO-ROW ∷ TOTAL ∷ []
+  pub numbers : map number precedence ≡ 21 ∷ 25 ∷ 1 ∷ 2 ∷ 3 ∷ 4 ∷ 5 ∷ 6 ∷ 7 ∷ 8 ∷ 9 ∷ 10 ∷ 12 ∷ 11 ∷ 16 ∷ 17 ∷ []
   pub one-number : (r q : Refusal) → number r ≡ number q → r ≡ q
   pub check-answers : (offset : ℤ) (record′ : List ℕ) → Answers recordRefusals (λ n. n ≡ 0) (Unit {0}) (s .check-says offset record′)
   pub compare-answers : (offset : ℤ) (first second : List ℕ) → Compares recordRefusals (s .compare-says offset first second)
@@ -47,6 +54,10 @@ pub record Demand1 (s : Services) : Type 0 where
   pub cut-answers : (text : List ℕ) (room : ℕ) → Answers (TOO-LONG ∷ NOT-UTF-8 ∷ []) (λ n. n ≤ length text) (Unit {0}) (s .cut-says text room)
   pub print-answers : (list record′ : List ℕ)
       → Answers (NOT-WRITABLE ∷ NO-ROOM ∷ []) (λ n. n ≤ 4_735) (s .print-leaves list record′ ≡ record′) (s .print-says list record′)
+  pub open-answers : (numbers : List ℕ) → s .open-says numbers ≡ 0
+  -- what a refusal leaves of a table is A6's, "demand 1 .. notwithstanding"
+  pub add-answers : (offset : ℤ) (record′ numbers : List ℕ) → Answers addRefusals (λ n. (n ≡ 1) ⊎ (n ≡ 2)) (Unit {0}) (s .add-says offset record′ numbers)
+  pub report-answers : (numbers report : List ℕ) → Answers (DAMAGED ∷ []) (λ n. n ≤ 16) (s .report-leaves numbers report ≡ report) (s .report-says numbers)
 
 -- r applies, and nothing that applies stands before it on the ladder
 abbrev pub IsFirst : Refusal → (faults : List Refusal) → Type 0
@@ -101,3 +112,5 @@ pub record Demands (s : Services) : Type 0 where
   pub print : PrintPromise s
   -- request A3
   pub years : YearsPromise s
+  -- request A6
+  pub totals : TotalsPromise s

@@ -1,4 +1,5 @@
 pub mod Services
 pub mod Printing
 pub mod Years
+pub mod Totals
 pub mod Demands

@@ -1,4 +1,4 @@
--- The six services as the demands see them: what they say and leave, the parts of an answer, and what it is to do the same.
+-- The services as the demands see them: what they say and leave, the parts of an answer, and what it is to do the same.
 use Prim.Native.Nat.{ℕ, _/_, _^_}
 use mathlib.Core.Path.{_≡_}
 use mathlib.Core.Logic.{_⊎_}
@@ -10,10 +10,12 @@ use Rattle.rules.specs.Refusal.{Refusal, number, isSame}
 use Rattle.rules.specs.Comparison.{Answer}
 use Rattle.rules.specs.Services.{checkAnswer, compareAnswer, listAnswer, listAfter, tickAnswer, tickAfter, cutAnswer}
 use Rattle.rules.specs.Printing.{printAnswer, printAfter}
+use Rattle.rules.specs.TotalNumbers.{Lent}
+use Rattle.rules.specs.TotalTables.{openedTable, addAnswer, addAfter, reportAnswer, reportAfter}
 use Rattle.rules.specs.ListingPromise.{numberIn}
 use Rattle.rules.specs.ComparisonPromise.{Names, Says}
 
--- what six functions do with each input: what they say, and what they leave in lent memory
+-- what nine functions do with each input: what they say, and what they leave in lent memory
 pub record Services : Type 0 where
   pub check-says : (offset : ℤ) → (record′ : List ℕ) → ℕ
   pub compare-says : (offset : ℤ) → (first second : List ℕ) → ℕ
@@ -24,6 +26,12 @@ pub record Services : Type 0 where
   pub cut-says : (text : List ℕ) → (room : ℕ) → ℕ
   pub print-says : (list record′ : List ℕ) → ℕ
   pub print-leaves : (list record′ : List ℕ) → List ℕ
+  pub open-says : (numbers : List ℕ) → ℕ
+  pub open-leaves : (numbers : List ℕ) → List ℕ
+  pub add-says : (offset : ℤ) → (record′ numbers : List ℕ) → ℕ
+  pub add-leaves : (offset : ℤ) → (record′ numbers : List ℕ) → List ℕ
+  pub report-says : (numbers : List ℕ) → ℕ
+  pub report-leaves : (numbers report : List ℕ) → List ℕ
 
 -- the exported functions, each by its contract
 abbrev pub services : Services
@@ -37,6 +45,12 @@ services = record {
   cut-says = cutAnswer;
   print-says = printAnswer;
   print-leaves = printAfter;
+  open-says = λ numbers. 0;
+  open-leaves = λ numbers. openedTable;
+  add-says = addAnswer;
+  add-leaves = addAfter;
+  report-says = reportAnswer;
+  report-leaves = reportAfter;
 }
 
 -- an answer: its number in bits 0 to 7, `numberIn`, and its result in those above
@@ -56,7 +70,7 @@ pub data Compares (may : List Refusal) (answer : ℕ) : Type 0 where
   says : (x : Answer) → Says x answer → Compares may answer
   names : (which : ℕ) (r : Refusal) → (which ≡ 1) ⊎ (which ≡ 2) → isAmong may r ≡ true → Names which r answer → Compares may answer
 
--- two that do the same with every input
+-- two that do the same with every input; a table is 36 numbers of 64 bits, and a report 35
 pub record Same (s t : Services) : Type 0 where
   pub same-check : (offset : ℤ) (record′ : List ℕ) → s .check-says offset record′ ≡ t .check-says offset record′
   pub same-compare : (offset : ℤ) (first second : List ℕ) → s .compare-says offset first second ≡ t .compare-says offset first second
@@ -67,3 +81,9 @@ pub record Same (s t : Services) : Type 0 where
   pub same-cut : (text : List ℕ) (room : ℕ) → s .cut-says text room ≡ t .cut-says text room
   pub same-print : (list record′ : List ℕ) → s .print-says list record′ ≡ t .print-says list record′
   pub same-print-left : (list record′ : List ℕ) → s .print-leaves list record′ ≡ t .print-leaves list record′
+  pub same-open : (numbers : List ℕ) → Lent 36 numbers → s .open-says numbers ≡ t .open-says numbers
+  pub same-open-left : (numbers : List ℕ) → Lent 36 numbers → s .open-leaves numbers ≡ t .open-leaves numbers
+  pub same-add : (offset : ℤ) (record′ numbers : List ℕ) → Lent 36 numbers → s .add-says offset record′ numbers ≡ t .add-says offset record′ numbers
+  pub same-add-left : (offset : ℤ) (record′ numbers : List ℕ) → Lent 36 numbers → s .add-leaves offset record′ numbers ≡ t .add-leaves offset record′ numbers
+  pub same-report : (numbers : List ℕ) → Lent 36 numbers → s .report-says numbers ≡ t .report-says numbers
+  pub same-report-left : (numbers report : List ℕ) → Lent 36 numbers → Lent 35 report → s .report-leaves numbers report ≡ t .report-leaves numbers report

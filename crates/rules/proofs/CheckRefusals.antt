@@ -1,5 +1,5 @@
--- The refusals that a judged element can give are TYPE, SHAPE, VALUE and RULE. So checking a record gives 1 to 8 alone, and what is found before
--- an element is judged comes first.
+-- The refusals that a judged element can give are TYPE, SHAPE, VALUE and RULE. So checking a record gives those from OFFSET to RULE alone, and what is
+-- found before an element is judged comes first.
 use Prim.Native.Nat.{ℕ, _≤_}
 use mathlib.Core.Path.{_≡_, refl}
 use mathlib.Core.Bool.{Bool, true, false, not, _&&_, _||_, cond}
@@ -9,7 +9,7 @@ use borrow.Author.Tests.{leb-true}
 use lib.Dec.{leb, ltb}
 use lib.IntN.{ℤ}
 use Rattle.rules.specs.Basics.{isSome, ifSome, find, exists, bytes, isEmpty, same, begins}
-use Rattle.rules.specs.Refusal.{Refusal, OFFSET, TOO-LONG, NOT-UTF-8, MARKUP, TYPE, SHAPE, VALUE, RULE, number, rankIn, rank, firstOf, Outcome, answered, refused, faultsIn, faultsOf, _unless_, _when_}
+use Rattle.rules.specs.Refusal.{Refusal, OFFSET, TOO-LONG, NOT-UTF-8, MARKUP, TYPE, SHAPE, VALUE, RULE, rankIn, rank, firstOf, Outcome, answered, refused, faultsIn, faultsOf, _unless_, _when_}
 use Rattle.rules.specs.Markup.{Attribute, Nodes, end, node, Element, document}
 use Rattle.rules.specs.Timestamp.{Written, timestamp, isDate, isClock, isZone, writtenFaults, momentOf, readTimestamp}
 use Rattle.rules.specs.Parsers.{whole}
@@ -133,22 +133,35 @@ module _ (test : Refusal → Bool) (type : test TYPE ≡ true) (shape : test SHA
       go none = pass-one test MARKUP h
       go (some e) = top-passes shift e
 
+-- those that stand from OFFSET to RULE on the ladder
+unfoldable pub isOfRecord : Refusal → Bool
+isOfRecord r = leb (rank OFFSET) (rank r) && leb (rank r) (rank RULE)
+
+pub of-record : (r : Refusal) → isOfRecord r ≡ true → (rank OFFSET ≤ rank r) × (rank r ≤ rank RULE)
+unfolding isOfRecord
+of-record r h =
+    let (f, g) = both-true (leb (rank OFFSET) (rank r)) (leb (rank r) (rank RULE)) h in
+    (leb-true (rank OFFSET) (rank r) f, leb-true (rank r) (rank RULE) g)
+
 module _ (offset : ℤ) (input : List ℕ) where
-  -- not after RULE on the ladder, and of number 8 at most
-  own : Refusal → Bool
-  own r = leb (rank r) (rank RULE) && leb (number r) 8
-
-  record-passes : Pass own (recordFaults offset input)
-  unfolding recordFaults own rankIn
+  record-passes : Pass isOfRecord (recordFaults offset input)
+  unfolding recordFaults isOfRecord rankIn
   record-passes =
-      pass-append own
-      (pass-append own
-      (pass-append own (pass-when own OFFSET (not (isOffset offset)) refl) (pass-when own TOO-LONG (isTooLong input) refl))
-      (pass-when own NOT-UTF-8 (not (isUtf8 input)) refl))
-      (element-or-markup own refl refl refl refl (shiftBy offset) input refl)
+      pass-append isOfRecord
+      (pass-append isOfRecord
+      (pass-append isOfRecord (pass-when isOfRecord OFFSET (not (isOffset offset)) refl) (pass-when isOfRecord TOO-LONG (isTooLong input) refl))
+      (pass-when isOfRecord NOT-UTF-8 (not (isUtf8 input)) refl))
+      (element-or-markup isOfRecord refl refl refl refl (shiftBy offset) input refl)
 
-  pub check-refusals : {r : Refusal} → check offset input ≡ refused r → (rank r ≤ rank RULE) × (number r ≤ 8)
-  unfolding own
-  check-refusals {r} e =
-      let (f, g) = both-true (leb (rank r) (rank RULE)) (leb (number r) 8) (first-passes own record-passes (check-refused offset input r .0 e)) in
-      (leb-true (rank r) (rank RULE) f, leb-true (number r) 8 g)
+  -- checking gives no others
+  pub check-refusals : {r : Refusal} → check offset input ≡ refused r → isOfRecord r ≡ true
+  check-refusals {r} e = first-passes isOfRecord record-passes (check-refused offset input r .0 e)
+
+  -- nor are there others where the type is looked at besides
+  pub type-passes : (allowed : Element → Bool) → Pass isOfRecord (faultsIn (λ e. TYPE when not (allowed e)) (elementOf input))
+  unfolding isOfRecord rankIn
+  type-passes allowed = go (document input)
+    where
+      go : (d : Option Element) → Pass isOfRecord (faultsIn (λ e. TYPE when not (allowed e)) (ifSome d answered (refused MARKUP)))
+      go none = pass-one isOfRecord MARKUP refl
+      go (some e) = pass-when isOfRecord TYPE (not (allowed e)) refl

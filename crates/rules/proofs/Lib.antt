@@ -35,6 +35,11 @@ pub mod Printing
 pub mod LentLists
 pub mod ProperLists
 pub mod PrintingCases
+pub mod TotalReading
+pub mod TotalRows
+pub mod Totals
+pub mod TotalNumbers
+pub mod TotalTables
 pub mod ComparedRecords
 pub mod Comparing
 pub mod ComparisonPromise

@@ -25,7 +25,7 @@ use Rattle.rules.specs.Services.{listing}
 use Rattle.rules.specs.ListingPromise.{isClear, isListed, IsSetOfTimes}
 use Rattle.rules.proofs.Tests.{clash}
 use Rattle.rules.proofs.Precedence.{earlier-comm, first-is, when-none, check-answered, check-refused}
-use Rattle.rules.proofs.CheckRefusals.{check-refusals}
+use Rattle.rules.proofs.CheckRefusals.{one-more, first-passes, isOfRecord, check-refusals, type-passes}
 use Rattle.rules.proofs.Members.{set-refused, unclear-set}
 
 unless-none : {A : Type 0} (o : Outcome A) → (o unless []) ≡ o
@@ -149,10 +149,9 @@ module _ (offset : ℤ) (room : ℕ) (input : List ℕ) where
     unfolding listing
     listing-faulty h = rw (faulty, h)
 
-    -- and by none that stands after RULE
-    pub faulty-early : {q : Refusal} → firstOf (r ∷ faultsIn unlisted (elementOf input)) ≡ some q → rank q ≤ rank RULE
-    faulty-early {q} h =
-        omega (arith, check-refusals offset input faulty, first-is (r ∷ faultsIn unlisted (elementOf input)) q .0 h .1 r (List·Memᴰ·head refl))
+    -- and by none that checking does not give
+    pub faulty-early : {q : Refusal} → firstOf (r ∷ faultsIn unlisted (elementOf input)) ≡ some q → isOfRecord q ≡ true
+    faulty-early h = first-passes isOfRecord (one-more (check-refusals offset input faulty) (type-passes offset input isListed)) h
 
     -- by its own fault where there is no element, where the element has one of the types, or where the fault stands before TYPE
     pub listing-faulty-markup : document input ≡ none → listing offset room input ≡ refused r

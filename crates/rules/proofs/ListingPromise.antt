@@ -10,7 +10,7 @@ use lib.ListN.{length, take, drop, length-append, length-drop}
 use lib.Seq.{take-at, drop-at}
 use lib.IntN.{ℤ, pos, negsuc}
 use Rattle.rules.specs.Basics.{every}
-use Rattle.rules.specs.Refusal.{Refusal, OFFSET, TOO-LONG, NOT-UTF-8, MARKUP, TYPE, SHAPE, VALUE, RULE, UNKNOWN-BOUND, TOO-MANY, NOT-WRITABLE, NO-ROOM, number, rankIn, rank, firstOf, answered, refused, faultsIn}
+use Rattle.rules.specs.Refusal.{Refusal, OFFSET, TOO-LONG, NOT-UTF-8, MARKUP, TYPE, SHAPE, VALUE, RULE, UNKNOWN-BOUND, TOO-MANY, NOT-WRITABLE, NO-ROOM, NO-ROW, TOTAL, DAMAGED, DAY-FULL, number, rankIn, rank, firstOf, answered, refused, faultsIn}
 use Rattle.rules.specs.Markup.{Element}
 use Rattle.rules.specs.Check.{shiftBy, elementOf, check}
 use Rattle.rules.specs.Sets.{Bound, unbounded, openAt, closedAt, Interval, Expression}
@@ -27,6 +27,7 @@ use Rattle.rules.proofs.Unique.{stretch-listed}
 use Rattle.rules.proofs.Drawing.{stretches-are, is-stretches}
 use Rattle.rules.proofs.Counting.{stretches-within}
 use Rattle.rules.proofs.Members.{set-intervals, clear-set}
+use Rattle.rules.proofs.CheckRefusals.{of-record}
 use Rattle.rules.proofs.ListingCases.{check-faultless, check-offset, listing-unlisted, listing-unclear, listing-too-many, listing-no-room, listing-answered, listing-faulty, faulty-early, faulty, other-type, unclear, many, a-set, case}
 
 -- refusals are told from one another, and from an answer, by the lowest eight bits
@@ -43,6 +44,10 @@ small UNKNOWN-BOUND = omega arith
 small TOO-MANY = omega arith
 small NOT-WRITABLE = omega arith
 small NO-ROOM = omega arith
+small NO-ROW = omega arith
+small TOTAL = omega arith
+small DAMAGED = omega arith
+small DAY-FULL = omega arith
 
 pub low-bits : (r : Refusal) → (number r % 2 ^ 8 ≡ number r) × (number r / 2 ^ 8 ≡ 0)
 low-bits r = omega (arith, small r)
@@ -167,14 +172,14 @@ module _ (offset : ℤ) (record′ list : List ℕ) where
   -- a refusal after RULE is none of the record's own
   not-faulty : (r : Refusal) {q p : Refusal} → check offset record′ ≡ refused r → firstOf (r ∷ faultsIn unlisted (elementOf record′)) ≡ some q
       → rank RULE < rank p → Refuses offset record′ answer list after p → ⊥
-  not-faulty r {q} {p} c f l a = omega (arith, faulty-early offset (roomOf list) record′ r c f, ap rank (one-refusal (gives-faulty r q c f) a))
+  not-faulty r {q} {p} c f l a = omega (arith, of-record _ (faulty-early offset (roomOf list) record′ r c f), ap rank (one-refusal (gives-faulty r q c f) a))
 
   pub listing-promise : ListingPromise offset record′ (listAnswer offset record′ list) list (listAfter offset record′ list)
   unfolding rankIn
   listing-promise = record {
     sets = promise-of-set;
     others = λ h. elim (case offset record′) [
-      | faulty r q c f ↦ (q, gives-faulty r q c f, omega (arith, faulty-early offset (roomOf list) record′ r c f))
+      | faulty r q c f ↦ (q, gives-faulty r q c f, omega (arith, of-record q (faulty-early offset (roomOf list) record′ r c f)))
       | other-type e c l ↦ (TYPE, gives-type e c l, omega arith)
       | unclear e c l u ↦ (UNKNOWN-BOUND, gives-unknown e c l u, omega arith)
       | many e c l u m ↦ (TOO-MANY, gives-many e c l u m, omega arith)

@@ -1,5 +1,5 @@
 -- The refusal ladder: of all faults the one that stands first is given, whatever the order in which they are found.
-use Prim.Native.Nat.{ℕ, _-_, _≤_}
+use Prim.Native.Nat.{ℕ, _≤_}
 use mathlib.Core.Path.{_≡_, refl, sym, _∙_, ap}
 use mathlib.Core.Logic.{_↔_}
 use mathlib.Core.Bool.{Bool, true, false, cond}
@@ -7,23 +7,18 @@ use mathlib.Core.List.{List, [], _∷_, _++_, append-assoc, List·Memᴰ, List·
 use mathlib.Core.Option.{Option, none, some}
 use native.Mathlib.Omega.{arith}
 use borrow.Author.Tests.{leb-true, leb-false, le-leb, lt-leb}
-use lib.Dec.{leb}
+use lib.Dec.{leb, eqb}
 use lib.ListN.{getD}
 use lib.IntN.{ℤ}
-use Rattle.rules.specs.Basics.{ifSome}
-use Rattle.rules.specs.Refusal.{Refusal, OFFSET, TOO-LONG, NOT-UTF-8, MARKUP, TYPE, SHAPE, VALUE, RULE, UNKNOWN-BOUND, TOO-MANY, NOT-WRITABLE, NO-ROOM, number, precedence, rankIn, rank, earlier, firstOf, Outcome, answered, refused, faultsIn, faultsOf, _unless_, _when_}
+use Rattle.rules.specs.Basics.{ifSome, find}
+use Rattle.rules.specs.Refusal.{Refusal, OFFSET, TOO-LONG, NOT-UTF-8, MARKUP, TYPE, SHAPE, VALUE, RULE, UNKNOWN-BOUND, TOO-MANY, NOT-WRITABLE, NO-ROOM, NO-ROW, TOTAL, DAMAGED, DAY-FULL, number, precedence, isSame, rankIn, rank, earlier, firstOf, Outcome, answered, refused, faultsIn, faultsOf, _unless_, _when_}
 use Rattle.rules.specs.Markup.{Element, document}
 use Rattle.rules.specs.Check.{elementOf, recordFaults, check}
 use Rattle.rules.proofs.Tests.{clash}
 
--- the refusals in the order of their numbers
-abbrev numbered : List Refusal
-numbered =
-    OFFSET ∷ TOO-LONG ∷ NOT-UTF-8 ∷ MARKUP ∷ TYPE ∷ SHAPE ∷ VALUE ∷ RULE ∷ UNKNOWN-BOUND ∷ TOO-MANY ∷ NO-ROOM ∷ NOT-WRITABLE ∷ []
-
--- the ladder holds each refusal at its rank, and so do the numbers
-on-ladder : (r : Refusal) → (getD precedence (rank r) OFFSET ≡ r) × (getD numbered (number r - 1) OFFSET ≡ r)
-unfolding rankIn
+-- the ladder holds each refusal at its rank, and is found there by its number
+on-ladder : (r : Refusal) → (getD precedence (rank r) OFFSET ≡ r) × (find (isSame r) precedence ≡ some r)
+unfolding rankIn find
 on-ladder OFFSET = (refl, refl)
 on-ladder TOO-LONG = (refl, refl)
 on-ladder NOT-UTF-8 = (refl, refl)
@@ -36,12 +31,21 @@ on-ladder UNKNOWN-BOUND = (refl, refl)
 on-ladder TOO-MANY = (refl, refl)
 on-ladder NOT-WRITABLE = (refl, refl)
 on-ladder NO-ROOM = (refl, refl)
+on-ladder NO-ROW = (refl, refl)
+on-ladder TOTAL = (refl, refl)
+on-ladder DAMAGED = (refl, refl)
+on-ladder DAY-FULL = (refl, refl)
 
 pub rank-injective : (a b : Refusal) → rank a ≡ rank b → a ≡ b
 rank-injective a b e = sym (on-ladder a .0) ∙ ap (λ n. getD precedence n OFFSET) e ∙ on-ladder b .0
 
+pub found-by-number : (r : Refusal) → find (isSame r) precedence ≡ some r
+found-by-number r = on-ladder r .1
+
 pub number-injective : (a b : Refusal) → number a ≡ number b → a ≡ b
-number-injective a b e = sym (on-ladder a .1) ∙ ap (λ n. getD numbered (n - 1) OFFSET) e ∙ on-ladder b .1
+number-injective a b e =
+    let f : find (isSame a) precedence ≡ find (isSame b) precedence = ap (λ n. find (λ q. eqb n (number q)) precedence) e in
+    cc (found-by-number a, found-by-number b)
 
 -- of two, the one of the smaller rank
 lower : Refusal → Refusal → Refusal

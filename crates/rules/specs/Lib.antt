@@ -18,5 +18,9 @@ pub mod Listing
 pub mod Comparison
 pub mod Services
 pub mod Printing
+pub mod Totals
+pub mod TotalNumbers
+pub mod TotalTables
 pub mod ListingPromise
 pub mod ComparisonPromise
+pub mod TotalsPromise
