@@ -2,22 +2,19 @@
 ghost use mathlib.Core.Path.{_≡_};
 ghost use mathlib.Core.Bool.{not};
 ghost use mathlib.Core.List.{List};
-ghost use mathlib.Core.Option.{Option, none};
-ghost use Prim.Native.Nat.{ℕ, _-_, _≤_, _<_};
-ghost use lib.ListN.{length};
-ghost use Rattle.rules.specs.Basics.{isSome, ifSome};
-ghost use Rattle.rules.specs.Parsers.{whole};
+ghost use Prim.Native.Nat.{ℕ, _<_};
+ghost use Rattle.rules.specs.Basics.{isSome};
 ghost use Rattle.rules.specs.Markup.{Attribute, Element};
-ghost use Rattle.rules.specs.Forms.{amountText};
 ghost use Rattle.rules.specs.Comparison.{sameOption, sameAmount, compareMoney, compareIdentifiers, compareCodes};
 ghost use Rattle.form.specs.Amounts.{amountOf};
 ghost use Rattle.element.specs.Names.{known, nameAt};
-ghost use Rattle.element.specs.Tags.{Place, Tells, TagIn};
+ghost use Rattle.element.specs.Tags.{Tells, TagIn};
 ghost use Rattle.comparison.specs.Meaning.{answerMeant};
 ghost use Rattle.comparison.specs.Readings.{sameRead};
 use crate::Answer;
 use crate::answer_if;
 use crate::texts::same_attribute;
+use datatype::money::amount_at;
 use element::name::CODE;
 use element::name::CODE_SYSTEM;
 use element::name::CURRENCY;
@@ -26,20 +23,7 @@ use element::name::ROOT;
 use element::name::VALUE;
 use element::tag::Tag;
 use element::tag::has;
-use element::value;
 use form::money::Amount;
-
-// The amount of the value at a place.
-fn amount_at(s: &[u8], place: usize) -> Amount
-    requires { ⌜ place ≤ length (now s) - 1 ⌝ }
-    ensures { λ r. ⌜ ((o : Option (List ℕ)) → Place (now (s .entry)) o place → amountOf r ≡ ifSome o (whole amountText) none) ⌝ }
-{
-    if place == 0 {
-        return Amount::Bad;
-    }
-    let end = value::end(s, place);
-    form::amount(s, place, end)
-}
 
 // Whether there is no amount.
 fn is_bad(amount: Amount) -> bool

@@ -3,6 +3,7 @@
 pub mod bounds;
 pub mod columns;
 pub mod kind;
+pub mod money;
 pub mod places;
 pub mod record;
 pub mod rows;

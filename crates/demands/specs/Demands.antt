@@ -55,8 +55,10 @@ pub record Demand1 (s : Services) : Type 0 where
   pub print-answers : (list record′ : List ℕ)
       → Answers (NOT-WRITABLE ∷ NO-ROOM ∷ []) (λ n. n ≤ 4_735) (s .print-leaves list record′ ≡ record′) (s .print-says list record′)
   pub open-answers : (numbers : List ℕ) → s .open-says numbers ≡ 0
-  -- what a refusal leaves of a table is A6's, "demand 1 .. notwithstanding"
-  pub add-answers : (offset : ℤ) (record′ numbers : List ℕ) → Answers addRefusals (λ n. (n ≡ 1) ⊎ (n ≡ 2)) (Unit {0}) (s .add-says offset record′ numbers)
+  -- 21 and 25 keep a table; other refusals raise a count in it, "demand 1 .. notwithstanding" (A6)
+  pub add-answers : (offset : ℤ) (record′ numbers : List ℕ)
+      → Answers addRefusals (λ n. (n ≡ 1) ⊎ (n ≡ 2)) ((s .add-says offset record′ numbers ≡ 21) ⊎ (s .add-says offset record′ numbers ≡ 25) → s .add-leaves offset record′ numbers ≡ numbers)
+      (s .add-says offset record′ numbers)
   pub report-answers : (numbers report : List ℕ) → Answers (DAMAGED ∷ []) (λ n. n ≤ 16) (s .report-leaves numbers report ≡ report) (s .report-says numbers)
 
 -- r applies, and nothing that applies stands before it on the ladder

@@ -1,26 +1,31 @@
 -- Amounts of money: the sign, the digits, the fraction, and the whole text; and currencies.
 use Prim.Native.Nat.{ℕ, _+_, _*_, _^_, _<_}
 use mathlib.Core.Path.{_≡_, ap}
-use mathlib.Core.Bool.{false, _&&_, and-true, and-assoc}
+use mathlib.Core.Bool.{true, false, _&&_, and-true, and-assoc}
 use mathlib.Core.List.{List, [], _∷_}
 use mathlib.Core.Option.{none, some}
 use native.Mathlib.Nat.{pow-le-pow-right, lt-of-lt-of-le}
 use native.Mathlib.Omega.{arith}
-use borrow.Author.Tests.{ne-eqb}
+use borrow.Author.Tests.{eqb-true, ne-eqb}
 use lib.Dec.{eqb}
 use lib.IntN.{pos}
 use lib.ListN.{length, getD, take, drop, length-drop, drop-of-length-le}
 use lib.Seq.{length-take-le}
-use Rattle.rules.specs.Basics.{every, isFrom, isDigit, decimal}
+use Rattle.rules.specs.Basics.{exists, every, isFrom, isDigit, decimal}
 use Rattle.rules.specs.Parsers.{bad, ok, one, upTo, byte, finish, whole}
 use Rattle.rules.specs.Timestamp.{tenThousandths}
 use Rattle.rules.specs.Forms.{amountText, isCurrency}
+use Rattle.rules.specs.LentLists.{unsigned}
+use Rattle.rules.specs.TotalNumbers.{currencyNumber}
+use Rattle.rules.proofs.Tests.{both-true}
+use Rattle.rules.proofs.References.{isReferenced}
+use Rattle.rules.proofs.Unreferenced.{no-currency}
 use Rattle.rules.proofs.Parsers.{more-ok, more, done}
 use Rattle.text.specs.Numbers.{Counted, FractionAt}
 use Rattle.text.specs.declared.digits.Fraction.{Fraction}
 use Rattle.text.proofs.Reading.{here}
 use Rattle.text.proofs.Numerals.{none-at-end, byte-at, no-byte, no-digit-counted, counted-upTo, decimal-first}
-use Rattle.form.specs.Amounts.{signOf, SignAt}
+use Rattle.form.specs.Amounts.{signOf, codeOf, SignAt}
 
 -- the sign
 pub sign-none : (t : List ℕ) → byte 45 t ≡ bad → SignAt t 0
@@ -81,3 +86,18 @@ currency-three (a ∷ []) h = absurd (omega arith)
 currency-three (a ∷ b ∷ []) h = absurd (omega arith)
 currency-three (a ∷ b ∷ c ∷ []) h = rw (and-true (isFrom 65 90 c)) (and-assoc (isFrom 65 90 a) (isFrom 65 90 b) (isFrom 65 90 c))
 currency-three (a ∷ b ∷ c ∷ d ∷ t) h = absurd (omega arith)
+
+-- and their number
+pub code-three : (t : List ℕ) → length t ≡ 3 → getD t 0 0 + 256 * getD t 1 0 + 65_536 * getD t 2 0 ≡ currencyNumber t
+unfolding unsigned
+code-three [] h = absurd (omega arith)
+code-three (a ∷ []) h = absurd (omega arith)
+code-three (a ∷ b ∷ []) h = absurd (omega arith)
+code-three (a ∷ b ∷ c ∷ []) h = omega arith
+code-three (a ∷ b ∷ c ∷ d ∷ t) h = absurd (omega arith)
+
+pub currency-long : (t : List ℕ) → isCurrency t ≡ true → length t ≡ 3
+currency-long t h = eqb-true (length t) 3 (both-true (eqb (length t) 3) _ h .0)
+
+pub no-code : (t : List ℕ) → exists isReferenced t ≡ true → codeOf t ≡ 0
+no-code t e = rw (no-currency t e)

@@ -13,7 +13,7 @@ ghost use Rattle.rules.specs.Timestamp.{readTimestamp};
 ghost use Rattle.rules.specs.Forms.{amountText, formFaults};
 ghost use Rattle.refusal.specs.Meaning.{faultOf};
 ghost use Rattle.timestamp.specs.Moments.{outcomeOf};
-ghost use Rattle.form.specs.Amounts.{amountOf, Small};
+ghost use Rattle.form.specs.Amounts.{amountOf, codeOf, Small};
 ghost use Rattle.form.specs.Meaning.{formOf, between};
 
 mod fixed;
@@ -71,6 +71,15 @@ pub fn amount(s: &[u8], q: usize, e: usize) -> Amount
 {
     let raw = inside(s, q, e);
     money::read(raw)
+}
+
+// The number of the currency that a value says, 0 if it says none.
+pub fn currency(s: &[u8], q: usize, e: usize) -> u64
+    requires { ⌜ q < e ⌝ ∗ ⌜ e ≤ length (now s) ⌝ }
+    ensures { λ r. ⌜ ((v : List ℕ) → value (drop q (now (s .entry))) ≡ ok v (drop e (now (s .entry))) → r ≡ codeOf v) ⌝ }
+{
+    let raw = inside(s, q, e);
+    money::code(raw)
 }
 
 // VALUE, unless a text is of its form.

@@ -3,7 +3,7 @@ ghost use mathlib.Core.Path.{_≡_};
 ghost use Rattle.rules.specs.Basics.{isFrom};
 ghost use Rattle.rules.specs.Parsers.{whole};
 ghost use Rattle.rules.specs.Forms.{amountText, isCurrency};
-ghost use Rattle.form.specs.Amounts.{amountOf, Small, SignAt};
+ghost use Rattle.form.specs.Amounts.{amountOf, codeOf, Small, SignAt};
 use text::digits;
 
 // An amount in ten-thousandths, with its sign; or that a text is none.
@@ -58,4 +58,14 @@ pub fn is_currency(t: &[u8]) -> bool
         return false;
     }
     is_capital(t[0]) & is_capital(t[1]) & is_capital(t[2])
+}
+
+// The number of a currency: its letters, the first in the lowest byte; 0 for a text that is none.
+pub fn code(t: &[u8]) -> u64
+    ensures { λ r. ⌜ r ≡ codeOf (now (t .entry)) ⌝ }
+{
+    if !is_currency(t) {
+        return 0;
+    }
+    (t[0] as u64) + 256 * (t[1] as u64) + 65_536 * (t[2] as u64)
 }

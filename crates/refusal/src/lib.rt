@@ -6,6 +6,8 @@ ghost use Rattle.refusal.specs.Meaning.{refusalOf, faultOf};
 
 // The page's refusals, in the order of the ladder.
 pub enum Refusal {
+    Damaged,
+    DayFull,
     Offset,
     TooLong,
     NotUtf8,
@@ -18,6 +20,8 @@ pub enum Refusal {
     TooMany,
     NotWritable,
     NoRoom,
+    NoRow,
+    Total,
 }
 
 // A refusal, or none: accepted.
@@ -31,6 +35,8 @@ pub fn number(r: Refusal) -> u64
     ensures { λ n. ⌜ n ≡ pageNumber (refusalOf r) ⌝ }
 {
     match r {
+        Refusal::Damaged => 21,
+        Refusal::DayFull => 25,
         Refusal::Offset => 1,
         Refusal::TooLong => 2,
         Refusal::NotUtf8 => 3,
@@ -43,6 +49,8 @@ pub fn number(r: Refusal) -> u64
         Refusal::TooMany => 10,
         Refusal::NotWritable => 12,
         Refusal::NoRoom => 11,
+        Refusal::NoRow => 16,
+        Refusal::Total => 17,
     }
 }
 
@@ -51,18 +59,22 @@ fn rank(r: Refusal) -> u64
     ensures { λ n. ⌜ n ≡ pageRank (refusalOf r) ⌝ }
 {
     match r {
-        Refusal::Offset => 0,
-        Refusal::TooLong => 1,
-        Refusal::NotUtf8 => 2,
-        Refusal::Markup => 3,
-        Refusal::Type => 4,
-        Refusal::Shape => 5,
-        Refusal::Value => 6,
-        Refusal::Rule => 7,
-        Refusal::UnknownBound => 8,
-        Refusal::TooMany => 9,
-        Refusal::NotWritable => 10,
-        Refusal::NoRoom => 11,
+        Refusal::Damaged => 0,
+        Refusal::DayFull => 1,
+        Refusal::Offset => 2,
+        Refusal::TooLong => 3,
+        Refusal::NotUtf8 => 4,
+        Refusal::Markup => 5,
+        Refusal::Type => 6,
+        Refusal::Shape => 7,
+        Refusal::Value => 8,
+        Refusal::Rule => 9,
+        Refusal::UnknownBound => 10,
+        Refusal::TooMany => 11,
+        Refusal::NotWritable => 12,
+        Refusal::NoRoom => 13,
+        Refusal::NoRow => 14,
+        Refusal::Total => 15,
     }
 }
 

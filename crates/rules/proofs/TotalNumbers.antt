@@ -5,7 +5,7 @@ use mathlib.Core.Bool.{Bool, true, false, not, cond}
 use mathlib.Core.List.{List, [], _∷_, _++_, flatMap}
 use native.Mathlib.Omega.{arith}
 use borrow.Author.Tests.{ltb-true, lt-ltb, le-ltb, leb-true, eqb-true, not-false}
-use lib.Dec.{ltb, eqb}
+use lib.Dec.{leb, ltb, eqb}
 use lib.ListN.{length, drop}
 use lib.IntN.{ℤ, pos, negsuc}
 use Rattle.rules.specs.Basics.{exists, every, isFrom}
@@ -22,7 +22,7 @@ use Rattle.rules.proofs.TotalRows.{or-false}
 pub total-read : (z : ℤ) → isInRange z ≡ true → totalIn (totalNumber z) ≡ z
 total-read (pos n) h = let l = leb-true n 9_000_000_000_000_000_000 h in rw (lt-ltb n (2 ^ 63) (omega arith))
 total-read (negsuc n) h =
-    let l = ltb-true n 9_000_000_000_000_000_000 h in
+    let l = leb-true n 8_999_999_999_999_999_999 (both-true (leb n 8_999_999_999_999_999_999) true h .0) in
     rw (le-ltb (2 ^ 64 - suc n) (2 ^ 63) (omega arith)) (ap negsuc (omega arith))
 
 pub total-written : (n : ℕ) → n < 2 ^ 64 → totalNumber (totalIn n) ≡ n

@@ -14,7 +14,7 @@ use Rattle.rules.specs.Parsers.{whole}
 use Rattle.rules.specs.Forms.{amountText, isCurrency, formFaults}
 use Rattle.rules.specs.Invariants.{isNull}
 use Rattle.rules.specs.Types.{Kind, MO, allTypes, hasType, typeAmong, lineOf}
-use Rattle.rules.specs.Judge.{Standing, top, attributeFaults, elementFaults}
+use Rattle.rules.specs.Judge.{Standing, top, attributeFaults, elementFaults, topFaults}
 use Rattle.rules.specs.Check.{shiftBy, elementOf, check}
 use Rattle.rules.specs.Comparison.{amountOf}
 use Rattle.rules.specs.Totals.{Entry, null, money, entryOf, notMoney, reading}
@@ -58,11 +58,10 @@ pub data EntryOf (attrs : List Attribute) : Type 0 where
   is-money : (c : List ℕ) (z : ℤ) → isNull attrs ≡ false → lookup (bytes "currency") attrs ≡ some c → isCurrency c ≡ true → amountOf attrs ≡ some z
       → entryOf attrs ≡ money c z → EntryOf attrs
 
-pub entry-cases : (offset : ℤ) (record′ : List ℕ) (e : Element) → check offset record′ ≡ answered e → hasType (e .attrs) MO ≡ true → EntryOf (e .attrs)
+pub entry-faultless : (shift : ℕ) (e : Element) → topFaults shift e ≡ [] → hasType (e .attrs) MO ≡ true → EntryOf (e .attrs)
 unfolding lineOf
-entry-cases offset record′ e c t =
-    let shift = shiftBy offset in
-    let f : elementFaults shift top (some MO) (e .attrs) (e .kids) _ ≡ [] = rw (type-money (e .attrs) t) at (check-faultless offset record′ c) in
+entry-faultless shift e c t =
+    let f : elementFaults shift top (some MO) (e .attrs) (e .kids) _ ≡ [] = rw (type-money (e .attrs) t) at c in
     let g = element-faultless shift top MO (e .attrs) (e .kids) _ f in
     go shift (e .attrs) (g .0) (isNull (e .attrs)) (lookup (bytes "currency") (e .attrs)) (lookup (bytes "value") (e .attrs)) refl refl refl (g .2)
   where
@@ -83,6 +82,9 @@ entry-cases offset record′ e c t =
         (not-false _ (when-none VALUE _ (attribute-faultless shift top MO (bytes "currency") (λ t. VALUE when not (isCurrency t)) (currency-faults shift) attrs c f l)))
         refl
         (not-false _ (when-none VALUE _ (attribute-faultless shift top MO (bytes "value") (λ t. VALUE when not (isSome (whole amountText t))) (value-faults shift) attrs text f m)))
+
+pub entry-cases : (offset : ℤ) (record′ : List ℕ) (e : Element) → check offset record′ ≡ answered e → hasType (e .attrs) MO ≡ true → EntryOf (e .attrs)
+entry-cases offset record′ e c t = entry-faultless (shiftBy offset) e (check-faultless offset record′ c) t
 
 module _ (offset : ℤ) (record′ : List ℕ) where
   -- answered exactly if the record is accepted and an MO, by what it says

@@ -3,9 +3,10 @@
 use Prim.Native.Nat.{ℕ, suc, _+_}
 use mathlib.Core.Bool.{Bool, true, false, not, _&&_, _||_, cond}
 use mathlib.Core.List.{List, [], _∷_, _++_}
-use lib.Dec.{leb, ltb, eqb}
+use lib.Dec.{ltb, eqb}
 use lib.ListN.{length}
-use lib.IntN.{ℤ, pos, negsuc, _+ℤ_}
+use lib.IntN.{ℤ, pos, negℤ, _+ℤ_}
+use lib.Signed.{leZ}
 use Rattle.rules.specs.Basics.{ifSome, find, exists, bytes, same}
 use Rattle.rules.specs.Refusal.{Refusal, TYPE, NO-ROW, TOTAL, DAMAGED, DAY-FULL, isSame, Outcome, answered, refused, faultsIn, _unless_, _when_, _andThen_}
 use Rattle.rules.specs.Markup.{Attribute, Element, lookup}
@@ -47,8 +48,7 @@ counted n = n .added + n .null + n .refused
 
 -- "within plus or minus 9,000,000,000,000,000,000"
 abbrev pub isInRange : ℤ → Bool
-isInRange (pos n) = leb n 9_000_000_000_000_000_000
-isInRange (negsuc n) = ltb n 9_000_000_000_000_000_000
+isInRange z = leZ (negℤ (pos 9_000_000_000_000_000_000)) z && leZ z (pos 9_000_000_000_000_000_000)
 
 abbrev pub isOf : List ℕ → Row → Bool
 isOf c r = same (r .currency) c

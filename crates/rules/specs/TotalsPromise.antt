@@ -1,14 +1,15 @@
 -- 02-change-requests.md, A6: when each answer is given, and what a table says at any moment of a day, in the request's words. The laws `posted` and
 -- `posted-only` say that the answers are these and no others, `reached-day` and `never-damaged` that a day is such.
-use Prim.Native.Nat.{ℕ, suc}
+use Prim.Native.Nat.{ℕ, suc, _+_, _*_, _^_}
 use mathlib.Core.Path.{_≡_}
 use mathlib.Core.Bool.{Bool, true, false, not, cond}
 use mathlib.Core.List.{List, [], _∷_, _++_, map}
+use lib.Dec.{eqb}
 use lib.ListN.{length}
 use lib.IntN.{ℤ, pos, _+ℤ_}
 use Rattle.rules.specs.Basics.{exists, same}
 use Rattle.rules.specs.Refusal.{Refusal, NO-ROW, TOTAL, DAMAGED, DAY-FULL, Outcome, answered, refused}
-use Rattle.rules.specs.Totals.{Row, Counts, Table, totalling, counting, table, emptyTable, counted, isInRange, isHeld, isDamaged, Entry, null, money, reading, newTotal, posting, isUncounted, isCounted, recorded}
+use Rattle.rules.specs.Totals.{Row, Counts, Table, totalling, counting, table, emptyTable, counted, isInRange, isHeld, isDamaged, Entry, null, money, reading, newTotal, posting, isUncounted, recorded}
 
 -- a record given, under an agreed offset
 pub record Call : Type 0 where
@@ -106,14 +107,15 @@ countsOf h = counting (howMany isAdded h) (howMany isNullAnswer h) (howMany isCo
 abbrev pub dayOf : History (Outcome Entry) → Table
 dayOf h = table (rowsOf h) (countsOf h)
 
--- what a table says at any moment of a day, by the answers given in it
-pub record IsDay (t : Table) (h : History (Outcome Entry)) : Type 0 where
+-- what a table says at any moment of a day, by the answers that were said in it, as numbers, and what they told
+pub record IsDay (t : Table) (said : History ℕ) (told : History (Outcome Entry)) : Type 0 where
   -- "each total is the sum of the amounts of that currency among the records answered "added" since the start"; "in the order in which their currencies
   -- were first added"; "A currency keeps its row at total zero."
-  pub totals : t .rows ≡ rowsOf h
+  pub totals : t .rows ≡ rowsOf told
   -- "each count is defined from the answers, and the three add up to the records given, save those answered 21 or 25"
-  pub counts : t .counts ≡ countsOf h
-  pub add-up : counted (t .counts) ≡ howMany isCounted h
+  pub added : t .counts .added ≡ howMany (λ a. eqb a (1 * 2 ^ 8)) said
+  pub null : t .counts .null ≡ howMany (λ a. eqb a (2 * 2 ^ 8)) said
+  pub add-up : counted (t .counts) + howMany (λ a. eqb a 21) said + howMany (λ a. eqb a 25) said ≡ howMany (λ a. true) said
   -- "Totals stay within plus or minus 9,000,000,000,000,000,000."
   pub in-range : exists (λ r. not (isInRange (r .total))) (t .rows) ≡ false
   -- it is never damaged

@@ -42,8 +42,8 @@ returns-2 : tie.Need-returns-2
 returns-2 c = λ l m g h.
     let told = c .before .before .before .before .before in
     let start = told .before .before .before .before in
-    let a = c .before .before .before .amount-at .ensures _ (g .placed (start .args .n) (start .pre .1 .1)) in
-    let b = c .before .amount-at2 .ensures _ (h .placed (start .args .n) (start .pre .1 .1)) in
+    let a = c .before .before .before .amount-at .ensures .1 _ (g .placed (start .args .n) (start .pre .1 .1)) in
+    let b = c .before .amount-at2 .ensures .1 _ (h .placed (start .args .n) (start .pre .1 .1)) in
     rw (told .enum-told2 .given .1) (carried sameAmount (c .same-amount .ensures) a b)
 
 pub same-value-spec : {M : Type 1} → statement M

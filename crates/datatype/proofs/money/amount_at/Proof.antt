@@ -1,12 +1,12 @@
--- `comparison::values::amount_at` meets its contract.
+-- `datatype::money::amount_at` meets its contract.
 use native.Mathlib.Omega.{arith}
 use Rattle.element.proofs.Asked.{absent, standing-to}
 use borrow.Author.Needs.{needs}
-use Rattle.comparison.proofs.values.amount_at.Statement.{statement}
-use Rattle.comparison.proofs.values.amount_at.Tie as tie
+use Rattle.datatype.proofs.money.amount_at.Statement.{statement}
+use Rattle.datatype.proofs.money.amount_at.Tie as tie
 
 returns : tie.Need-returns
-returns c = λ o p. rw (absent p (c .if1 .taken))
+returns c = (tt, λ o p. rw (absent p (c .if1 .taken)))
 
 end-requires : tie.Need-end-requires
 end-requires c κs = search needs
@@ -15,9 +15,12 @@ amount-requires : tie.Need-amount-requires
 amount-requires c κs = (c .end .ensures .0 (omega (arith, c .before .before .before .pre, c .before .if1 .left)), c .end .ensures .1 .0)
 
 returns-2 : tie.Need-returns-2
-returns-2 c = λ o p.
-    let (v, is, reads) = standing-to p (c .before .before .if1 .left) (c .before .end .ensures .1 .1) in
-    rw is (c .amount .ensures .1 v reads)
+returns-2 c = (
+  c .amount .ensures .0,
+  λ o p.
+      let (v, is, reads) = standing-to p (c .before .before .if1 .left) (c .before .end .ensures .1 .1) in
+      rw is (c .amount .ensures .1 v reads),
+)
 
 pub amount-at-spec : {M : Type 1} → statement M
 amount-at-spec = tie.close (tie.spec returns end-requires amount-requires returns-2)
