@@ -200,8 +200,8 @@ module _ {s t : Services} (p : Demands s) (q : Demands t) where
   same-report : (numbers report : List ℕ) → Lent 36 numbers → Lent 35 report
       → (s .report-says numbers ≡ t .report-says numbers) × (s .report-leaves numbers report ≡ t .report-leaves numbers report)
   same-report numbers report l m =
-      let (e, f) = reporting-only numbers report (p .totals .reports numbers report l m) in
-      let (g, h) = reporting-only numbers report (q .totals .reports numbers report l m) in
+      let (e, f) = reporting-only numbers report l (p .totals .reports numbers report l m) in
+      let (g, h) = reporting-only numbers report l (q .totals .reports numbers report l m) in
       (e ∙ sym g, f ∙ sym h)
 
   pub demands-agree : Same s t

@@ -1,8 +1,14 @@
 pub mod Answers
 pub mod Printing
 pub mod Years
+pub mod TotalsReadings
+pub mod TotalsNumbers
+pub mod TotalsDamage
+pub mod TotalsDays
+pub mod TotalsLimits
 pub mod Totals
 pub mod Demands
 pub mod Determined
 pub mod Unchanged
 pub mod Impostors
+pub mod TotalsImpostors

@@ -1,30 +1,37 @@
 -- The services keep what request A6 asks of a day's totals, and nothing else does.
-use Prim.Native.Nat.{ℕ, suc, _*_, _^_, _≤_}
+use Prim.Native.Nat.{ℕ, suc, _+_, _*_, _^_, _≤_}
 use mathlib.Core.Path.{_≡_, refl, sym, _∙_, ap, subst}
-use mathlib.Core.Logic.{_⊎_, inl, inr, _↔_}
-use mathlib.Core.Bool.{Bool, true, false, not, cond}
+use mathlib.Core.Logic.{_⊎_, inl, inr}
+use mathlib.Core.Bool.{Bool, true, false, not, _||_, cond}
 use mathlib.Core.List.{List, [], _∷_}
 use native.Mathlib.Omega.{arith}
-use borrow.Author.Tests.{ne-eqb}
-use lib.ListN.{length, getD, drop}
+use borrow.Author.Tests.{eqb-true, eqb-false, ne-eqb}
+use lib.Dec.{eqb}
+use lib.ListN.{length, getD, take, drop}
+use lib.Seq.{take-at}
 use lib.IntN.{ℤ}
-use Rattle.rules.specs.Basics.{exists, every}
+use Rattle.rules.specs.Basics.{exists}
 use Rattle.rules.specs.Refusal.{Refusal, NO-ROW, TOTAL, DAMAGED, DAY-FULL, number, Outcome, answered, refused}
 use Rattle.rules.specs.Services.{packed, lentAfter, overwrite}
-use Rattle.rules.specs.Totals.{Table, counting, counted, isDamaged, Entry, null, money, isUncounted, recorded, reporting}
-use Rattle.rules.specs.TotalNumbers.{is64, Lent, reportNumbers, entryNumber}
-use Rattle.rules.specs.TotalTables.{rowsIn, tableIn, tableNumbers, openedTable, numbersAfter, addAnswer, addAfter, reportAnswer, reportAfter}
-use Rattle.rules.specs.TotalsPromise.{Call, answerTo, Posted, damaged, full, faulty, a-null, no-row, out-of-range, added, History, beginning, _then_, reached, answers, IsDay}
+use Rattle.rules.specs.Totals.{Table, counting, isDamaged, Entry, null, money, isUncounted, recorded, reporting}
+use Rattle.rules.specs.TotalNumbers.{Lent, reportNumbers, entryNumber}
+use Rattle.rules.specs.TotalTables.{tableIn, tableNumbers, numbersAfter, addAnswer, addAfter, reportAnswer, reportAfter}
+use Rattle.rules.specs.TotalsPromise.{Call, answerTo, Posted, damaged, full, faulty, a-null, no-row, out-of-range, added}
 use Rattle.rules.proofs.Tests.{clash}
-use Rattle.rules.proofs.Precedence.{found-by-number, number-injective}
-use Rattle.rules.proofs.ListingPromise.{small, low-bits, count-bits}
+use Rattle.rules.proofs.Precedence.{number-injective}
+use Rattle.rules.proofs.ListingPromise.{low-bits, count-bits}
 use Rattle.rules.proofs.TotalReading.{reading-refusals}
-use Rattle.rules.proofs.Totals.{Proper, undamaged, posted, posted-only, posted-undamaged, exactly-damaged, exactly-full, exactly-no-row, exactly-total, step-proper, reached-proper, reached-day, counts-add-up, never-damaged}
-use Rattle.rules.proofs.TotalTables.{table-written, numbers-say, numbers-lent}
-use Rattle.demands.specs.Services.{Services, services, isAmong, Answers, accepts, refuses}
+use Rattle.rules.proofs.Totals.{undamaged, posted, posted-only, posted-undamaged, exactly-damaged, exactly-full, exactly-no-row, exactly-total}
+use Rattle.rules.proofs.TotalNumbers.{row-numbers}
+use Rattle.rules.proofs.TotalTables.{table-written}
+use Rattle.demands.specs.Services.{services, isAmong, Answers, accepts, refuses}
 use Rattle.demands.specs.Demands.{addRefusals}
-use Rattle.demands.specs.Totals.{raised, Adding, not-counted, refused-record, null-record, added-record, Exactly, Reporting, told, tableAt, toldIn, TotalsPromise}
+use Rattle.demands.specs.Totals.{raised, Adding, damaged-table, full-day, refused-record, null-record, added-record, Exactly, Reporting, TotalsPromise}
 use Rattle.demands.proofs.Answers.{iff-trans, packed-answers, record-among}
+use Rattle.demands.proofs.TotalsReadings.{reads, amount-read}
+use Rattle.demands.proofs.TotalsDamage.{damage-is, row-says}
+use Rattle.demands.proofs.TotalsDays.{packed-number, table-lent, is-day}
+use Rattle.demands.proofs.TotalsLimits.{limits-of}
 
 -- four numbers, and those after them
 four : (numbers : List ℕ) → length numbers ≡ 36 → getD numbers 0 0 ∷ getD numbers 1 0 ∷ getD numbers 2 0 ∷ getD numbers 3 0 ∷ drop 4 numbers ≡ numbers
@@ -50,20 +57,28 @@ module _ (numbers : List ℕ) (lent : Lent 36 numbers) where
   null-after d =
       table-written numbers lent (undamaged t .0 d) (counting (t .counts .added) (suc (t .counts .null)) (t .counts .refused)) ∙ ap (raised 2) (four numbers (lent .long))
 
-  counted-undamaged : (k : Call) (r : Refusal) → Posted k t (refused r) → isUncounted r ≡ false → isDamaged t ≡ false
-  counted-undamaged k r h u = posted-undamaged k t h (λ e. let z : r ≡ DAMAGED = cc in let v : isUncounted DAMAGED ≡ false = rw z at u in clash (cc))
-
   null-undamaged : (k : Call) → Posted k t (answered null) → isDamaged t ≡ false
   null-undamaged k h = posted-undamaged k t h (λ e. clash (cc))
+
+  counted-undamaged : (k : Call) {r : Refusal} → Posted k t (refused r) → (r ≡ DAMAGED → ⊥) → isDamaged t ≡ false
+  counted-undamaged k h n = posted-undamaged k t h (λ e. n (cc))
+
+  counted-refusal : (r : Refusal) → (r ≡ DAMAGED → ⊥) → (r ≡ DAY-FULL → ⊥) → isUncounted r ≡ false
+  counted-refusal r n m =
+      rw (ne-eqb (number r) 21 (λ e. n (number-injective r DAMAGED e)), ne-eqb (number r) 25 (λ e. m (number-injective r DAY-FULL e)))
 
   adding : (k : Call) (o : Outcome Entry) → Posted k t o → Adding numbers k (packed entryNumber o) (numbersAfter o numbers)
   adding k (answered null) h = rw (null-after (null-undamaged k h)) (null-record h)
   adding k (answered (money c z)) h = added-record h
-  adding k (refused r) h = go (isUncounted r) refl
+  adding k (refused r) h = go (eqb (number r) 21) (eqb (number r) 25) refl refl
     where
-      go : (b : Bool) → isUncounted r ≡ b → Adding numbers k (number r) (cond (not b) (written (refused r)) numbers)
-      go true u = not-counted h u
-      go false u = subst (Adding numbers k (number r)) (sym (refused-after r u (counted-undamaged k r h u))) (refused-record h u)
+      go : (a b : Bool) → eqb (number r) 21 ≡ a → eqb (number r) 25 ≡ b → Adding numbers k (number r) (cond (not (a || b)) (written (refused r)) numbers)
+      go true b e f = let z = number-injective r DAMAGED (eqb-true (number r) 21 e) in rw z (damaged-table (rw z at h))
+      go false true e f = let z = number-injective r DAY-FULL (eqb-true (number r) 25 f) in rw z (full-day (rw z at h))
+      go false false e f =
+          let n : r ≡ DAMAGED → ⊥ = λ z. eqb-false (number r) 21 e (ap number z) in
+          let m : r ≡ DAY-FULL → ⊥ = λ z. eqb-false (number r) 25 f (ap number z) in
+          subst (Adding numbers k (number r)) (sym (refused-after r (counted-refusal r n m) (counted-undamaged k h n))) (refused-record h n m)
 
   -- and no other answer, nor other numbers
   given : (k : Call) {o : Outcome Entry} {a : ℕ} {x : List ℕ} → Posted k t o → a ≡ packed entryNumber o → x ≡ numbersAfter o numbers
@@ -71,18 +86,26 @@ module _ (numbers : List ℕ) (lent : Lent 36 numbers) where
   given k h e f = let g = sym (posted-only k t h) in (e ∙ ap (packed entryNumber) g, f ∙ ap (λ o. numbersAfter o numbers) g)
 
   pub adding-only : (k : Call) {a : ℕ} {x : List ℕ} → Adding numbers k a x → (a ≡ addAnswer (k .offset) (k .record′) numbers) × (x ≡ addAfter (k .offset) (k .record′) numbers)
-  adding-only k (not-counted {r = r} h u) = given k h refl (sym (ap (λ b. cond (not b) (written (refused r)) numbers) u))
-  adding-only k (refused-record {r = r} h u) =
-      given k h refl (sym (ap (λ b. cond (not b) (written (refused r)) numbers) u ∙ refused-after r u (counted-undamaged k r h u)))
+  adding-only k (damaged-table h) = given k h refl refl
+  adding-only k (full-day h) = given k h refl refl
+  adding-only k (refused-record {r = r} h n m) =
+      let u = counted-refusal r n m in
+      given k h refl (sym (ap (λ b. cond (not b) (written (refused r)) numbers) u ∙ refused-after r u (counted-undamaged k h n)))
   adding-only k (null-record h) = given k h refl (sym (null-after (null-undamaged k h)))
   adding-only k (added-record h) = given k h refl refl
 
--- a refusal is told by its number
-packed-number : (o : Outcome Entry) (r : Refusal) → packed entryNumber o ≡ number r ↔ o ≡ refused r
-packed-number (answered null) r = (λ e. clash (omega (arith, small r, e)), λ e. clash (cc))
-packed-number (answered (money c z)) r = (λ e. clash (omega (arith, small r, e)), λ e. clash (cc))
-packed-number (refused q) r = (λ e. ap refused (number-injective q r e), λ e. let z : q ≡ r = cc in ap number z)
+  abbrev held : ℕ
+  held = getD numbers 0 0
 
+  -- what an undamaged table says are its own numbers
+  own-numbers : isDamaged t ≡ false → (length (t .rows) ≡ held) × (reportNumbers t ≡ take (3 + 2 * held) (drop 1 numbers))
+  own-numbers d =
+      let e : overwrite numbers (tableNumbers t) ≡ numbers = table-written numbers lent (undamaged t .0 d) (t .counts) ∙ four numbers (lent .long) in
+      let f : length (t .rows) ≡ held = ap (λ l. getD l 0 0) e in
+      let g : length (reportNumbers t) ≡ 3 + 2 * held = omega (arith, row-numbers (t .rows), f) in
+      (f, sym (take-at (reportNumbers t) (drop (length (tableNumbers t)) numbers) (3 + 2 * held) g) ∙ ap (λ l. take (3 + 2 * held) (drop 1 l)) e)
+
+-- 21, 25, 16 and 17 are given exactly if what they are for is so
 is-exact : (k : Call) (t : Table) → Exactly t k (packed entryNumber (answerTo k t))
 is-exact k t = record {
   damaged = iff-trans (packed-number (answerTo k t) DAMAGED) (exactly-damaged k t);
@@ -91,9 +114,15 @@ is-exact k t = record {
   total = iff-trans (packed-number (answerTo k t) TOTAL) (exactly-total k t);
 }
 
-module _ (numbers before : List ℕ) where
+-- reporting
+module _ (numbers before : List ℕ) (lent : Lent 36 numbers) where
   abbrev Reports : Outcome Table → Type 0
   Reports o = Reporting numbers before (packed (λ t. length (t .rows)) o) (lentAfter (λ t. overwrite before (reportNumbers t)) o before)
+
+  owned : isDamaged (tableIn numbers) ≡ false
+      → (getD numbers 0 0 * 2 ^ 8 ≡ length (tableIn numbers .rows) * 2 ^ 8)
+      × (overwrite before (take (3 + 2 * getD numbers 0 0) (drop 1 numbers)) ≡ overwrite before (reportNumbers (tableIn numbers)))
+  owned d = let (e, f) = own-numbers numbers lent d in (ap (λ n. n * 2 ^ 8) (sym e), ap (overwrite before) (sym f))
 
   reporting-says : Reporting numbers before (reportAnswer numbers) (reportAfter numbers before)
   unfolding reporting
@@ -101,74 +130,28 @@ module _ (numbers before : List ℕ) where
     where
       go : (b : Bool) → isDamaged (tableIn numbers) ≡ b → Reports (cond b (refused DAMAGED) (answered (tableIn numbers)))
       go true d = Reporting.damaged d
-      go false d = Reporting.reported d
+      go false d =
+          let (e, f) = owned d in
+          subst (λ a. Reporting numbers before a (overwrite before (reportNumbers (tableIn numbers)))) e (subst (Reporting numbers before _) f (Reporting.reported d))
 
   pub reporting-only : {a : ℕ} {x : List ℕ} → Reporting numbers before a x → (a ≡ reportAnswer numbers) × (x ≡ reportAfter numbers before)
   unfolding reporting
   reporting-only (Reporting.damaged d) = rw d (refl, refl)
-  reporting-only (Reporting.reported d) = rw d (refl, refl)
-
--- an answer is told as it is
-told-refusal : (k : Call) (r : Refusal) → told k (number r) ≡ refused r
-told-refusal k r =
-    let l = small r in
-    rw (ne-eqb (number r) (1 * 2 ^ 8) (λ e. omega arith), ne-eqb (number r) (2 * 2 ^ 8) (λ e. omega arith), found-by-number r)
-
-told-is : (k : Call) (t : Table) {o : Outcome Entry} → Posted k t o → told k (packed entryNumber o) ≡ o
-told-is k t (damaged d) = told-refusal k DAMAGED
-told-is k t (full d f) = told-refusal k DAY-FULL
-told-is k t (faulty u {r = r} h) = told-refusal k r
-told-is k t (a-null u h) = refl
-told-is k t (no-row u h n) = told-refusal k NO-ROW
-told-is k t (out-of-range u h n i) = told-refusal k TOTAL
-told-is k t (added u h n i) = h
-
-zeros : every is64 openedTable ≡ true
-unfolding every
-zeros = refl
-
--- at any moment of a day: 36 numbers of 64 bits, and what they say
-module _ (before : List ℕ) where
-  abbrev at : History Call → List ℕ
-  at = tableAt services before
-
-  record Moment (h : History Call) : Type 0 where
-    long : Lent 36 (at h)
-    says : tableIn (at h) ≡ reached h
-
-  moment : (h : History Call) → Moment h
-  unfolding tableAt reached rowsIn
-  moment beginning = record { long = record { long = refl; bits = zeros }; says = refl }
-  moment (h then k) =
-      let m = moment h in
-      let o = answerTo k (tableIn (at h)) in
-      let p : Proper (recorded o (tableIn (at h))) = step-proper k (tableIn (at h)) (rw (m .says) (reached-proper h)) (posted k (tableIn (at h))) in
-      record { long = numbers-lent (at h) (m .long) o p; says = numbers-say (at h) o p ∙ ap (λ t. recorded (answerTo k t) t) (m .says) }
-
-  told-answers : (h : History Call) → toldIn services before h ≡ answers h
-  unfolding toldIn answers
-  told-answers beginning = refl
-  told-answers (h then k) =
-      let e = told-is k (tableIn (at h)) (posted k (tableIn (at h))) in
-      cc (told-answers h, moment h .says)
-
-  is-day : (h : History Call) → IsDay (tableIn (at h)) (toldIn services before h)
-  is-day h = rw (moment h .says, told-answers h) (record {
-    totals = ap (λ t. t .rows) (reached-day h);
-    counts = ap (λ t. t .counts) (reached-day h);
-    add-up = ap (λ t. counted (t .counts)) (reached-day h) ∙ counts-add-up (answers h);
-    in-range = reached-proper h .within;
-    undamaged = never-damaged h;
-  })
+  reporting-only (Reporting.reported d) = rw d (owned d)
 
 pub totals-kept : TotalsPromise services
 totals-kept = record {
+  readings = reads;
+  amounts = amount-read;
   opens = λ numbers l. (refl, refl);
   days = λ before l h. is-day before h;
-  tables = λ before l h. moment before h .long;
+  limits = λ before l h. limits-of before h;
+  tables = λ before l h. table-lent before h;
   adds = λ numbers l k. adding numbers l k (answerTo k (tableIn numbers)) (posted k (tableIn numbers));
+  damage = damage-is;
+  rows = row-says;
   exactly = λ numbers l k. is-exact k (tableIn numbers);
-  reports = λ numbers before l m. reporting-says numbers before;
+  reports = λ numbers before l m. reporting-says numbers before l;
 }
 
 -- demand 1 of adding and reporting
@@ -190,9 +173,17 @@ module _ (offset : ℤ) (record′ numbers : List ℕ) where
   one-or-two null = inr refl
   one-or-two (money c z) = inl refl
 
-  pub add-answers : Answers addRefusals (λ n. (n ≡ 1) ⊎ (n ≡ 2)) (Unit {0}) (addAnswer offset record′ numbers)
+  -- 21 and 25 keep the table
+  kept : (o : Outcome Entry) → (packed entryNumber o ≡ 21) ⊎ (packed entryNumber o ≡ 25) → numbersAfter o numbers ≡ numbers
+  kept o (inl e) = ap (λ o. numbersAfter o numbers) (packed-number o DAMAGED .0 e)
+  kept o (inr e) = ap (λ o. numbersAfter o numbers) (packed-number o DAY-FULL .0 e)
+
+  pub add-answers : Answers addRefusals (λ n. (n ≡ 1) ⊎ (n ≡ 2))
+      ((addAnswer offset record′ numbers ≡ 21) ⊎ (addAnswer offset record′ numbers ≡ 25) → addAfter offset record′ numbers ≡ numbers)
+      (addAnswer offset record′ numbers)
   add-answers =
-      packed-answers entryNumber (answerTo k (tableIn numbers)) (λ e h. one-or-two e) (λ r h. (among (posted k (tableIn numbers)) r h, tt))
+      let o = answerTo k (tableIn numbers) in
+      packed-answers entryNumber o (λ e h. one-or-two e) (λ r h. (among (posted k (tableIn numbers)) r h, kept o))
 
 module _ (numbers report : List ℕ) where
   abbrev ReportAnswers : Outcome Table → Type 0

@@ -1,7 +1,7 @@
 -- 02-change-requests.md, A6, "A day's takings, exact", in its order and words, as statements about the services.
 use Prim.Native.Nat.{ℕ, suc, _+_, _-_, _*_, _^_, _≤_, _<_}
 use mathlib.Core.Path.{_≡_}
-use mathlib.Core.Logic.{_↔_}
+use mathlib.Core.Logic.{_⊎_, _↔_}
 use mathlib.Core.Bool.{Bool, true, false, cond}
 use mathlib.Core.List.{List, [], _∷_, _++_}
 use mathlib.Core.Option.{some}
@@ -18,7 +18,7 @@ use Rattle.rules.specs.Types.{MO, hasType}
 use Rattle.rules.specs.Check.{elementOf, check}
 use Rattle.rules.specs.Comparison.{amountOf}
 use Rattle.rules.specs.Services.{overwrite}
-use Rattle.rules.specs.Totals.{Table, counted, isInRange, isDamaged, Entry, null, money, notMoney, newTotal, recorded}
+use Rattle.rules.specs.Totals.{Row, Table, counted, isInRange, isDamaged, Entry, null, money, notMoney, newTotal, recorded}
 use Rattle.rules.specs.TotalNumbers.{Lent}
 use Rattle.rules.specs.TotalTables.{tableIn, tableNumbers}
 use Rattle.rules.specs.TotalsPromise.{Call, readingOf, IsUsable, HasNoRow, Posted, History, beginning, _then_, sumAdded, currenciesAdded, IsDay}
@@ -81,6 +81,11 @@ IsCapital b = (65 ≤ b) × (b ≤ 90)
 
 abbrev pub AreCapitals : ℕ → Type 0
 AreCapitals n = (a b c : ℕ) × IsCapital a × IsCapital b × IsCapital c × (n ≡ a + 256 * b + 65_536 * c)
+
+-- a row as C has it: its letters, the first in the lowest byte, and its total in two's complement
+pub record IsRow (r : Row) (currency total : ℕ) : Type 0 where
+  pub letters : (a b c : ℕ) × (r .currency ≡ a ∷ b ∷ c ∷ []) × (currency ≡ a + 256 * b + 65_536 * c)
+  pub amount : (r .total ≡ pos total) ⊎ ((n : ℕ) × (r .total ≡ negℤ (pos n)) × (total + n ≡ 2 ^ 64))
 
 pub data IsDamaged (numbers : List ℕ) : Type 0 where
   -- "over 16 rows"
@@ -153,5 +158,8 @@ pub record TotalsPromise (s : Services) : Type 0 where
   pub adds : (numbers : List ℕ) → Lent 36 numbers → (k : Call)
       → Adding numbers k (s .add-says (k .offset) (k .record′) numbers) (s .add-leaves (k .offset) (k .record′) numbers)
   pub damage : (numbers : List ℕ) → Lent 36 numbers → isDamaged (tableIn numbers) ≡ true ↔ IsDamaged numbers
+  -- what the rows of an undamaged table are
+  pub rows : (numbers : List ℕ) → Lent 36 numbers → isDamaged (tableIn numbers) ≡ false → (i : ℕ) → i < getD numbers 0 0
+      → (r : Row) × (take 1 (drop i (tableIn numbers .rows)) ≡ r ∷ []) × IsRow r (currencyAt numbers i) (totalAt numbers i)
   pub exactly : (numbers : List ℕ) → Lent 36 numbers → (k : Call) → Exactly (tableIn numbers) k (s .add-says (k .offset) (k .record′) numbers)
   pub reports : (numbers before : List ℕ) → Lent 36 numbers → Lent 35 before → Reporting numbers before (s .report-says numbers) (s .report-leaves numbers before)

@@ -13,13 +13,13 @@ use Rattle.rules.specs.Types.{Kind, allTypes, typeAmong}
 use Rattle.rules.specs.Judge.{elementFaults, topFaults}
 use Rattle.rules.specs.Utf8.{isUtf8}
 use Rattle.rules.specs.Check.{isOffset, shiftBy, isTooLong, elementOf, recordFaults, check}
-use Rattle.rules.specs.ListingPromise.{isListed}
 use Rattle.rules.proofs.Tests.{clash}
 use Rattle.rules.proofs.Precedence.{earlier-assoc, earlier-comm, check-answered}
 use Rattle.datatype.specs.Records.{RecordOf}
 use Rattle.judge.specs.Faults.{inputFaults}
 use Rattle.judge.specs.Checks.{CheckedAs}
 use Rattle.judge.specs.declared.Checked.{Checked}
+use Rattle.rigcactus.specs.Faults.{AllowedAs}
 
 none-of : (a b : List Refusal) → (a ++ b) ≡ [] → (a ≡ []) × (b ≡ [])
 none-of [] b e = (refl, e)
@@ -68,10 +68,9 @@ module _ {shift : ℕ} {input : List ℕ} (r : Checked) (h : CheckedAs input shi
       long true p = inr (rw p (before TOO-LONG (firstOf (NOT-UTF-8 when not (isUtf8 input) ++ faultsIn (topFaults shift) (elementOf input))) refl))
       long false p = whole (isUtf8 input) refl p
 
-  -- whether its type can be listed
-  pub listed-or-typeless : {b : Bool} → ((s : List ℕ) (e : Element) → RecordOf s e (r .«record») → b ≡ isListed e) → (e : Element) → document input ≡ some e
-      → (b ≡ isListed e) ⊎ Typeless (firstOf (inputFaults shift input))
-  listed-or-typeless told e d = elim (held-or-typeless e d) [
+  -- whether its type is allowed
+  pub allowed-or-typeless : (may : Element → Bool) {b : Bool} → AllowedAs r b may → (e : Element) → document input ≡ some e → (b ≡ may e) ⊎ Typeless (firstOf (inputFaults shift input))
+  allowed-or-typeless may told e d = elim (held-or-typeless e d) [
     | inl x ↦ inl (told input e x)
     | inr x ↦ inr x
   ]

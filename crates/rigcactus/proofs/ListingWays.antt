@@ -23,48 +23,8 @@ use Rattle.judge.specs.Faults.{inputFaults}
 use Rattle.listing.specs.Answers.{listedMeant, Answers}
 use Rattle.listing.specs.declared.Listed.{Listed}
 use Rattle.listing.proofs.Serving.{Serves, serves-list}
-use Rattle.rigcactus.specs.Faults.{listingFaults}
+use Rattle.rigcactus.specs.Faults.{typedFaults}
 use Rattle.rigcactus.proofs.Checking.{record-offset, record-input}
-
--- the first fault of what is to be listed, from the first as a record and from whether its type can be listed
-module _ (shift : ℕ) (input : List ℕ) {b : Bool} {x : Option Refusal} (told : (e : Element) → document input ≡ some e → (b ≡ isListed e) ⊎ (earlier (firstOf (inputFaults shift input)) (some TYPE) ≡ firstOf (inputFaults shift input)))
-    (fault : x ≡ firstOf (inputFaults shift input)) where
-  abbrev first : Option Refusal
-  first = firstOf (inputFaults shift input)
-
-  -- with MARKUP once more, and with TYPE where the type can't be listed
-  no-document : document input ≡ none → (q : Refusal) → earlier (some MARKUP) (some q) ≡ some MARKUP → earlier first (some q) ≡ first
-  unfolding firstOf
-  no-document d q h =
-      rw (d, firstOf-append (TOO-LONG when isTooLong input ++ NOT-UTF-8 when not (isUtf8 input)) (MARKUP ∷ []))
-      (earlier-assoc (firstOf (TOO-LONG when isTooLong input ++ NOT-UTF-8 when not (isUtf8 input))) (some MARKUP) (some q) ∙ ap (earlier (firstOf (TOO-LONG when isTooLong input ++ NOT-UTF-8 when not (isUtf8 input)))) h)
-
-  typeless : (c : Bool) → earlier first (some TYPE) ≡ first → earlier first (firstOf (TYPE when c)) ≡ first
-  unfolding firstOf
-  typeless true h = h
-  typeless false h = earlier-none-right first
-
-  pub fault-listed : b ≡ true → x ≡ firstOf (listingFaults shift input)
-  unfolding firstOf rankIn
-  fault-listed t = fault ∙ sym (firstOf-append (inputFaults shift input) _ ∙ go (document input) refl)
-    where
-      go : (o : Option Element) → document input ≡ o → earlier first (firstOf (faultsIn unlisted (ifSome o answered (refused MARKUP)))) ≡ first
-      go none d = no-document d MARKUP refl
-      go (some e) d = elim (told e d) [
-        | inl w ↦ rw (sym w ∙ t) (earlier-none-right first)
-        | inr w ↦ typeless (not (isListed e)) w
-      ]
-
-  pub fault-unlisted : b ≡ false → {y : Option Refusal} → y ≡ earlier x (some TYPE) → y ≡ firstOf (listingFaults shift input)
-  unfolding firstOf rankIn
-  fault-unlisted t {y} h = h ∙ ap (λ (z : Option Refusal). earlier z (some TYPE)) fault ∙ sym (firstOf-append (inputFaults shift input) _ ∙ go (document input) refl)
-    where
-      go : (o : Option Element) → document input ≡ o → earlier first (firstOf (faultsIn unlisted (ifSome o answered (refused MARKUP)))) ≡ earlier first (some TYPE)
-      go none d = no-document d MARKUP refl ∙ sym (no-document d TYPE refl)
-      go (some e) d = elim (told e d) [
-        | inl w ↦ rw (sym w ∙ t)
-        | inr w ↦ typeless (not (isListed e)) w ∙ sym w
-      ]
 
 module _ (offset : ℤ) (input list : List ℕ) where
   serves : {q : Refusal} → listing offset (roomOf list) input ≡ refused q → Serves offset input list (number q) list
@@ -75,15 +35,15 @@ module _ (offset : ℤ) (input list : List ℕ) where
   list-offset e = serves (listing-faulty-early offset (roomOf list) input OFFSET (check-refused offset input OFFSET .1 (record-offset offset input e)) (omega arith))
 
   module _ {shift : ℕ} (fine : isOffset offset ≡ true) (by : shift ≡ shiftBy offset) where
-    split : {o : Option Refusal} → o ≡ firstOf (listingFaults shift input) → o ≡ earlier (firstOf (recordFaults offset input)) (firstOf (faultsIn unlisted (elementOf input)))
+    split : {o : Option Refusal} → o ≡ firstOf (typedFaults isListed shift input) → o ≡ earlier (firstOf (recordFaults offset input)) (firstOf (faultsIn unlisted (elementOf input)))
     split h = h ∙ firstOf-append (inputFaults shift input) _ ∙ rw (by, ← record-input offset input fine)
 
     -- a record that is accepted has no fault but for its type
-    type-fault : (e : Element) → check offset input ≡ answered e → {o : Option Refusal} → o ≡ firstOf (listingFaults shift input) → o ≡ firstOf (TYPE when not (isListed e))
+    type-fault : (e : Element) → check offset input ≡ answered e → {o : Option Refusal} → o ≡ firstOf (typedFaults isListed shift input) → o ≡ firstOf (TYPE when not (isListed e))
     unfolding firstOf
     type-fault e a h = let (d, n) = check-answered offset input e .0 a in split h ∙ rw (n, d)
 
-    pub list-refused : {q : Refusal} → some q ≡ firstOf (listingFaults shift input) → Serves offset input list (number q) list
+    pub list-refused : {q : Refusal} → some q ≡ firstOf (typedFaults isListed shift input) → Serves offset input list (number q) list
     unfolding firstOf
     list-refused {q} h = go (check offset input) refl
       where
@@ -95,7 +55,7 @@ module _ (offset : ℤ) (input list : List ℕ) where
         go (refused r) f = serves (listing-faulty offset (roomOf list) input r f (sym (split h ∙ rw (check-refused offset input r .0 f))))
         go (answered e) a = typed e a (isListed e) refl (type-fault e a h)
 
-    pub list-answered : {r : Listed} {after : List ℕ} → none ≡ firstOf (listingFaults shift input)
+    pub list-answered : {r : Listed} {after : List ℕ} → none ≡ firstOf (typedFaults isListed shift input)
         → ((e : Element) → check offset input ≡ answered e → topFaults shift e ≡ [] → isListed e ≡ true → Answers (listElement shift (roomOf list) e) list r after)
         → Serves offset input list (packed (λ n. n) (listedMeant r)) after
     unfolding firstOf

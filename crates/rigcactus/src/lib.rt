@@ -15,7 +15,10 @@ ghost use Rattle.comparison.specs.Meaning.{answerMeant, comparedMeant};
 ghost use Rattle.listing.specs.Answers.{Few, listedMeant};
 ghost use Rattle.demands.specs.Services.{services};
 ghost use Rattle.judge.specs.Checks.{CheckedAs};
-ghost use Rattle.rigcactus.specs.Faults.{listingFaults};
+ghost use Rattle.rules.specs.Markup.{Element};
+ghost use Rattle.rules.specs.Totals.{reading};
+ghost use Rattle.totals.specs.Readings.{Readable, readingMeant};
+ghost use Rattle.rigcactus.specs.Faults.{typedFaults, AllowedAs};
 use comparison::Answer;
 use comparison::Compared;
 use judge::Checked;
@@ -24,6 +27,12 @@ use refusal::Refusal;
 use refusal::Verdict;
 use timestamp::Timestamp;
 use timestamp::tick::Tick;
+use totals::damage::is_damaged;
+use totals::damage::is_full;
+use totals::entry;
+use totals::entry::Reading;
+use totals::numbers;
+use totals::post::post;
 
 // The longest input that is read, in bytes.
 const MOST: usize = 16_384;
@@ -81,13 +90,12 @@ pub extern "C" fn rigcactus_check(record: &[u8], offset: i64) -> u64
     verdict_number(fault)
 }
 
-// The first fault of a checked record that is to be listed.
-fn listing_fault(checked: Checked) -> Verdict
-    ensures { λ r. ⌜ ((shift : ℕ) (input : List ℕ) → CheckedAs input shift checked → faultOf r ≡ firstOf (listingFaults shift input)) ⌝ }
+// The first fault of a checked record, with TYPE among its faults unless its type is one that is allowed.
+fn typed_fault(checked: Checked, allowed: bool) -> Verdict
+    ensures { λ r. ⌜ ((shift : ℕ) (input : List ℕ) (may : Element → Bool) → CheckedAs input shift checked → AllowedAs checked allowed may → faultOf r ≡ firstOf (typedFaults may shift input)) ⌝ }
 {
     let fault = checked.fault;
-    let held = checked.record;
-    if listing::is_listed(held) {
+    if allowed {
         return fault;
     }
     refusal::first(fault, Verdict::Refused(Refusal::Type))
@@ -116,11 +124,11 @@ pub extern "C" fn rigcactus_list(record: &[u8], offset: i64, list: &mut [u8]) ->
     }
     let shift = shift_of(offset);
     let checked = judge::check(record, shift);
-    let fault = listing_fault(checked);
+    let held = checked.record;
+    let fault = typed_fault(checked, listing::is_listed(held));
     if let Verdict::Refused(r) = fault {
         return refusal::number(r);
     }
-    let held = checked.record;
     let listed = listing::list(record, held, shift, list);
     listed_number(listed)
 }
@@ -240,4 +248,65 @@ pub extern "C" fn rigcactus_tick(text: &[u8], offset: i64, tick: &mut i64) -> u6
     };
     *tick = signed_tick(m.start);
     m.precision * 256
+}
+
+// What a record says of money: the reading of an MO, or the first refusal of the ladder, on which another type is TYPE.
+fn read_money(record: &[u8], offset: i64) -> Reading
+    ensures { λ r. ⌜ Readable r × (readingMeant r ≡ reading offset (now («record» .entry))) ⌝ }
+{
+    if !is_offset(offset) {
+        return Reading::Refused(Refusal::Offset);
+    }
+    let checked = judge::check(record, shift_of(offset));
+    let held = checked.record;
+    let fault = typed_fault(checked, entry::is_money(held));
+    if let Verdict::Refused(r) = fault {
+        return Reading::Refused(r);
+    }
+    entry::read(record, held)
+}
+
+// Opens a table of a day's totals: all its numbers are 0. Always answers 0.
+#[no_mangle]
+pub extern "C" fn rigcactus_totals_open(table: &mut [u64; 36]) -> u64
+    ensures { λ r. ⌜ r ≡ services .open-says (now (table .entry)) ⌝ }
+    ensures { λ r. ⌜ now (table .exit) ≡ services .open-leaves (now (table .entry)) ⌝ }
+{
+    *table = [0; 36];
+    0
+}
+
+// Adds a record to a day's totals. Bits 0 to 7 of the answer are the refusal's number, 0 if the record is accepted; bits 8 to 15 are 1 if it
+// was added, 2 if it is null. A table that is damaged or full stays as it was; else the record is counted, a refused one too.
+#[no_mangle]
+pub extern "C" fn rigcactus_totals_add(table: &mut [u64; 36], record: &[u8], offset: i64) -> u64
+    ensures { λ r. ⌜ r ≡ services .add-says offset (now («record» .entry)) (now (table .entry)) ⌝ }
+    ensures { λ r. ⌜ now (table .exit) ≡ services .add-leaves offset (now («record» .entry)) (now (table .entry)) ⌝ }
+{
+    let before = *table;
+    let t = numbers::taken(before);
+    if is_damaged(t) {
+        return refusal::number(Refusal::Damaged);
+    }
+    if is_full(t) {
+        return refusal::number(Refusal::DayFull);
+    }
+    let posted = post(t, read_money(record, offset));
+    *table = numbers::write(posted.table, before);
+    posted.answer
+}
+
+// Reports a day's totals. Bits 0 to 7 of the answer are the refusal's number, 0 if the table is not damaged; the other bits are how many rows
+// it holds. The report then begins with the counts of records added, null and refused, and currency and total of each row.
+#[no_mangle]
+pub extern "C" fn rigcactus_totals_report(table: &[u64; 36], report: &mut [u64; 35]) -> u64
+    ensures { λ r. ⌜ r ≡ services .report-says (now (table .entry)) ⌝ }
+    ensures { λ r. ⌜ now (report .exit) ≡ services .report-leaves (now (table .entry)) (now (report .entry)) ⌝ }
+{
+    let t = numbers::taken(*table);
+    if is_damaged(t) {
+        return refusal::number(Refusal::Damaged);
+    }
+    *report = numbers::report(t, *report);
+    (t.held as u64) * 256
 }

@@ -14,9 +14,8 @@ use Rattle.rules.specs.LentLists.{isByte, unsigned}
 use Rattle.rules.specs.Services.{lowBytes}
 use Rattle.rules.specs.Totals.{Row, isInRange}
 use Rattle.rules.specs.TotalNumbers.{is64, totalNumber, totalIn, currencyNumber, currencyIn, rowNumbers}
-use Rattle.rules.proofs.Tests.{clash, both-true, every-true, isFrom-true}
+use Rattle.rules.proofs.Tests.{clash, neither, both-true, every-true, isFrom-true}
 use Rattle.rules.proofs.LentLists.{unsigned-low, unsigned-below, low-unsigned}
-use Rattle.rules.proofs.TotalRows.{or-false}
 
 -- a total
 pub total-read : (z : ℤ) → isInRange z ≡ true → totalIn (totalNumber z) ≡ z
@@ -78,8 +77,8 @@ pub rows-small : (rows : List Row) → exists (λ r. not (isCurrency (r .currenc
 unfolding exists every flatMap
 rows-small [] f w = refl
 rows-small (r ∷ rows) f w =
-    let (a, b) = or-false _ _ f in
-    let (c, d) = or-false _ _ w in
+    let (a, b) = neither _ _ f in
+    let (c, d) = neither _ _ w in
     rw (lt-ltb _ (2 ^ 64) (currency-64 (r .currency) (not-false _ a)), lt-ltb _ (2 ^ 64) (total-small (r .total) (not-false _ c)), rows-small rows b d)
 
 -- numbers of 64 bits stay so

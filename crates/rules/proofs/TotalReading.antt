@@ -48,7 +48,7 @@ module _ (shift : ℕ) where
   value-faults a e = rw e
 
 -- an element that names the type MO is of it
-type-money : (attrs : List Attribute) → hasType attrs MO ≡ true → typeAmong allTypes attrs ≡ some MO
+pub type-money : (attrs : List Attribute) → hasType attrs MO ≡ true → typeAmong allTypes attrs ≡ some MO
 unfolding find same
 type-money attrs h = rw (type-is attrs MO h)
 

@@ -10,11 +10,7 @@ use Rattle.rules.specs.Basics.{ifSome, find, exists, same}
 use Rattle.rules.specs.Refusal.{Outcome, answered, refused}
 use Rattle.rules.specs.Totals.{Row, totalling, isInRange, isOf, isHeld, isHeldTwice, Entry, null, money, newTotal, entered}
 use Rattle.rules.specs.TotalsPromise.{History, beginning, _then_, sumAdded, currenciesAdded, rowsOf}
-use Rattle.rules.proofs.Tests.{clash, same-true, same-refl, same-sym}
-
-pub or-false : (a b : Bool) → (a || b) ≡ false → (a ≡ false) × (b ≡ false)
-or-false true b e = clash (cc)
-or-false false b e = (refl, e)
+use Rattle.rules.proofs.Tests.{clash, neither, same-true, same-refl, same-sym}
 
 pub exists-append : {A : Type 0} (p : A → Bool) (a b : List A) → exists p (a ++ b) ≡ (exists p a || exists p b)
 unfolding exists
@@ -30,7 +26,7 @@ module _ (c : List ℕ) (z : ℤ) where
   pub entered-new : (rows : List Row) → isHeld c rows ≡ false → entered c z rows ≡ rows ++ totalling c z ∷ []
   unfolding exists entered
   entered-new [] h = refl
-  entered-new (r ∷ rows) h = let (f, g) = or-false (isOf c r) (isHeld c rows) h in rw f (ap (λ l. r ∷ l) (entered-new rows g))
+  entered-new (r ∷ rows) h = let (f, g) = neither (isOf c r) (isHeld c rows) h in rw f (ap (λ l. r ∷ l) (entered-new rows g))
 
   pub entered-held : (p : Row → Bool) → ((d : List ℕ) (a b : ℤ) → p (totalling d a) ≡ p (totalling d b)) → (rows : List Row) → isHeld c rows ≡ true
       → exists p (entered c z rows) ≡ exists p rows
@@ -58,7 +54,7 @@ module _ (c : List ℕ) (z : ℤ) where
   unfolding exists entered isHeldTwice
   entered-once [] h = refl
   entered-once (r ∷ rows) h =
-      let (f, g) = or-false (isHeld (r .currency) rows) (isHeldTwice rows) h in go (isOf c r) refl f g (entered-once rows g) (isHeld c rows) refl
+      let (f, g) = neither (isHeld (r .currency) rows) (isHeldTwice rows) h in go (isOf c r) refl f g (entered-once rows g) (isHeld c rows) refl
     where
       other : isOf c r ≡ false → same c (r .currency) ≡ false
       other e = same-sym c (r .currency) ∙ e
@@ -77,7 +73,7 @@ module _ (c : List ℕ) (z : ℤ) where
   unfolding exists entered find
   entered-within [] h k = rw k
   entered-within (r ∷ rows) h k =
-      let (f, g) = or-false (not (isInRange (r .total))) (exists (λ r. not (isInRange (r .total))) rows) h in go (isOf c r) f g k (entered-within rows g)
+      let (f, g) = neither (not (isInRange (r .total))) (exists (λ r. not (isInRange (r .total))) rows) h in go (isOf c r) f g k (entered-within rows g)
     where
       go : (t : Bool) → not (isInRange (r .total)) ≡ false → exists (λ r. not (isInRange (r .total))) rows ≡ false
           → isInRange (ifSome (cond t (some r) (find (isOf c) rows)) (λ r. r .total +ℤ z) z) ≡ true
@@ -104,14 +100,14 @@ module _ (c : List ℕ) (z : ℤ) (f : List ℕ → ℤ) where
   unfolding exists
   totals-other [] h = refl
   totals-other (d ∷ cs) h =
-      let (i, j) = or-false (same d c) (exists (λ d. same d c) cs) h in
+      let (i, j) = neither (same d c) (exists (λ d. same d c) cs) h in
       rw (same-sym c d, i) (ap (λ l. totalling d (f d) ∷ l) (totals-other cs j))
 
   totals-held : (cs : List (List ℕ)) → isHeldTwice (totals f cs) ≡ false → exists (λ d. same d c) cs ≡ true → entered c z (totals f cs) ≡ totals more cs
   unfolding exists entered isHeldTwice
   totals-held [] w h = clash (cc)
   totals-held (d ∷ cs) w h =
-      let (i, j) = or-false (isHeld d (totals f cs)) (isHeldTwice (totals f cs)) w in go (same d c) refl h (sym (held-totals d f cs) ∙ i) (totals-held cs j)
+      let (i, j) = neither (isHeld d (totals f cs)) (isHeldTwice (totals f cs)) w in go (same d c) refl h (sym (held-totals d f cs) ∙ i) (totals-held cs j)
     where
       go : (t : Bool) → same d c ≡ t → (t || exists (λ d. same d c) cs) ≡ true → exists (λ e. same e d) cs ≡ false
           → (exists (λ d. same d c) cs ≡ true → entered c z (totals f cs) ≡ totals more cs)
@@ -126,7 +122,7 @@ map-append f [] b = refl
 map-append f (x ∷ a) b = ap (λ l. f x ∷ l) (map-append f a b)
 
 -- what was not added comes to nothing
-sum-none : (c : List ℕ) (h : History (Outcome Entry)) → exists (λ d. same d c) (currenciesAdded h) ≡ false → sumAdded c h ≡ pos 0
+pub sum-none : (c : List ℕ) (h : History (Outcome Entry)) → exists (λ d. same d c) (currenciesAdded h) ≡ false → sumAdded c h ≡ pos 0
 unfolding exists currenciesAdded sumAdded
 sum-none c beginning n = refl
 sum-none c (h then answered null) n = sum-none c h n
@@ -140,10 +136,10 @@ sum-none c (h then answered (money d z)) n = go (exists (λ e. same e d) (curren
     go true false i j n below = below n
     go true true i j n below = let k : exists (λ e. same e c) (currenciesAdded h) ≡ true = rw (same-true d c j) at i in clash (cc)
     go false true i j n below =
-        let k = or-false (exists (λ e. same e c) (currenciesAdded h)) (same d c || false) (sym (exists-append (λ e. same e c) (currenciesAdded h) (d ∷ [])) ∙ n) .1 in
+        let k = neither (exists (λ e. same e c) (currenciesAdded h)) (same d c || false) (sym (exists-append (λ e. same e c) (currenciesAdded h) (d ∷ [])) ∙ n) .1 in
         clash (cc)
     go false false i j n below =
-        below (or-false (exists (λ e. same e c) (currenciesAdded h)) (same d c || false) (sym (exists-append (λ e. same e c) (currenciesAdded h) (d ∷ [])) ∙ n) .0)
+        below (neither (exists (λ e. same e c) (currenciesAdded h)) (same d c || false) (sym (exists-append (λ e. same e c) (currenciesAdded h) (d ∷ [])) ∙ n) .0)
 
 -- the rows of the day so far, with an amount more
 pub rows-more : (c : List ℕ) (z : ℤ) (h : History (Outcome Entry)) → isHeldTwice (rowsOf h) ≡ false

@@ -13,8 +13,7 @@ use Rattle.rules.specs.Services.{overwrite}
 use Rattle.rules.specs.Totals.{Row, Counts, Table, table, isInRange, Entry, isUncounted, isCounted, recorded}
 use Rattle.rules.specs.TotalNumbers.{is64, Lent, rowNumbers}
 use Rattle.rules.specs.TotalTables.{rowsIn, tableIn, tableNumbers, numbersAfter}
-use Rattle.rules.proofs.Tests.{clash, both-true, every-true}
-use Rattle.rules.proofs.TotalRows.{or-false}
+use Rattle.rules.proofs.Tests.{clash, neither, both-true, every-true}
 use Rattle.rules.proofs.Totals.{Proper}
 use Rattle.rules.proofs.TotalNumbers.{total-read, total-written, currency-read, currency-written, row-numbers, rows-small, every-append, every-drop}
 
@@ -24,8 +23,8 @@ rows-read : (rows : List Row) (rest : List ℕ) → exists (λ r. not (isCurrenc
 unfolding rowsIn exists flatMap
 rows-read [] rest f w = refl
 rows-read (r ∷ rows) rest f w =
-    let (a, b) = or-false _ _ f in
-    let (c, d) = or-false _ _ w in
+    let (a, b) = neither _ _ f in
+    let (c, d) = neither _ _ w in
     rw (currency-read (r .currency) (not-false _ a), total-read (r .total) (not-false _ c), rows-read rows rest b d)
 
 pub rows-length : (n : ℕ) (numbers : List ℕ) → length (rowsIn n numbers) ≡ n
@@ -40,7 +39,7 @@ rows-written zero numbers l h f = refl
 rows-written (suc n) [] l h f = clash (omega arith)
 rows-written (suc n) (x ∷ []) l h f = clash (omega arith)
 rows-written (suc n) (x ∷ y ∷ numbers) l h f =
-    let (a, b) = or-false _ _ f in
+    let (a, b) = neither _ _ f in
     let (c, d) = both-true (is64 x) (every is64 (y ∷ numbers)) h in
     let (i, j) = both-true (is64 y) (every is64 numbers) d in
     rw (currency-written x (not-false _ a), total-written y (ltb-true y (2 ^ 64) i))

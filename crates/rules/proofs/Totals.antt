@@ -14,8 +14,8 @@ use Rattle.rules.specs.Refusal.{Refusal, NO-ROW, TOTAL, DAMAGED, DAY-FUL
 use Rattle.rules.specs.Forms.{isCurrency}
 use Rattle.rules.specs.Totals.{Table, totalling, counting, table, counted, isInRange, isHeld, isHeldTwice, isDamaged, isFull, Entry, null, money, reading, newTotal, fitting, posting, isUncounted, recorded, isCounted}
 use Rattle.rules.specs.TotalsPromise.{History, beginning, _then_, Call, readingOf, answerTo, IsUsable, HasNoRow, Posted, damaged, full, faulty, a-null, no-row, out-of-range, added, reached, answers, isAdded, isNullAnswer, isCountedRefusal, howMany, sumAdded, currenciesAdded, rowsOf, countsOf, dayOf}
-use Rattle.rules.proofs.Tests.{clash}
-use Rattle.rules.proofs.TotalRows.{or-false, exists-append, entered-new, entered-held, entered-length, entered-once, entered-within, rows-more}
+use Rattle.rules.proofs.Tests.{clash, neither}
+use Rattle.rules.proofs.TotalRows.{exists-append, entered-new, entered-held, entered-length, entered-once, entered-within, rows-more}
 use Rattle.rules.proofs.Precedence.{number-injective}
 use Rattle.rules.proofs.CheckRefusals.{isOfRecord}
 use Rattle.rules.proofs.TotalReading.{reading-currency, reading-refusals}
@@ -32,10 +32,10 @@ pub undamaged : (t : Table) → isDamaged t ≡ false ↔ Proper t
 unfolding isDamaged
 undamaged t = (
   λ e.
-      let (d, below) = or-false _ _ e in
-      let (c, within) = or-false _ _ d in
-      let (b, once) = or-false _ _ c in
-      let (few, formed) = or-false _ _ b in
+      let (d, below) = neither _ _ e in
+      let (c, within) = neither _ _ d in
+      let (b, once) = neither _ _ c in
+      let (few, formed) = neither _ _ b in
       record { few = ltb-false 16 (length (t .rows)) few; formed = formed; once = once; within = within; below = ltb-false 1_000_000 (counted (t .counts)) below },
   λ p. rw (le-ltb 16 (length (t .rows)) (p .few), p .formed, p .once, p .within, le-ltb 1_000_000 (counted (t .counts)) (p .below)),
 )

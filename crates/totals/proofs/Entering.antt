@@ -6,21 +6,20 @@ use mathlib.Core.List.{List, [], _∷_}
 use mathlib.Core.Option.{Option, none, some}
 use denote.Enum.Declared.{tagOf}
 use types.Run.{OneOf, miss}
-use Rattle.rules.specs.Basics.{isSome, ifSome, find, bytes, same}
+use Rattle.rules.specs.Basics.{isSome, ifSome, find, bytes}
 use Rattle.rules.specs.Refusal.{answered}
 use Rattle.rules.specs.Parsers.{whole}
 use Rattle.rules.specs.Markup.{Attribute, Element, lookup}
 use Rattle.rules.specs.Forms.{amountText, isCurrency}
 use Rattle.rules.specs.Invariants.{isNull}
-use Rattle.rules.specs.Types.{Kind as RulesKind, MO, allTypes, hasType, typeAmong}
+use Rattle.rules.specs.Types.{Kind as RulesKind, MO, allTypes, hasType}
 use Rattle.rules.specs.Judge.{topFaults}
 use Rattle.rules.specs.Comparison.{amountOf}
 use Rattle.rules.specs.Totals.{null, money, entryOf}
 use Rattle.rules.specs.TotalNumbers.{currencyNumber, currencyIn, totalIn}
 use Rattle.rules.proofs.Tests.{clash}
 use Rattle.rules.proofs.TotalNumbers.{currency-read}
-use Rattle.rules.proofs.TotalReading.{EntryOf, is-null, is-money, entry-faultless}
-use Rattle.rules.proofs.Members.{type-is}
+use Rattle.rules.proofs.TotalReading.{EntryOf, is-null, is-money, type-money, entry-faultless}
 use lib.IntN.{ℤ}
 use Rattle.form.specs.Amounts.{codeOf}
 use Rattle.datatype.specs.Meaning.{kindMeant}
@@ -60,12 +59,11 @@ other-kind DisplayName e z = clash (cc)
 other-kind Part e z = clash (cc)
 
 pub is-other : {s : List ℕ} {e : Element} {r : Record} → RecordOf s e r → OneOf others (tagOf kind.the-type (r .kind)) → false ≡ hasType (e .attrs) MO
-unfolding find same
 is-other {s} {e} {r} h o = go (hasType (e .attrs) MO) refl
   where
     go : (b : Bool) → hasType (e .attrs) MO ≡ b → false ≡ b
     go false f = refl
-    go true f = let z : typeAmong allTypes (e .attrs) ≡ some MO = rw (type-is (e .attrs) MO f) in absurd (other-kind (r .kind) o (cc (z, h .kind)))
+    go true f = let z = type-money (e .attrs) f in absurd (other-kind (r .kind) o (cc (z, h .kind)))
 
 -- what an element says that has no fault
 module _ (e : Element) (shift : ℕ) (faultless : topFaults shift e ≡ []) (mo : hasType (e .attrs) MO ≡ true) where

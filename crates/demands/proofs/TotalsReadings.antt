@@ -1,0 +1,96 @@
+-- What a record says to a day's totals: its refusal, null, or its amount, in ten-thousandths, of its currency.
+use Prim.Native.Nat.{ℕ, zero, suc, _+_, _-_, _*_, _^_, _≤_}
+use mathlib.Core.Path.{_≡_, refl, sym, _∙_, ap}
+use mathlib.Core.Bool.{Bool, true, false, not}
+use mathlib.Core.List.{List, [], _∷_, _++_, append-nil}
+use mathlib.Core.Option.{Option, none, some}
+use native.Mathlib.Nat.{add-mul, mul-assoc}
+use native.Mathlib.Omega.{arith}
+use borrow.Author.Tests.{ne-eqb}
+use lib.Dec.{eqb}
+use lib.ListN.{length}
+use lib.IntN.{pos, negℤ}
+use lib.Pow.{pow-add}
+use Rattle.rules.specs.Basics.{every, isDigit, decimal}
+use Rattle.rules.specs.Refusal.{Refusal, TYPE, earlier, firstOf, Outcome, answered, refused, faultsIn, _when_, _unless_, _andThen_}
+use Rattle.rules.specs.Parsers.{bad, ok, one, upTo, finish, whole}
+use Rattle.rules.specs.Timestamp.{point}
+use Rattle.rules.specs.Markup.{Element}
+use Rattle.rules.specs.Forms.{amountText}
+use Rattle.rules.specs.Types.{MO, hasType}
+use Rattle.rules.specs.Check.{elementOf, check}
+use Rattle.rules.specs.Totals.{entryOf, notMoney, reading}
+use Rattle.rules.specs.TotalsPromise.{Call, readingOf}
+use Rattle.rules.proofs.Tests.{clash, every-true, isFrom-true}
+use Rattle.rules.proofs.Precedence.{check-answered}
+use Rattle.rules.proofs.Digits.{decimal-append}
+use Rattle.rules.proofs.TotalReading.{is-null, is-money, entry-cases}
+use Rattle.demands.specs.Totals.{Reads, AreDigits, pointed, signWritten, ofSign}
+
+pub reads : (k : Call) → Reads k (readingOf k)
+unfolding reading firstOf
+reads k = go (check (k .offset) (k .record′)) refl
+  where
+    by-first : (r : Refusal) → check (k .offset) (k .record′) ≡ refused r → (o : Option Refusal) → firstOf (faultsIn notMoney (elementOf (k .record′))) ≡ o
+        → Reads k (refused r unless faultsIn notMoney (elementOf (k .record′)))
+    by-first r c none f = rw f (Reads.faulty c (ap (earlier (some r)) f))
+    by-first r c (some q) f = rw f (Reads.faulty c (ap (earlier (some r)) f))
+
+    by-type : (e : Element) → check (k .offset) (k .record′) ≡ answered e → (b : Bool) → hasType (e .attrs) MO ≡ b
+        → Reads k (answered (entryOf (e .attrs)) unless TYPE when not b)
+    by-type e c false t = Reads.other-type c t
+    by-type e c true t = elim (entry-cases (k .offset) (k .record′) e c t) [
+      | is-null n m ↦ rw m (Reads.a-null c t n)
+      | is-money d z n l f a m ↦ rw m (Reads.an-amount c t n l a)
+    ]
+
+    go : (o : Outcome Element) → check (k .offset) (k .record′) ≡ o
+        → Reads k ((o andThen λ e. answered (entryOf (e .attrs))) unless faultsIn notMoney (elementOf (k .record′)))
+    go (refused r) c = by-first r c _ refl
+    go (answered e) c = rw (check-answered (k .offset) (k .record′) e .0 c .0) (by-type e c _ refl)
+
+-- digits are read up to what is none
+digits-read : (k : ℕ) (ds rest : List ℕ) → length ds ≤ k → every isDigit ds ≡ true → one isDigit rest ≡ bad → upTo k isDigit (ds ++ rest) ≡ ok ds rest
+unfolding upTo one every
+digits-read zero [] rest l h e = refl
+digits-read zero (d ∷ ds) rest l h e = clash (omega arith)
+digits-read (suc k) [] rest l h e = rw e
+digits-read (suc k) (d ∷ ds) rest l h e =
+    let (f, g) = every-true isDigit d ds h in
+    rw (f, digits-read k ds rest (omega arith) g e)
+
+-- the digits of a fraction count on those before the point
+scaled : (ds fs : List ℕ) → length fs ≤ 4 → decimal ds * 10_000 + decimal fs * 10 ^ (4 - length fs) ≡ decimal (ds ++ fs) * 10 ^ (4 - length fs)
+scaled ds fs l =
+    let p = 10 ^ (4 - length fs) in
+    let e : length fs + (4 - length fs) ≡ 4 = omega arith in
+    let f : 10 ^ length fs * p ≡ 10_000 = sym (pow-add 10 (length fs) (4 - length fs)) ∙ ap (λ n. 10 ^ n) e in
+    rw (decimal-append ds fs, add-mul (decimal ds * 10 ^ length fs) (decimal fs) p, mul-assoc (decimal ds) (10 ^ length fs) p, f)
+
+-- an amount is read as it is written
+pub amount-read : (negative : Bool) (ds fs : List ℕ) → AreDigits 1 12 ds → AreDigits 0 4 fs
+    → whole amountText (signWritten negative ++ ds ++ pointed fs) ≡ some (ofSign negative (decimal (ds ++ fs) * 10 ^ (4 - length fs)))
+unfolding amountText point one finish
+amount-read negative [] fs h k = clash (omega (arith, h .enough))
+amount-read negative (d ∷ ds) fs h k = go negative fs k
+  where
+    first : (isDigit d ≡ true) × (every isDigit ds ≡ true)
+    first = every-true isDigit d ds (h .digits)
+
+    no-sign : eqb d 45 ≡ false
+    no-sign = ne-eqb d 45 (λ e. omega (arith, isFrom-true 48 57 d (first .0)))
+
+    go : (negative : Bool) (fs : List ℕ) → AreDigits 0 4 fs
+        → whole amountText (signWritten negative ++ d ∷ ds ++ pointed fs) ≡ some (ofSign negative (decimal (d ∷ ds ++ fs) * 10 ^ (4 - length fs)))
+    go true [] k =
+        rw (first .0, digits-read 11 ds [] (omega (arith, h .few)) (first .1) refl) (ap (λ n. some (negℤ (pos n))) (scaled (d ∷ ds) [] (omega arith)))
+    go false [] k =
+        rw (no-sign, first .0, digits-read 11 ds [] (omega (arith, h .few)) (first .1) refl) (ap (λ n. some (pos n)) (scaled (d ∷ ds) [] (omega arith)))
+    go true (f ∷ fs) k =
+        let (i, j) = every-true isDigit f fs (k .digits) in
+        rw (first .0, digits-read 11 ds (46 ∷ f ∷ fs) (omega (arith, h .few)) (first .1) refl, i, rw append-nil at (digits-read 3 fs [] (omega (arith, k .few)) j refl))
+        (ap (λ n. some (negℤ (pos n))) (scaled (d ∷ ds) (f ∷ fs) (k .few)))
+    go false (f ∷ fs) k =
+        let (i, j) = every-true isDigit f fs (k .digits) in
+        rw (no-sign, first .0, digits-read 11 ds (46 ∷ f ∷ fs) (omega (arith, h .few)) (first .1) refl, i, rw append-nil at (digits-read 3 fs [] (omega (arith, k .few)) j refl))
+        (ap (λ n. some (pos n)) (scaled (d ∷ ds) (f ∷ fs) (k .few)))
