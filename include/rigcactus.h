@@ -18,12 +18,15 @@
  *
  * - Lent memory. A pointer comes with its length in bytes and must lead to that many bytes, which may be read, and written
  *   if it is not to const. They may start at any address and end without a zero byte. A null pointer is allowed with length
- *   0. A tick has no length: it is one int64_t, aligned as the type asks, and its pointer is not null. During the call nobody
- *   else may change lent memory, or read what the service may write. The service keeps no pointer.
- * - Writing. What is lent through a pointer to const is never written. Memory that a service may write is written only where
- *   the input is accepted, and must overlap no other memory that is lent to the same call; const memory may overlap const.
- * - Threads. There is no state, no allocation, no lock and no errno: any number of threads may call at the same time, and
- *   the same arguments always give the same answer.
+ *   0. A tick, a table and a report have no length: they are one int64_t, RIGCACTUS_TABLE_NUMBERS and RIGCACTUS_REPORT_NUMBERS of
+ *   type uint64_t, aligned as the type asks, and their pointers are not null. During the call nobody else may change lent
+ *   memory, or read what the service may write. The service keeps no pointer.
+ * - Writing. What is lent through a pointer to const is never written. Memory that a service may write must overlap no other
+ *   memory that is lent to the same call; const memory may overlap const. It is written only where the input is accepted, but
+ *   for one count of a table: rigcactus_totals_add raises it for a refused record too, save one that is refused as
+ *   RIGCACTUS_DAMAGED or RIGCACTUS_DAY_FULL.
+ * - Threads. There is no state but in a table, which the caller keeps, no allocation, no lock and no errno: any number of
+ *   threads may call at the same time, and the same arguments, with the same numbers in a table, always give the same answer.
  * - Lengths. A length is a size_t of 64 bits and at most PTRDIFF_MAX, as of any memory. A longer input than
  *   RIGCACTUS_MOST_BYTES is refused unread, and a longer list than RIGCACTUS_MOST_LIST_BYTES is refused by rigcactus_print. For
  *   what a service writes, RIGCACTUS_MOST_LIST_BYTES or RIGCACTUS_MOST_PRINTED_BYTES is enough, and more is no use.
@@ -63,6 +66,25 @@ extern "C" {
 /* The length of a record, in bytes, that no list needs more of to be printed: 32 stretches, open on both sides, need them all. */
 #define RIGCACTUS_MOST_PRINTED_BYTES 4735
 
+/* How many numbers of type uint64_t a table of a day's totals has, and how many the report of one. */
+#define RIGCACTUS_TABLE_NUMBERS 36
+#define RIGCACTUS_REPORT_NUMBERS 35
+
+/* The most currencies that a table holds. A record in one more is refused, as RIGCACTUS_NO_ROW. */
+#define RIGCACTUS_MOST_CURRENCIES 16
+
+/* The most records that a table counts: those added, null and refused together. One more is refused, as RIGCACTUS_DAY_FULL. */
+#define RIGCACTUS_MOST_COUNTED 1000000
+
+/*
+ * The largest total, in ten-thousandths of the currency's unit; the smallest is its negative. A record that would lead beyond is
+ * refused, as RIGCACTUS_TOTAL.
+ */
+#define RIGCACTUS_MOST_TOTAL INT64_C(9000000000000000000)
+
+/* What a total counts: so many to the currency's unit. */
+#define RIGCACTUS_PER_UNIT INT64_C(10000)
+
 /* ---- Ticks -------------------------------------------------------------------------------------------------------- */
 
 /*
@@ -76,11 +98,13 @@ extern "C" {
 
 /*
  * The refusals of all services, and their numbers. Where several apply, a service gives the one that comes first in this
- * list. The list is the order, and the numbers are only names: 12 stands before 11, and a refusal that is added later may
- * stand anywhere. So ask whether a number equals one of these, and not whether it is smaller.
+ * list. The list is the order, and the numbers are only names: 21 stands before 1 and 12 before 11, and a refusal that is added
+ * later may stand anywhere. So ask whether a number equals one of these, and not whether it is smaller.
  */
 enum rigcactus_refusals {
     RIGCACTUS_ACCEPTED = 0,       /* no refusal */
+    RIGCACTUS_DAMAGED = 21,       /* a table is damaged; rigcactus_totals_add says exactly when */
+    RIGCACTUS_DAY_FULL = 25,      /* a table has counted RIGCACTUS_MOST_COUNTED records */
     RIGCACTUS_OFFSET = 1,         /* the agreed offset is not from -840 to 840 minutes */
     RIGCACTUS_TOO_LONG = 2,       /* the input is over RIGCACTUS_MOST_BYTES */
     RIGCACTUS_NOT_UTF8 = 3,       /* the bytes are not UTF-8 by RFC 3629 */
@@ -92,7 +116,9 @@ enum rigcactus_refusals {
     RIGCACTUS_UNKNOWN_BOUND = 9,  /* a listed set or interval is null, or has a bound that is not known */
     RIGCACTUS_TOO_MANY = 10,      /* a listed set has over 32 intervals */
     RIGCACTUS_NOT_WRITABLE = 12,  /* a list to print is improper, or has a tick outside years 0001 to 9999 */
-    RIGCACTUS_NO_ROOM = 11        /* the lent list is too short for the stretches, or the lent record for the bytes */
+    RIGCACTUS_NO_ROOM = 11,       /* the lent list is too short for the stretches, or the lent record for the bytes */
+    RIGCACTUS_NO_ROW = 16,        /* a record to add is in a new currency, and the table holds RIGCACTUS_MOST_CURRENCIES */
+    RIGCACTUS_TOTAL = 17          /* a record to add would lead a total beyond RIGCACTUS_MOST_TOTAL or its negative */
 };
 
 /*
@@ -103,6 +129,8 @@ static inline const char *rigcactus_refusal_name(int refusal)
 {
     switch (refusal) {
     case RIGCACTUS_ACCEPTED: return "ACCEPTED";
+    case RIGCACTUS_DAMAGED: return "DAMAGED";
+    case RIGCACTUS_DAY_FULL: return "DAY FULL";
     case RIGCACTUS_OFFSET: return "OFFSET";
     case RIGCACTUS_TOO_LONG: return "TOO LONG";
     case RIGCACTUS_NOT_UTF8: return "NOT UTF-8";
@@ -115,6 +143,8 @@ static inline const char *rigcactus_refusal_name(int refusal)
     case RIGCACTUS_TOO_MANY: return "TOO MANY";
     case RIGCACTUS_NOT_WRITABLE: return "NOT WRITABLE";
     case RIGCACTUS_NO_ROOM: return "NO ROOM";
+    case RIGCACTUS_NO_ROW: return "NO ROW";
+    case RIGCACTUS_TOTAL: return "TOTAL";
     default: return "UNLISTED";
     }
 }
@@ -139,7 +169,10 @@ static inline int rigcactus_precision(uint64_t answer)
     return (answer >> 8) & 0xFF;
 }
 
-/* The count of stretches that an answer of rigcactus_list holds; 0 after a refusal. */
+/*
+ * The count of stretches that an answer of rigcactus_list holds, or of rows that one of rigcactus_totals_report holds; 0 after a
+ * refusal.
+ */
 static inline size_t rigcactus_count(uint64_t answer)
 {
     return answer >> 8;
@@ -160,6 +193,18 @@ static inline int rigcactus_comparison(uint64_t answer)
 
 /* The record that an answer of rigcactus_compare refuses: 1 for the first, 2 for the second; 0 if both are accepted. */
 static inline int rigcactus_refused_record(uint64_t answer)
+{
+    return (answer >> 8) & 0xFF;
+}
+
+/* What an answer of rigcactus_totals_add says of a record that is accepted. */
+enum rigcactus_entries {
+    RIGCACTUS_ADDED = 1,  /* its amount is in the total of its currency */
+    RIGCACTUS_NULL = 2    /* its value is null: it is counted, and no total changes */
+};
+
+/* The entry that an answer of rigcactus_totals_add holds, one of enum rigcactus_entries; 0 after a refusal. */
+static inline int rigcactus_entry(uint64_t answer)
 {
     return (answer >> 8) & 0xFF;
 }
@@ -199,6 +244,26 @@ static inline struct rigcactus_stretch rigcactus_stretch_at(const uint8_t *list,
     stretch.high_kind = (int)rigcactus_number_at(list, 4 * index + 2);
     stretch.high_tick = rigcactus_number_at(list, 4 * index + 3);
     return stretch;
+}
+
+/* ---- Totals ------------------------------------------------------------------------------------------------------- */
+
+/* A row of a report: a currency, as "EUR", which ends in a zero byte, and its total in ten-thousandths of the currency's unit. */
+struct rigcactus_total {
+    char currency[4];
+    int64_t total;
+};
+
+/* The row that stands at an index of a report, counted from 0 to below the count that rigcactus_totals_report gave. */
+static inline struct rigcactus_total rigcactus_total_at(const uint64_t *report, size_t index)
+{
+    uint64_t currency = report[3 + 2 * index], total = report[4 + 2 * index];
+    struct rigcactus_total row;
+    for (int i = 0; i < 3; i++)
+        row.currency[i] = (char)(currency >> 8 * i & 0xFF);
+    row.currency[3] = '\0';
+    row.total = total <= INT64_MAX ? (int64_t)total : -(int64_t)(UINT64_MAX - total) - 1;
+    return row;
 }
 
 /* ---- Services ----------------------------------------------------------------------------------------------------- */
@@ -345,6 +410,81 @@ uint64_t rigcactus_print(const uint8_t *list, size_t list_len, uint8_t *record, 
  * <t xsi:type="TS" value="20240501"/> and <t xsi:type="TS" value="2024050112"/> are unknown: the one may be any time of the day.
  */
 uint64_t rigcactus_compare(const uint8_t *first, size_t first_len, const uint8_t *second, size_t second_len, int64_t offset);
+
+/* ---- A day's totals ----------------------------------------------------------------------------------------------- */
+
+/*
+ * Opens a table for a day: an empty one. A table adds up records of money by currency, exactly, and counts them. It is memory of
+ * the caller, who opens it, hands it to rigcactus_totals_add with one record after another, and to rigcactus_totals_report at
+ * any time.
+ *
+ * table    RIGCACTUS_TABLE_NUMBERS numbers of type uint64_t, aligned as the type asks, not null. What they are before does not
+ *          count. All of them become 0.
+ *
+ * The answer is always 0: there is no refusal.
+ *
+ * A table is these numbers:
+ *
+ *     0          how many rows are held: one for each currency, 0 to RIGCACTUS_MOST_CURRENCIES
+ *     1, 2, 3    how many records were added, null, and refused; together at most RIGCACTUS_MOST_COUNTED
+ *     4 to 35    the rows, two numbers each: currency and total. Those past the rows held say nothing
+ *
+ * A currency is its three letters, A to Z, in the three lowest bytes, the first letter lowest; the other bytes are 0: EUR is
+ * 0x525545. A total is in ten-thousandths of the currency's unit, RIGCACTUS_PER_UNIT of them to one, from -RIGCACTUS_MOST_TOTAL
+ * to RIGCACTUS_MOST_TOTAL, in two's complement. A table may be copied, stored and handed in again. One that no calls could have
+ * made is treated like any other, if it is not damaged.
+ */
+uint64_t rigcactus_totals_open(uint64_t table[RIGCACTUS_TABLE_NUMBERS]);
+
+/*
+ * Adds a record to a table: the amount of a record of type MO to the total of its currency. rigcactus_entry of the answer is
+ * RIGCACTUS_ADDED, or RIGCACTUS_NULL for a null value. Where nothing else has changed the table since it was opened, each total
+ * is the sum of the amounts in that currency among the records that were added. A currency gets its row with the first record
+ * that is added in it, also with the amount 0 or -0, and keeps it at total 0.
+ *
+ * table                 a table, as rigcactus_totals_open says, that overlaps no part of the record.
+ * record, record_len    the record, as for rigcactus_check.
+ * offset                the agreed offset, as for rigcactus_check. Money has no timestamp, but another one is refused all the same.
+ *
+ * What changes in the table:
+ *
+ * - RIGCACTUS_ADDED: the count of records added, by one, and the total. For a new currency also the row after those held, and their
+ *   number.
+ * - RIGCACTUS_NULL: the count of null records, by one, and nothing else.
+ * - A refusal, save the two that follow: the count of refused records, by one, and nothing else.
+ * - RIGCACTUS_DAMAGED and RIGCACTUS_DAY_FULL: nothing at all.
+ *
+ * So the three counts together are how many records were given, but for those that were refused as RIGCACTUS_DAMAGED or
+ * RIGCACTUS_DAY_FULL. Numbers past the rows that are then held are left as they are.
+ *
+ * Refusals: RIGCACTUS_DAMAGED exactly if the table has over RIGCACTUS_MOST_CURRENCIES rows, in one of its rows a currency that
+ * is not three letters or stands in another row too, or a total out of range, or counts whose sum is over
+ * RIGCACTUS_MOST_COUNTED; RIGCACTUS_DAY_FULL exactly if that sum is RIGCACTUS_MOST_COUNTED; then those of rigcactus_check, with
+ * RIGCACTUS_TYPE also for a record of another type, null or not; then RIGCACTUS_NO_ROW for a new currency where
+ * RIGCACTUS_MOST_CURRENCIES are held; RIGCACTUS_TOTAL if the new total would be out of range. No calls of these services damage a
+ * table that was opened.
+ *
+ * A day of five records of type MO: value="12.50" currency="EUR", value="3" currency="USD", nullFlavor="NASK", value="12,50"
+ * currency="EUR", value="-12.5" currency="EUR". They are added, added, null, refused as RIGCACTUS_VALUE, and added. The table is
+ * then 2, 3, 1, 1, 0x525545, 0, 0x445355, 30000, and 28 times 0: two rows; three added, one null, one refused; EUR 0, USD 3.
+ */
+uint64_t rigcactus_totals_add(uint64_t table[RIGCACTUS_TABLE_NUMBERS], const uint8_t *record, size_t record_len, int64_t offset);
+
+/*
+ * Reports a table: writes its counts, and a row for each currency, in the order in which they were first added. rigcactus_count
+ * of the answer is how many rows there are: 0 to RIGCACTUS_MOST_CURRENCIES. The table is left as it is.
+ *
+ * table     a table, as rigcactus_totals_open says.
+ * report    where the report goes: RIGCACTUS_REPORT_NUMBERS numbers of type uint64_t, aligned as the type asks, not null, that do
+ *           not overlap the table. The first three are the counts of records added, null and refused. Then each row has two, its
+ *           currency and its total, as in a table; rigcactus_total_at reads them. What lies beyond the rows is unchanged and says
+ *           nothing, and after a refusal the whole report is unchanged.
+ *
+ * Refusals: RIGCACTUS_DAMAGED alone, for the tables for which rigcactus_totals_add gives it.
+ *
+ * For the day above the count is 2, and the report begins with 3, 1, 1, 0x525545, 0, 0x445355, 30000.
+ */
+uint64_t rigcactus_totals_report(const uint64_t table[RIGCACTUS_TABLE_NUMBERS], uint64_t report[RIGCACTUS_REPORT_NUMBERS]);
 
 #ifdef __cplusplus
 }

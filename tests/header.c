@@ -41,12 +41,18 @@ static void check_refusals(void)
     CHECK(RIGCACTUS_TOO_MANY == 10 && is_name(10, "TOO MANY"));
     CHECK(RIGCACTUS_NO_ROOM == 11 && is_name(11, "NO ROOM"));
     CHECK(RIGCACTUS_NOT_WRITABLE == 12 && is_name(12, "NOT WRITABLE"));
-    CHECK(is_name(13, "UNLISTED") && is_name(255, "UNLISTED") && is_name(-1, "UNLISTED"));
+    CHECK(RIGCACTUS_NO_ROW == 16 && is_name(16, "NO ROW"));
+    CHECK(RIGCACTUS_TOTAL == 17 && is_name(17, "TOTAL"));
+    CHECK(RIGCACTUS_DAMAGED == 21 && is_name(21, "DAMAGED"));
+    CHECK(RIGCACTUS_DAY_FULL == 25 && is_name(25, "DAY FULL"));
+    static const int unlisted[] = {13, 14, 15, 18, 19, 20, 22, 23, 24, 26, 255, -1};
+    for (size_t i = 0; i < sizeof unlisted / sizeof unlisted[0]; i++)
+        CHECK(is_name(unlisted[i], "UNLISTED"));
 }
 
 /*
- * Bits 0 to 7 are the refusal; the other bits are the length or the count, or bits 8 to 15 the precision, or bits 8 to 15 the record and
- * bits 16 to 23 the comparison.
+ * Bits 0 to 7 are the refusal; the other bits are the length or the count, or bits 8 to 15 the precision or the entry, or bits 8 to 15 the
+ * record and bits 16 to 23 the comparison.
  */
 static void check_helpers(void)
 {
@@ -64,6 +70,9 @@ static void check_helpers(void)
     CHECK(rigcactus_comparison(UINT64_MAX) == 255 && rigcactus_refused_record(UINT64_MAX) == 255);
     CHECK(rigcactus_count(0) == 0 && rigcactus_count(11) == 0);
     CHECK(rigcactus_count(0x2000) == 32 && rigcactus_count(UINT64_MAX) == (UINT64_MAX >> 8));
+    CHECK(RIGCACTUS_ADDED == 1 && RIGCACTUS_NULL == 2);
+    CHECK(rigcactus_entry(0x100) == RIGCACTUS_ADDED && rigcactus_entry(0x200) == RIGCACTUS_NULL);
+    CHECK(rigcactus_entry(0) == 0 && rigcactus_entry(25) == 0 && rigcactus_entry(0x3412FF) == 0x12 && rigcactus_entry(UINT64_MAX) == 255);
 }
 
 static int is_cut(const uint8_t *text, size_t text_len, uint64_t room, size_t length)
@@ -539,6 +548,235 @@ static void check_compare_limits(void)
     CHECK(rigcactus_compare(padded, length, padded, 16385, 0) == (0x200 | RIGCACTUS_TOO_LONG));
 }
 
+/* The numbers of a currency: its letters, the first in the lowest byte. */
+enum { EUR = 0x525545, USD = 0x445355, GBP = 0x504247 };
+
+static int is_total(const uint64_t *report, size_t index, const char *currency, int64_t total)
+{
+    struct rigcactus_total row = rigcactus_total_at(report, index);
+    return strcmp(row.currency, currency) == 0 && row.total == total;
+}
+
+/* The limits, and rows of a report, with totals at the ends of what a number can be. */
+static void check_total_helpers(void)
+{
+    static const uint64_t report[] = {7, 8, 9, EUR, 125000, USD, UINT64_MAX, GBP, UINT64_C(1) << 63, EUR, (UINT64_C(1) << 63) - 1, USD, 0, GBP,
+                                      UINT64_C(9446744073709551616), EUR, UINT64_C(9000000000000000000)};
+    CHECK(is_total(report, 0, "EUR", 125000) && is_total(report, 1, "USD", -1));
+    CHECK(is_total(report, 2, "GBP", INT64_MIN) && is_total(report, 3, "EUR", INT64_MAX) && is_total(report, 4, "USD", 0));
+    CHECK(is_total(report, 5, "GBP", -RIGCACTUS_MOST_TOTAL) && is_total(report, 6, "EUR", RIGCACTUS_MOST_TOTAL));
+    CHECK(sizeof rigcactus_total_at(report, 0).currency == 4);
+    CHECK(RIGCACTUS_TABLE_NUMBERS == 36 && RIGCACTUS_REPORT_NUMBERS == 35 && RIGCACTUS_MOST_CURRENCIES == 16);
+    CHECK(RIGCACTUS_TABLE_NUMBERS == 4 + 2 * RIGCACTUS_MOST_CURRENCIES && RIGCACTUS_REPORT_NUMBERS == 3 + 2 * RIGCACTUS_MOST_CURRENCIES);
+    CHECK(RIGCACTUS_MOST_COUNTED == 1000000 && RIGCACTUS_PER_UNIT == 10000 && sizeof RIGCACTUS_PER_UNIT == 8);
+    CHECK(RIGCACTUS_MOST_TOTAL == INT64_C(9000000000000000000) && sizeof RIGCACTUS_MOST_TOTAL == 8);
+}
+
+/* A table and a report, each with numbers before it and after it, and what every number is before a table is opened or reported. */
+static const uint64_t FILLED = UINT64_C(0x5C5C5C5C5C5C5C5C);
+static uint64_t lent_table[1 + RIGCACTUS_TABLE_NUMBERS + 2];
+static uint64_t lent_report[1 + RIGCACTUS_REPORT_NUMBERS + 2];
+static uint64_t *const table = lent_table + 1;
+static uint64_t *const report = lent_report + 1;
+
+static void fill(uint64_t *numbers, size_t count)
+{
+    for (size_t i = 0; i < count; i++)
+        numbers[i] = FILLED;
+}
+
+/* Whether lent numbers are as filled, but for so many after the first, which begin so and go on as 0. */
+static int begin_with(const uint64_t *numbers, size_t count, size_t written, const uint64_t *due, size_t due_count)
+{
+    for (size_t i = 0; i < count; i++) {
+        uint64_t inside = i >= 1 && i - 1 < due_count ? due[i - 1] : 0;
+        if (numbers[i] != (i >= 1 && i - 1 < written ? inside : FILLED))
+            return 0;
+    }
+    return 1;
+}
+
+/* Opens a table. */
+static void open_table(void)
+{
+    fill(lent_table, sizeof lent_table / sizeof lent_table[0]);
+    CHECK(rigcactus_totals_open(table) == 0);
+}
+
+/* Whether the table begins with these numbers, has 0 after them, and nothing beside it is changed. */
+static int is_table(const uint64_t *due, size_t due_count)
+{
+    return begin_with(lent_table, sizeof lent_table / sizeof lent_table[0], RIGCACTUS_TABLE_NUMBERS, due, due_count);
+}
+
+/* Whether a report gives this answer, and writes these numbers alone. The table stays. */
+static int is_reported(uint64_t answer, const uint64_t *due, size_t due_count)
+{
+    uint64_t kept[sizeof lent_table / sizeof lent_table[0]];
+    memcpy(kept, lent_table, sizeof kept);
+    fill(lent_report, sizeof lent_report / sizeof lent_report[0]);
+    return rigcactus_totals_report(table, report) == answer && memcmp(kept, lent_table, sizeof kept) == 0
+        && begin_with(lent_report, sizeof lent_report / sizeof lent_report[0], due_count, due, due_count);
+}
+
+#define NUMBERS(array) (array), sizeof(array) / sizeof(array)[0]
+#define SUM(value, currency) "<t xsi:type=\"MO\" value=\"" value "\" currency=\"" currency "\"/>"
+#define NO_SUM "<t xsi:type=\"MO\" nullFlavor=\"NASK\"/>"
+
+static uint64_t add(const char *record)
+{
+    return rigcactus_totals_add(table, (const uint8_t *)record, strlen(record), 0);
+}
+
+/* Whether adding a record gives this answer and changes one number of the table alone, which goes up by one. */
+static int is_counted(const char *record, size_t record_len, int64_t offset, uint64_t answer, size_t number)
+{
+    uint64_t due[sizeof lent_table / sizeof lent_table[0]];
+    memcpy(due, lent_table, sizeof due);
+    due[1 + number]++;
+    return rigcactus_totals_add(table, (const uint8_t *)record, record_len, offset) == answer && memcmp(due, lent_table, sizeof due) == 0;
+}
+
+/* An empty table; the day that the header shows, step by step; 0 and -0, which make a row and change none. */
+static void check_totals(void)
+{
+    static const uint64_t none[] = {0, 0, 0}, one[] = {1, 1, 0, 0, EUR, 125000}, two[] = {2, 2, 0, 0, EUR, 125000, USD, 30000};
+    static const uint64_t day[] = {2, 3, 1, 1, EUR, 0, USD, 30000}, below[] = {2, 4, 1, 1, EUR, (uint64_t)-1, USD, 30000};
+    static const uint64_t more[] = {3, 6, 1, 1, EUR, (uint64_t)-1, USD, 30000, GBP, 0};
+    open_table();
+    CHECK(is_table(none, 0) && is_reported(0, NUMBERS(none)));
+    CHECK(add(SUM("12.50", "EUR")) == 0x100 && is_table(NUMBERS(one)) && is_reported(0x100, one + 1, 5));
+    CHECK(add(SUM("3", "USD")) == 0x100 && is_table(NUMBERS(two)) && is_reported(0x200, two + 1, 7));
+    CHECK(is_counted(NO_SUM, strlen(NO_SUM), 0, 0x200, 2));
+    CHECK(is_counted(SUM("12,50", "EUR"), strlen(SUM("12,50", "EUR")), 0, RIGCACTUS_VALUE, 3));
+    CHECK(add(SUM("-12.5", "EUR")) == 0x100 && is_table(NUMBERS(day)) && is_reported(0x200, day + 1, 7));
+    CHECK(rigcactus_count(rigcactus_totals_report(table, report)) == 2 && is_total(report, 0, "EUR", 0) && is_total(report, 1, "USD", 30000));
+    CHECK(add(SUM("-0.0001", "EUR")) == 0x100 && is_table(NUMBERS(below)) && is_reported(0x200, below + 1, 7) && is_total(report, 0, "EUR", -1));
+    CHECK(add(SUM("-0", "GBP")) == 0x100 && add(SUM("0.0", "EUR")) == 0x100 && is_table(NUMBERS(more)) && is_reported(0x300, more + 1, 9));
+    open_table();
+    CHECK(is_table(none, 0));
+}
+
+/* One record for each number that checking can give, and records of other types: each is counted, and changes nothing else. */
+static void check_totals_refusals(void)
+{
+    static const struct {
+        const char *record;
+        int refusal;
+    } refused[] = {
+        {SUM("1", "EUR\xFF"), RIGCACTUS_NOT_UTF8},
+        {SUM("1", "EUR") SUM("1", "EUR"), RIGCACTUS_MARKUP},
+        {"<t value=\"1\" currency=\"EUR\"/>", RIGCACTUS_TYPE},
+        {"<t xsi:type=\"II\" root=\"1.2\"/>", RIGCACTUS_TYPE},
+        {"<t xsi:type=\"II\" nullFlavor=\"NI\"/>", RIGCACTUS_TYPE},
+        {"<t xsi:type=\"TS\" value=\"1,2\" currency=\"EUR\"/>", RIGCACTUS_TYPE},
+        {STAY, RIGCACTUS_TYPE},
+        {"<t xsi:type=\"MO\" value=\"1\" currency=\"EUR\" root=\"1.2\"/>", RIGCACTUS_SHAPE},
+        {SUM("1.00000", "EUR"), RIGCACTUS_VALUE},
+        {SUM("1", "eur"), RIGCACTUS_VALUE},
+        {"<t xsi:type=\"MO\" nullFlavor=\"none\"/>", RIGCACTUS_VALUE},
+        {"<t xsi:type=\"MO\" value=\"1\"/>", RIGCACTUS_RULE},
+        {"<t xsi:type=\"MO\" value=\"1\" currency=\"EUR\" nullFlavor=\"NI\"/>", RIGCACTUS_RULE},
+    };
+    static char padded[RIGCACTUS_MOST_BYTES + 1];
+    open_table();
+    CHECK(add(SUM("1", "EUR")) == 0x100);
+    for (size_t i = 0; i < sizeof refused / sizeof refused[0]; i++)
+        CHECK(is_counted(refused[i].record, strlen(refused[i].record), 0, (uint64_t)refused[i].refusal, 3));
+    CHECK(is_counted(NULL, 0, 0, RIGCACTUS_MARKUP, 3));
+    CHECK(is_counted(NO_SUM, strlen(NO_SUM), 841, RIGCACTUS_OFFSET, 3) && is_counted(NULL, 0, INT64_MIN, RIGCACTUS_OFFSET, 3));
+    memset(padded, ' ', sizeof padded);
+    memcpy(padded, NO_SUM, strlen(NO_SUM));
+    CHECK(is_counted(padded, 16384, -840, 0x200, 2));
+    CHECK(is_counted(padded, 16385, 840, RIGCACTUS_TOO_LONG, 3) && is_counted(padded, 16385, -841, RIGCACTUS_OFFSET, 3));
+    CHECK(table[0] == 1 && table[1] == 1 && table[2] == 1 && table[3] == 18 && table[5] == 10000);
+}
+
+/* Sixteen rows, in the order in which they came, and a currency more; what stands past the rows held is left as it is. */
+static void check_totals_rows(void)
+{
+    char record[] = SUM("1", "AAA");
+    char *letter = strstr(record, "AAA");
+    open_table();
+    for (char c = 'P'; c >= 'A'; c--) {
+        fill(table + 4 + 2 * table[0], RIGCACTUS_TABLE_NUMBERS - 4 - 2 * table[0]);
+        *letter = c;
+        CHECK(add(record) == 0x100 && table[0] == (uint64_t)('P' - c + 1));
+        for (size_t i = 4 + 2 * table[0]; i < RIGCACTUS_TABLE_NUMBERS; i++)
+            CHECK(table[i] == FILLED);
+    }
+    *letter = 'Q';
+    CHECK(is_counted(record, strlen(record), 0, RIGCACTUS_NO_ROW, 3));
+    *letter = 'A';
+    CHECK(add(record) == 0x100 && rigcactus_totals_report(table, report) == 0x1000);
+    CHECK(report[0] == 17 && report[1] == 0 && report[2] == 1 && is_total(report, 0, "PAA", 10000) && is_total(report, 15, "AAA", 20000));
+    lent_table[1 + RIGCACTUS_TABLE_NUMBERS] = EUR; /* as a row after the last would be */
+    lent_table[1 + RIGCACTUS_TABLE_NUMBERS + 1] = 0;
+    table[0] = RIGCACTUS_MOST_CURRENCIES + 1;
+    CHECK(add(record) == RIGCACTUS_DAMAGED && is_reported(RIGCACTUS_DAMAGED, NULL, 0));
+}
+
+/* Both ends of a total, and of a day. */
+static void check_totals_limits(void)
+{
+    static const uint64_t full[] = {1, 999998, 1, 1, EUR, 0};
+    open_table();
+    CHECK(add(SUM("999999999999.9999", "EUR")) == 0x100 && table[5] == UINT64_C(9999999999999999));
+    table[5] = (uint64_t)RIGCACTUS_MOST_TOTAL - 1;
+    CHECK(add(SUM("0.0001", "EUR")) == 0x100 && is_counted(SUM("0.0001", "EUR"), strlen(SUM("0.0001", "EUR")), 0, RIGCACTUS_TOTAL, 3));
+    CHECK(rigcactus_totals_report(table, report) == 0x100 && is_total(report, 0, "EUR", RIGCACTUS_MOST_TOTAL));
+    CHECK(add(SUM("0", "EUR")) == 0x100 && add(SUM("-999999999999.9999", "EUR")) == 0x100 && table[5] == UINT64_C(8990000000000000001));
+    table[5] = 1 - (uint64_t)RIGCACTUS_MOST_TOTAL;
+    CHECK(add(SUM("-0.0001", "EUR")) == 0x100 && is_counted(SUM("-0.0001", "EUR"), strlen(SUM("-0.0001", "EUR")), 0, RIGCACTUS_TOTAL, 3));
+    CHECK(rigcactus_totals_report(table, report) == 0x100 && is_total(report, 0, "EUR", -RIGCACTUS_MOST_TOTAL));
+
+    open_table();
+    memcpy(table, full, sizeof full);
+    table[1] = 999997;
+    CHECK(add(SUM("0", "EUR")) == 0x100 && is_table(NUMBERS(full)));
+    CHECK(add(SUM("1", "EUR")) == RIGCACTUS_DAY_FULL && add(NO_SUM) == RIGCACTUS_DAY_FULL && add("") == RIGCACTUS_DAY_FULL);
+    CHECK(rigcactus_totals_add(table, NULL, 0, 841) == RIGCACTUS_DAY_FULL && is_table(NUMBERS(full)) && is_reported(0x100, full + 1, 5));
+}
+
+/*
+ * What adding is refused for, with a table of two rows, EUR and USD, and counts 1, 1, 1, of which one number is changed; -1 if reporting
+ * does not agree, or the table changes where it must not or stays where it must change.
+ */
+static int with(size_t index, uint64_t number)
+{
+    static const uint64_t good[] = {2, 1, 1, 1, EUR, 0, USD, 0};
+    uint64_t kept[sizeof lent_table / sizeof lent_table[0]];
+    open_table();
+    memcpy(table, good, sizeof good);
+    table[index] = number;
+    memcpy(kept, lent_table, sizeof kept);
+    int damaged = is_reported(RIGCACTUS_DAMAGED, NULL, 0);
+    int refusal = rigcactus_refusal(rigcactus_totals_add(table, NULL, 0, 841));
+    int stays = memcmp(kept, lent_table, sizeof kept) == 0;
+    int agrees = damaged == (refusal == RIGCACTUS_DAMAGED) && stays == (damaged || refusal == RIGCACTUS_DAY_FULL);
+    return agrees ? refusal : -1;
+}
+
+/* Clause by clause, with what is just not damaged beside what is. The agreed offset is out of range, for which 21 does not wait. */
+static void check_damaged(void)
+{
+    enum { GOOD = RIGCACTUS_OFFSET, BAD = RIGCACTUS_DAMAGED };
+    CHECK(with(0, 2) == GOOD && with(0, 0) == GOOD && with(0, 1) == GOOD && with(0, 3) == BAD && with(0, 16) == BAD);
+    CHECK(with(0, 17) == BAD && with(0, UINT64_MAX) == BAD && with(0, (UINT64_C(1) << 32) + 1) == BAD && with(0, (UINT64_C(1) << 63) + 1) == BAD);
+    CHECK(with(4, GBP) == GOOD && with(4, 0x5A4141) == GOOD && with(4, 0x5B4141) == BAD && with(4, 0x404141) == BAD && with(4, 0x415B41) == BAD);
+    CHECK(with(4, 0x525565) == BAD && with(4, 0x5545) == BAD && with(4, 0) == BAD && with(4, 0x455552) == GOOD);
+    CHECK(with(4, EUR + (UINT64_C(1) << 24)) == BAD && with(4, EUR + (UINT64_C(1) << 63)) == BAD && with(4, EUR + (UINT64_C(0x41) << 24)) == BAD);
+    CHECK(with(4, USD) == BAD && with(6, EUR) == BAD && with(8, EUR) == GOOD && with(8, 1) == GOOD && with(9, UINT64_C(1) << 63) == GOOD);
+    CHECK(with(5, (uint64_t)RIGCACTUS_MOST_TOTAL) == GOOD && with(5, (uint64_t)RIGCACTUS_MOST_TOTAL + 1) == BAD && with(7, INT64_MAX) == BAD);
+    CHECK(with(5, 0 - (uint64_t)RIGCACTUS_MOST_TOTAL) == GOOD && with(5, 0 - (uint64_t)RIGCACTUS_MOST_TOTAL - 1) == BAD);
+    CHECK(with(7, UINT64_C(1) << 63) == BAD && with(7, UINT64_MAX) == GOOD);
+    for (size_t count = 1; count <= 3; count++) {
+        CHECK(with(count, 999997) == GOOD && with(count, 999998) == RIGCACTUS_DAY_FULL && with(count, 999999) == BAD);
+        CHECK(with(count, UINT64_MAX) == BAD && with(count, UINT64_MAX - 1) == BAD && with(count, UINT64_C(1) << 63) == BAD);
+        CHECK(with(count, UINT64_C(1) << 32) == BAD);
+    }
+}
+
 int main(void)
 {
     check_refusals();
@@ -561,5 +799,11 @@ int main(void)
     check_printed_again();
     check_compare();
     check_compare_limits();
+    check_total_helpers();
+    check_totals();
+    check_totals_refusals();
+    check_totals_rows();
+    check_totals_limits();
+    check_damaged();
     return failures == 0 ? 0 : 1;
 }
