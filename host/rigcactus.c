@@ -1,12 +1,13 @@
 /*
  * rigcactus: receipts of visitor passes, and the services of the library, from the command line. `rigcactus --help` says how it is used.
  *
- * A service has a row in the table of commands and a function that runs it.
+ * A service, or several that belong together, has a row in the table of commands and a function that runs it.
  */
 #include "io.h"
 #include "moment.h"
 #include "receipt.h"
 #include "text.h"
+#include "totals.h"
 #include "words.h"
 
 #include <inttypes.h>
@@ -246,6 +247,33 @@ static int run_compare(int argument_count, char **arguments, const struct option
     return finish_output();
 }
 
+/* Adds the record of a file to a table, and writes a line that says what came of it. */
+static int add_file(const char *name, int64_t offset, uint64_t table[RIGCACTUS_TABLE_NUMBERS])
+{
+    struct input input;
+    int status = read_file(name, &input);
+    if (status != ACCEPTED)
+        return status;
+
+    struct slice record = {input.bytes, input.length};
+    return print_added(table, name, record, offset) == RIGCACTUS_ACCEPTED ? ACCEPTED : REFUSED;
+}
+
+/* Goes through all files as run_check does, and then writes the totals. A file that cannot be read is in no count. */
+static int run_totals(int argument_count, char **arguments, const struct options *options)
+{
+    uint64_t table[RIGCACTUS_TABLE_NUMBERS];
+    rigcactus_totals_open(table);
+    int worst = ACCEPTED;
+    for (int i = 0; i < argument_count; i++) {
+        int status = add_file(arguments[i], options->offset, table);
+        worst = status > worst ? status : worst;
+    }
+    print_totals(table);
+    int status = finish_output();
+    return status > worst ? status : worst;
+}
+
 /* All four records are read before anything is printed, so that a receipt is printed to its end or not at all. */
 static int run_receipt(int argument_count, char **arguments, const struct options *options)
 {
@@ -278,6 +306,8 @@ static const struct command commands[] = {
      run_print},
     {"compare", "FILE FILE [--offset MINUTES]", "print whether the records in both FILEs have the same value: yes, no or unknown", 2, false,
      TAKES_OFFSET, run_compare},
+    {"totals", "FILE.. [--offset MINUTES]", "add up the records in all FILEs, of type MO, and print a line for each and the total of each currency", 1,
+     true, TAKES_OFFSET, run_totals},
 };
 
 static const size_t command_count = sizeof commands / sizeof commands[0];
@@ -301,8 +331,9 @@ static void write_usage(FILE *to)
             "list writes times as clocks at that offset show them; with --raw as four numbers: low kind, low tick, high kind, high\n"
             "tick. Kinds are 0 unbounded, 1 not included, 2 included.\n"
             "print writes times in UTC, as one line: a set of type QSU_TS, with a term for each stretch. list reads the same times in it.\n"
-            "What is refused is named, with its number: by check in the line of its FILE, by receipt in its place, else on standard\n"
-            "error. All of yes, no and unknown count as accepted.\n"
+            "totals reads FILEs in their order. It counts a record that is null or refused, and adds it to no total. Totals are exact.\n"
+            "What is refused is named, with its number: by check and totals in the line of its FILE, by receipt in its place, else on\n"
+            "standard error. All of yes, no and unknown count as accepted, and so does a null record.\n"
             "\n"
             "Exit status: 0 accepted, 1 refused, 2 bad usage, 3 reading or writing failed.\n",
             RIGCACTUS_MOST_BYTES, RIGCACTUS_MOST_OFFSET, RIGCACTUS_MOST_OFFSET, LEAST_WIDTH, MOST_WIDTH, USUAL_WIDTH);

@@ -31,6 +31,24 @@ const char *null_flavor_words(struct slice flavor)
     return "no information";
 }
 
+/* The advice for refusals that a day's totals alone have. */
+static const char *totals_advice(int refusal)
+{
+    switch (refusal) {
+    case RIGCACTUS_DAMAGED:
+        return "nothing. The table of this desk's totals is damaged. Open a new one, and read the records of the day again.";
+    case RIGCACTUS_DAY_FULL:
+        return "nothing. This desk has counted 1,000,000 records today. Open a new table, and read the record again.";
+    case RIGCACTUS_NO_ROW:
+        return "nothing. This desk has totals in 16 currencies today, and has no row for another. Add the record to another table.";
+    case RIGCACTUS_TOTAL:
+        return "nothing. With this record the day's total in its currency would go beyond 900,000,000,000,000.0000 or its negative. Add the record "
+               "to another table.";
+    default:
+        return "the number. This program has no words for it.";
+    }
+}
+
 const char *refusal_advice(int refusal)
 {
     switch (refusal) {
@@ -62,6 +80,6 @@ const char *refusal_advice(int refusal)
     case RIGCACTUS_NO_ROOM:
         return "nothing. This desk has no room for so many stretches of time. Lend a longer list and read the record again.";
     default:
-        return "the number. This program has no words for it.";
+        return totals_advice(refusal);
     }
 }

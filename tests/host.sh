@@ -3,6 +3,7 @@
 set -u
 cd "$(dirname "$0")/.." || exit 2
 program=${RIGCACTUS:-$PWD/target/host/rigcactus}
+repository=$PWD
 names=$PWD/examples/names
 records=$PWD/examples/records
 
@@ -354,6 +355,88 @@ expect 0 'unknown\n' '' compare noon noon-utc --offset -30
 expect 3 '' 'rigcactus: cannot read none: No such file or directory' compare none pass.xml
 expect 3 '' 'rigcactus: cannot read none: No such file or directory' compare pass.xml none
 
+# A day's totals: a line for each file, then the counts, then a line for each currency, in the order in which they came.
+# sum NAME VALUE CURRENCY: a record of money. expect_totals STATUS LINES 'ADDED NULL REFUSED' TOTALS ERR ARGUMENT..: the lines of files, as printf takes them,
+# and the totals, each on a line.
+sum() { printf '<s xsi:type="MO" value="%s" currency="%s"/>' "$2" "$3" > "$1"; }
+expect_totals() {
+  local status=$1 lines=$2 counts total totals='' err=$5
+  read -ra counts <<< "$3"
+  while read -r total; do [ -z "$total" ] || totals+="total      $total\\n"; done <<< "$4"
+  shift 5
+  expect "$status" "${lines}added      ${counts[0]}\\nnull       ${counts[1]}\\nrefused    ${counts[2]}\\n$totals" "$err" totals "$@"
+}
+printf '<s xsi:type="MO" nullFlavor="UNK"/>' > null
+sum refund -12.5 EUR
+sum cent .01 EUR
+sum dollars 1234.5678 USD
+sum least 0.0001 USD
+sum less -0.5 GBP
+sum zero 0 CHF
+sum below-zero -0.0 EUR
+expect_totals 0 'deposit.xml: added 12.5000 EUR\n' '1 0 0' '12.5000 EUR' '' deposit.xml
+expect_totals 0 'null: null\n' '0 1 0' '' '' null
+expect_totals 1 'value: VALUE (7)\n' '0 0 1' '' '' value
+expect_totals 0 'deposit.xml: added 12.5000 EUR\nrefund: added -12.5000 EUR\n' '2 0 0' '0.0000 EUR' '' deposit.xml refund
+expect_totals 0 'zero: added 0.0000 CHF\nbelow-zero: added 0.0000 EUR\nbelow-zero: added 0.0000 EUR\n' '3 0 0' $'0.0000 CHF\n0.0000 EUR' '' zero below-zero below-zero
+expect_totals 0 'less: added -0.5000 GBP\n' '1 0 0' '-0.5000 GBP' '' less
+expect_totals 0 'dollars: added 1234.5678 USD\ndeposit.xml: added 12.5000 EUR\nleast: added 0.0001 USD\nless: added -0.5000 GBP\ndeposit.xml: added 12.5000 EUR\nless: added -0.5000 GBP\n' \
+  '6 0 0' $'1234.5679 USD\n25.0000 EUR\n-1.0000 GBP' '' dollars deposit.xml least less deposit.xml less
+expect_totals 1 'type: TYPE (5)\nrefund: added -12.5000 EUR\nnull: null\ncent: VALUE (7)\n./null: null\nbadge.xml: TYPE (5)\nguest-not-asked.xml: TYPE (5)\nlonger: TOO LONG (2)\nlongest: added 12.5000 EUR\nempty: MARKUP (4)\n' \
+  '2 2 6' '0.0000 EUR' '' type refund null cent ./null badge.xml guest-not-asked.xml longer longest empty
+expect_totals 1 'not-utf-8: NOT UTF-8 (3)\nshape: TYPE (5)\n' '0 0 2' '' '' not-utf-8 shape
+printf '<s xsi:type="MO" value="1" currency="EUR" unit="1"/>' > unit
+printf '<s xsi:type="MO" value="1"/>' > no-currency
+expect_totals 1 'unit: SHAPE (6)\nno-currency: RULE (8)\n' '0 0 2' '' '' unit no-currency
+
+# The day of the examples, whose sums are 12.50 + 7.25 - 12.5, 20 - 20.00 and -15.75. docs/HOST.md shows it.
+day=$repository/tests/totals/day.txt
+cp "$repository"/examples/totals/*.xml .
+expect 1 "$(sed 's/$/\\n/' "$day" | tr -d '\n')" '' totals deposit.xml deposit-in-francs.xml parking.xml not-asked.xml comma.xml refund.xml refund-in-francs.xml refund-of-yesterday.xml
+awk '/^```text$/ { n++; inside = n == 2; next } /^```$/ { inside = 0 } inside' "$repository/docs/HOST.md" | cmp -s - "$day" || fail "totals: docs/HOST.md shows another day"
+
+# The agreed offset: money has no time, so that it changes nothing where it is allowed.
+for offset in 840 -840 0; do
+  expect_totals 0 'deposit.xml: added 12.5000 EUR\nnull: null\n' '1 1 0' '12.5000 EUR' '' deposit.xml null --offset $offset
+done
+expect_totals 1 'deposit.xml: OFFSET (1)\nnull: OFFSET (1)\nlonger: OFFSET (1)\n' '0 0 3' '' '' deposit.xml null longer --offset 841
+expect_totals 1 'deposit.xml: OFFSET (1)\n' '0 0 1' '' '' deposit.xml --offset -841
+
+# Sixteen currencies, and one more, which is refused; one that is held is not.
+lines='' totals='' currencies=()
+for letter in {P..A}; do
+  sum "in-$letter" 1 "${letter}AA"
+  currencies+=("in-$letter")
+  lines+="in-$letter: added 1.0000 ${letter}AA\\n"
+  totals+="1.0000 ${letter}AA"$'\n'
+done
+sum in-Q 1 QAA
+expect_totals 0 "$lines" '16 0 0' "$totals" '' "${currencies[@]}"
+expect_totals 1 "${lines}in-Q: NO ROW (16)\\nin-A: added 1.0000 AAA\\n" '17 0 1' "${totals/1.0000 AAA/2.0000 AAA}" '' "${currencies[@]}" in-Q in-A
+
+# The largest total and the smallest: 900 times the largest amount are 0.09 below the one, and nothing goes beyond it.
+sum most-money 999999999999.9999 EUR
+sum rest 0.09 EUR
+sum one-more 0.0001 EUR
+sum least-money -999999999999.9999 EUR
+sum rest-below -0.09 EUR
+sum one-less -0.0001 EUR
+lines='' files=()
+for ((i = 0; i < 900; i++)); do
+  files+=(most-money)
+  lines+='most-money: added 999999999999.9999 EUR\n'
+done
+expect_totals 1 "${lines}most-money: TOTAL (17)\\n" '900 0 1' '899999999999999.9100 EUR' '' "${files[@]}" most-money
+expect_totals 1 "${lines}rest: added 0.0900 EUR\\none-more: TOTAL (17)\\n" '901 0 1' '900000000000000.0000 EUR' '' "${files[@]}" rest one-more
+lines=${lines//added /added -}
+expect_totals 1 "${lines//most/least}rest-below: added -0.0900 EUR\\none-less: TOTAL (17)\\none-more: added 0.0001 EUR\\n" '902 0 1' \
+  '-899999999999999.9999 EUR' '' "${files[@]/most/least}" rest-below one-less one-more
+
+# Files that cannot be read: the others are added all the same, and these are in no count.
+expect_totals 3 '' '0 0 0' '' 'rigcactus: cannot read none: No such file or directory' none
+expect_totals 3 'value: VALUE (7)\ndeposit.xml: added 12.5000 EUR\n' '1 0 1' '12.5000 EUR' 'rigcactus: cannot read none: No such file or directory' value none deposit.xml
+expect_totals 3 '' '0 0 0' '' 'rigcactus: cannot read .: Is a directory' .
+
 # Bad usage.
 printf 'abc' > in
 expect 2 '' '*'
@@ -410,6 +493,16 @@ expect 2 '' '*' compare pass.xml --offset 0
 expect 2 '' '*' compare pass.xml pass.xml --offset
 expect 2 '' '*' compare pass.xml pass.xml --raw
 
+expect 2 '' '*' totals
+expect 2 '' '*' totals --offset 0
+expect 2 '' '*' totals --offset 0 deposit.xml
+expect 2 '' '*' totals deposit.xml --offset
+expect 2 '' '*' totals deposit.xml --offset x
+expect 2 '' '*' totals deposit.xml --raw
+expect 2 '' '*' totals deposit.xml --width 32
+expect 2 '' '*' totals deposit.xml --offset 0 null
+expect 2 '' '*' totals deposit.xml --offset 0 --offset 0
+
 # Help, which is not an error.
 "$program" --help > out 2> err || fail '--help ended with an error'
 grep -q '^  receipt NAME SUM PASS IDENTIFIER \[--width BYTES\] \[--offset MINUTES\]$' out || fail '--help does not name the command receipt'
@@ -419,6 +512,7 @@ grep -q '^  check FILE.. \[--offset MINUTES\]$' out || fail '--help does not nam
 grep -q '^  list FILE \[--offset MINUTES\] \[--raw\]$' out || fail '--help does not name the command list'
 grep -q '^  print FILE \[--offset MINUTES\]$' out || fail '--help does not name the command print'
 grep -q '^  compare FILE FILE \[--offset MINUTES\]$' out || fail '--help does not name the command compare'
+grep -q '^  totals FILE.. \[--offset MINUTES\]$' out || fail '--help does not name the command totals'
 [ ! -s err ] || fail '--help wrote to standard error'
 
 # Reading and writing that fail.
@@ -436,5 +530,7 @@ printf 'abc' | "$program" cut 3 > /dev/full 2> err
 [ $? -eq 3 ] || fail 'print pass.xml to a full device did not end with 3'
 "$program" compare pass.xml pass.xml > /dev/full 2> err
 [ $? -eq 3 ] || fail 'compare pass.xml pass.xml to a full device did not end with 3'
+"$program" totals deposit.xml > /dev/full 2> err
+[ $? -eq 3 ] || fail 'totals deposit.xml to a full device did not end with 3'
 
 [ "$failures" -eq 0 ]

@@ -1,5 +1,5 @@
 /*
- * Damaged records, given to the reader of texts and to receipts: every file that is named, cut off after every length, and with each of its
+ * Damaged records, given to the reader of texts, to receipts and to totals: every file that is named, cut off after every length, and with each of its
  * bytes replaced by others. Memory that is lent ends where the record does, so that a sanitizer or valgrind sees a byte read too far.
  *
  *     damage STEP FILE..    with STEP 1 every length and byte is tried, with a larger one only some are
@@ -7,7 +7,9 @@
 #include "receipt.h"
 #include "rigcactus.h"
 #include "text.h"
+#include "totals.h"
 
+#include <inttypes.h>
 #include <stdio.h>
 #include <stdlib.h>
 #include <string.h>
@@ -22,6 +24,9 @@ static const char *const good[RECEIPT_RECORDS] = {
 };
 
 static unsigned long receipts = 0, refusals = 0, failures = 0;
+
+/* One table for all records: what is damaged are records, and never the table. */
+static uint64_t table[RIGCACTUS_TABLE_NUMBERS];
 
 /* Memory of exactly this length: reading past it is seen. */
 static uint8_t *lend(size_t length)
@@ -64,6 +69,23 @@ static void print_at(struct slice record, size_t place)
     failures += place == 2 && rigcactus_refusal(due) == RIGCACTUS_ACCEPTED && refused == 1;
 }
 
+static uint64_t counted(void)
+{
+    return table[1] + table[2] + table[3];
+}
+
+/* Adds the record to the totals. One count rises; it is refused if the services say so, and else only for its type. */
+static void add_to_totals(struct slice record)
+{
+    uint64_t before = counted(), refused_before = table[3];
+    int refusal = print_added(table, "record", record, 0);
+    int due = rigcactus_refusal(rigcactus_check(record.bytes, record.length, 0));
+    print_totals(table);
+    failures += counted() != before + 1 || table[3] - refused_before != (refusal != RIGCACTUS_ACCEPTED);
+    failures += due != RIGCACTUS_ACCEPTED && refusal != due && refusal != RIGCACTUS_TYPE;
+    failures += due == RIGCACTUS_ACCEPTED && refusal != RIGCACTUS_ACCEPTED && refusal != RIGCACTUS_TYPE;
+}
+
 /* Tries the first bytes of a record at every place. */
 static void try_length(const uint8_t *bytes, size_t length)
 {
@@ -73,6 +95,7 @@ static void try_length(const uint8_t *bytes, size_t length)
     read_texts(record);
     for (size_t place = 0; place < RECEIPT_RECORDS; place++)
         print_at(record, place);
+    add_to_totals(record);
     free(lent);
 }
 
@@ -85,6 +108,7 @@ static void try_byte(const uint8_t *bytes, size_t length, size_t at)
         lent[at] = replacements[i];
         read_texts((struct slice){lent, length});
         print_at((struct slice){lent, length}, (at + i) % RECEIPT_RECORDS);
+        add_to_totals((struct slice){lent, length});
     }
     free(lent);
 }
@@ -115,8 +139,10 @@ int main(int argc, char **argv)
     }
     if (freopen("/dev/null", "w", stdout) == NULL)
         return 3;
+    rigcactus_totals_open(table);
     for (int i = 2; i < argc; i++)
         try_file(argv[i], (size_t)step);
     fprintf(stderr, "%lu receipts, %lu refused, %lu failures\n", receipts, refusals, failures);
-    return failures > 0 || refusals == 0 || refusals == receipts;
+    fprintf(stderr, "totals: %" PRIu64 " added, %" PRIu64 " null, %" PRIu64 " refused\n", table[1], table[2], table[3]);
+    return failures > 0 || refusals == 0 || refusals == receipts || table[1] == 0 || table[2] == 0 || table[3] == 0;
 }
