@@ -58,7 +58,7 @@ done
 for command in $("$prefix/bin/rigcactus" --help | sed -n 's/^  \([a-z]*\) .*/\1/p'); do
   grep -qx "\\.B $command" man/rigcactus.1 || fail "rigcactus.1 does not name the command $command"
 done
-for service in $(sed -n 's/^uint64_t \(rigcactus_[a-z]*\)(.*/\1/p' include/rigcactus.h); do
+for service in $(sed -n 's/^uint64_t \(rigcactus_[a-z_]*\)(.*/\1/p' include/rigcactus.h); do
   grep -q "^\\.BI \"uint64_t $service(" man/rigcactus.3 || fail "rigcactus.3 does not name the service $service"
 done
 
