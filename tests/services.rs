@@ -12,12 +12,16 @@
 mod check;
 mod compare;
 mod cut;
+mod day;
 mod faults;
+mod keeper;
 mod lent;
 mod likeness;
+mod limits;
 mod list;
 mod lists;
 mod markup;
+mod money;
 mod options;
 mod pairs;
 mod places;
@@ -25,24 +29,28 @@ mod print;
 mod printed;
 mod random;
 mod records;
+mod rows;
 mod series;
 mod sets;
+mod shares;
 mod table;
 mod tally;
 mod tick;
+mod totals;
 
 use std::process::ExitCode;
 
 use options::Options;
 
 /// What tries each service, and says whether it agrees with the other implementation.
-const SERVICES: [(&str, fn(&Options) -> bool); 6] = [
+const SERVICES: [(&str, fn(&Options) -> bool); 7] = [
     ("cut", cut::run),
     ("tick", tick::run),
     ("check", check::run),
     ("list", list::run),
     ("compare", compare::run),
     ("print", print::run),
+    ("totals", totals::run),
 ];
 
 fn options() -> Option<Options> {

@@ -1,4 +1,5 @@
-//! The tables of tests/records: lines of words and texts, as the head of tests/records/check.txt says, and lists, as that of print.txt.
+//! The tables of tests/records: lines of words and texts, as the head of tests/records/check.txt says, lists, as that of print.txt, and
+//! tables of daily totals, as that of totals.txt.
 
 /// The lines that say something, with their numbers from 1 on.
 pub fn lines(table: &'static str) -> impl Iterator<Item = (usize, &'static str)> {
@@ -47,6 +48,32 @@ pub fn list(text: &str) -> Vec<u8> {
     let mut list: Vec<u8> = numbers.flat_map(|number| number.parse::<i64>().unwrap().to_le_bytes()).collect();
     list.resize(list.len() + more.parse::<usize>().unwrap(), 0);
     list
+}
+
+/// The table of daily totals that a text of totals.txt writes, with the numbers of another one where it says nothing.
+pub fn totals(text: &str, other: &[u64; 36]) -> [u64; 36] {
+    let mut parts = text.split(':');
+    let mut numbers: Vec<u64> = vec![parts.next().unwrap().parse().unwrap()];
+    numbers.extend(parts.next().unwrap().split(',').map(|count| count.parse::<u64>().unwrap()));
+    for row in parts.next().unwrap().split(',').filter(|row| *row != "-") {
+        let (currencies, total) = row.split_once('=').unwrap();
+        let total: i64 = total.parse().unwrap();
+        numbers.extend(self::currencies(currencies).flat_map(|currency| [currency, total as u64]));
+    }
+    let mut table = *other;
+    table[..numbers.len()].copy_from_slice(&numbers);
+    table
+}
+
+/// The currencies that `EUR`, `0x525545` or `AAA-AAP` writes, as numbers.
+fn currencies(text: &str) -> impl Iterator<Item = u64> {
+    let letters = |text: &str| text.bytes().rev().fold(0, |number, letter| number << 8 | u64::from(letter));
+    let (first, last) = match (text.strip_prefix("0x"), text.split_once('-')) {
+        (Some(digits), _) => [u64::from_str_radix(digits, 16).unwrap(); 2].into(),
+        (None, Some((first, last))) => (letters(first), letters(last)),
+        (None, None) => (letters(text), letters(text)),
+    };
+    (0..=(last - first) >> 16).map(move |step| first + (step << 16))
 }
 
 /// The interval that `NAME LOW,HIGH]` or `NAME LOW,HIGH)` writes.
