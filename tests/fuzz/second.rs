@@ -1,4 +1,4 @@
-//! The second implementations of the six services behind a C interface, for tests/fuzz/services.c: each function takes what the service
+//! The second implementations of the services behind a C interface, for tests/fuzz/services.c: each function takes what the service
 //! takes, and answers and writes what is due.
 
 // Only what says what is due is used of the files here, and not what makes texts and counts answers.
@@ -6,6 +6,8 @@
 
 #[path = "../cut.rs"]
 mod cut;
+#[path = "../day.rs"]
+mod day;
 #[path = "../faults.rs"]
 mod faults;
 #[path = "../lent.rs"]
@@ -28,6 +30,7 @@ mod tick;
 use std::slice;
 use std::sync::OnceLock;
 
+use day::{Day, Report, Table};
 use options::Options;
 use printed::Dates;
 use tick::Calendar;
@@ -91,4 +94,25 @@ pub unsafe extern "C" fn second_print(list: *const u8, list_len: usize, record: 
     let printed = printed::print(slice::from_raw_parts(list, list_len), dates());
     lent.copy_from_slice(&printed.after(lent));
     printed.answer(record_len)
+}
+
+/// # Safety
+/// The pointers lead to a table and to so many bytes, of which nobody else changes any during the call, and which do not overlap.
+#[no_mangle]
+pub unsafe extern "C" fn second_totals_add(table: *mut Table, record: *const u8, record_len: usize, offset: i64) -> u64 {
+    let mut day = Day::go_on(&*table);
+    let record = day::read(slice::from_raw_parts(record, record_len), offset, calendar());
+    let answer = day.due(record);
+    day.take(record, answer);
+    *table = day.table();
+    answer
+}
+
+/// # Safety
+/// The pointers lead to a table and to a report, of which nobody else changes any during the call, and which do not overlap.
+#[no_mangle]
+pub unsafe extern "C" fn second_totals_report(table: *const Table, report: *mut Report) -> u64 {
+    let (answer, after) = Day::go_on(&*table).report(&*report);
+    *report = after;
+    answer
 }

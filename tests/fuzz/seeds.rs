@@ -2,8 +2,8 @@
 //!
 //!     seeds FOLDER
 //!
-//! They are the records and lists of tests/records, the records of examples/records, the names of examples/names, and some timestamps, in
-//! the form that tests/fuzz/services.c reads.
+//! They are the records, lists and tables of tests/records, the records of examples/records, the names of examples/names, and some
+//! timestamps, in the form that tests/fuzz/services.c reads.
 
 #[path = "../table.rs"]
 mod table;
@@ -18,8 +18,9 @@ const CHECK: u8 = 2;
 const LIST: u8 = 3;
 const COMPARE: u8 = 4;
 const PRINT: u8 = 5;
+const TOTALS: u8 = 6;
 
-/// What parts two records in an input.
+/// What parts records in an input.
 const PART: u8 = 0xFF;
 
 /// Timestamps of each precision, with an offset and without, and texts that are none: some are a byte away from one.
@@ -75,6 +76,24 @@ impl Writer {
         }
     }
 
+    /// The stored tables of daily totals, each with its record; and a day that begins with an empty one and is given all short records.
+    fn totals(&mut self) {
+        let mut day = Vec::new();
+        for (_, line) in table::lines(include_str!("../records/totals.txt")) {
+            let words: Vec<&str> = line.splitn(5, ' ').collect();
+            let numbers = table::totals(words[2], &[0xA5A5_A5A5_A5A5_A5A5; 36]);
+            let record = table::bytes(words[4]);
+            self.write(TOTALS, words[1].parse().unwrap(), 0, &[numbers.map(u64::to_le_bytes).as_flattened(), &record].concat());
+            if record.len() < 200 {
+                day.push(record);
+            }
+        }
+        for records in day.chunks(50) {
+            self.write(TOTALS, 0, 0, &[vec![0; 8 * 36], records.join(&PART)].concat());
+        }
+        self.write(TOTALS, 0, 0, b"");
+    }
+
     fn examples(&mut self) {
         for record in files("examples/records") {
             self.write(CHECK, 120, 0, &record);
@@ -104,6 +123,7 @@ fn main() {
     let folder = std::env::args().nth(1).expect("usage: seeds FOLDER");
     let mut writer = Writer { folder: Path::new(&folder).to_path_buf(), count: 0 };
     writer.tables();
+    writer.totals();
     writer.examples();
     println!("{} inputs in {folder}", writer.count);
 }

@@ -1,18 +1,19 @@
 /*
- * Fuzzes the six services through the C interface. An input chooses a service and its arguments; the answer is held to what the header
+ * Fuzzes the services through the C interface. An input chooses a service and its arguments; the answer is held to what the header
  * says of it, to the other services, to the same call with other arguments, and to the second implementations of second.rs. All that is
  * lent stands beside a page that nobody may touch, so a read or a write past its end stops the run, though the services are compiled
  * without any check of their own. tests/fuzz/run says how this is built and run.
  *
  * An input is:
  *
- *     byte 0           the service: 0 cut, 1 tick, 2 check, 3 list, 4 compare, 5 print, by the remainder of 6
+ *     byte 0           the service: 0 cut, 1 tick, 2 check, 3 list, 4 compare, 5 print, 6 daily totals, by the remainder of 7
  *     bytes 1 and 2    the agreed offset, signed, lowest first; for print, the one that the record is read back under, if it may be
  *     bytes 3 and 4    the room of a cut, or the length of the lent list or the lent record
- *     byte 5           what the lent list, record or tick is filled with; and, if its lowest bit is set, offset and room are moved to the
- *                      top of their 64 bits
+ *     byte 5           what the lent list, record, report or tick is filled with; and, if its lowest bit is set, offset and room are
+ *                      moved to the top of their 64 bits
  *     the rest         the text, the record or the list to print; for compare two records, parted by a byte FF, or one that is compared
- *                      with itself
+ *                      with itself; for totals the bytes of a table, with 0 where they are too few, and the records that are added to it
+ *                      one after another, parted by bytes FF
  */
 #define _DEFAULT_SOURCE
 #include "rigcactus.h"
@@ -29,8 +30,11 @@ uint64_t second_check(const uint8_t *record, size_t record_len, int64_t offset);
 uint64_t second_list(const uint8_t *record, size_t record_len, int64_t offset, uint8_t *list, size_t list_len);
 uint64_t second_compare(const uint8_t *first, size_t first_len, const uint8_t *second, size_t second_len, int64_t offset);
 uint64_t second_print(const uint8_t *list, size_t list_len, uint8_t *record, size_t record_len);
+uint64_t second_totals_add(uint64_t *table, const uint8_t *record, size_t record_len, int64_t offset);
+uint64_t second_totals_report(const uint64_t *table, uint64_t *report);
 
-enum { PAGE = 4096, ROOM = 32768, HEAD = 6, MOST_LIST = 2047, MOST_RECORD = 8191, SPACES = 2 };
+enum { PAGE = 4096, ROOM = 32768, HEAD = 6, MOST_LIST = 2047, MOST_RECORD = 8191, SPACES = 2, MOST_ADDED = 64 };
+enum { TABLE = RIGCACTUS_TABLE_NUMBERS, REPORT = RIGCACTUS_REPORT_NUMBERS, TABLE_BYTES = 8 * TABLE };
 
 /* The first and the last tick that a timestamp can have, and the last of those in years 0001 to 9999, of which the first is 0. */
 static const int64_t FIRST_TICK = -504000000, LAST_TICK = 3155379479999999, LAST_IN_YEARS = 3155378975999999;
@@ -48,7 +52,7 @@ static const int64_t FIRST_TICK = -504000000, LAST_TICK = 3155379479999999, LAST
  * One byte for each kind of answer: a fuzzer that knows this section counts the first of each kind as something new, beside what the
  * instrumented code shows.
  */
-static uint8_t seen[6][13][64] __attribute__((section("__libfuzzer_extra_counters"), used));
+static uint8_t seen[7][26][64] __attribute__((section("__libfuzzer_extra_counters"), used));
 
 static void see(int service, uint64_t answer, uint64_t result)
 {
@@ -83,7 +87,7 @@ static struct lent place(struct fenced fenced, const uint8_t *bytes, size_t leng
     return (struct lent){at, length};
 }
 
-static struct fenced one, two, list_room, tick_room, record_room;
+static struct fenced one, two, list_room, tick_room, record_room, table_room, report_room;
 
 static void set_up(void)
 {
@@ -94,6 +98,8 @@ static void set_up(void)
     list_room = new_fenced();
     tick_room = new_fenced();
     record_room = new_fenced();
+    table_room = new_fenced();
+    report_room = new_fenced();
 }
 
 /* Whether bytes are all of one value. */
@@ -549,6 +555,160 @@ static void try_print(const uint8_t *bytes, size_t length, int64_t offset, size_
     CLAIM(memcmp(record.bytes, due, record_length) == 0);
 }
 
+/* ---- Totals ------------------------------------------------------------------------------------------------------- */
+
+/* Numbers at the last place before the fence, or at the first after it. */
+static uint64_t *place_numbers(struct fenced fenced, const uint64_t *numbers, size_t count, int last)
+{
+    return (uint64_t *)place(fenced, (const uint8_t *)numbers, 8 * count, last).bytes;
+}
+
+static int is_same(const uint64_t *first, const uint64_t *second, size_t count)
+{
+    return memcmp(first, second, 8 * count) == 0;
+}
+
+/* A table whose report is given is not damaged. */
+static void claim_undamaged(const uint64_t *table, const uint64_t *report)
+{
+    CLAIM(table[0] <= RIGCACTUS_MOST_CURRENCIES);
+    CLAIM(table[1] <= RIGCACTUS_MOST_COUNTED && table[2] <= RIGCACTUS_MOST_COUNTED && table[3] <= RIGCACTUS_MOST_COUNTED);
+    CLAIM(table[1] + table[2] + table[3] <= RIGCACTUS_MOST_COUNTED);
+    for (size_t i = 0; i < table[0]; i++) {
+        struct rigcactus_total row = rigcactus_total_at(report, i);
+        for (size_t letter = 0; letter < 3; letter++)
+            CLAIM('A' <= row.currency[letter] && row.currency[letter] <= 'Z');
+        CLAIM(row.currency[3] == '\0' && table[4 + 2 * i] >> 24 == 0);
+        CLAIM(-RIGCACTUS_MOST_TOTAL <= row.total && row.total <= RIGCACTUS_MOST_TOTAL);
+        for (size_t j = 0; j < i; j++)
+            CLAIM(table[4 + 2 * j] != table[4 + 2 * i]);
+    }
+}
+
+/* Has a table reported, and says whether it is damaged: the report has the numbers of the table, and nothing past its rows is changed. */
+static int is_damaged(const uint64_t *numbers, uint8_t fill)
+{
+    uint64_t before[REPORT], due[REPORT];
+    memset(before, fill, sizeof before);
+    memset(due, fill, sizeof due);
+    uint64_t *table = place_numbers(table_room, numbers, TABLE, 1), *report = place_numbers(report_room, before, REPORT, 1);
+    memset((uint8_t *)report - 64, 0x69, 64);
+    uint64_t answer = rigcactus_totals_report(table, report);
+    size_t rows = rigcactus_count(answer), written = answer == RIGCACTUS_DAMAGED ? 0 : 3 + 2 * rows;
+
+    CLAIM(answer == second_totals_report(numbers, due) && is_same(report, due, REPORT));
+    CLAIM(answer == RIGCACTUS_DAMAGED || answer == numbers[0] << 8);
+    CLAIM(written <= REPORT && is_same(report, numbers + 1, written));
+    CLAIM(is_all((uint8_t *)(report + written), 8 * (REPORT - written), fill) && is_all((uint8_t *)report - 64, 64, 0x69));
+    CLAIM(is_same(table, numbers, TABLE));
+    if (answer != RIGCACTUS_DAMAGED)
+        claim_undamaged(table, report);
+    table = place_numbers(table_room, numbers, TABLE, 0);
+    report = place_numbers(report_room, before, REPORT, 0);
+    CLAIM(rigcactus_totals_report(table, report) == answer && is_same(report, due, REPORT));
+    return answer == RIGCACTUS_DAMAGED;
+}
+
+/* What a record comes to with an empty table, which is opened here; the table afterwards has its currency and amount, if it has any. */
+static uint64_t add_alone(struct lent record, int64_t offset, uint8_t fill, uint64_t *alone)
+{
+    memset(alone, fill, TABLE_BYTES);
+    CLAIM(rigcactus_totals_open(alone) == 0 && is_all((uint8_t *)alone, TABLE_BYTES, 0));
+    uint64_t answer = rigcactus_totals_add(alone, record.bytes, record.length, offset);
+    int refusal = rigcactus_refusal(answer), checked = rigcactus_refusal(check(record, offset));
+
+    CLAIM(alone[1] + alone[2] + alone[3] == 1);
+    CLAIM(alone[1] == (answer == RIGCACTUS_ADDED << 8) && alone[2] == (answer == RIGCACTUS_NULL << 8));
+    CLAIM(alone[0] == alone[1] && is_all((uint8_t *)(alone + 4 + 2 * alone[0]), 8 * (32 - 2 * alone[0]), 0));
+    CLAIM(alone[3] == 0 || answer == (uint64_t)refusal);
+    if (checked == RIGCACTUS_ACCEPTED)
+        CLAIM(refusal == RIGCACTUS_ACCEPTED || refusal == RIGCACTUS_TYPE);
+    else
+        CLAIM(refusal == checked || (refusal == RIGCACTUS_TYPE && checked > RIGCACTUS_TYPE));
+    return answer;
+}
+
+/* The answer that is due for an amount, and the numbers that are to change in the table before: its row, rows held, and a count. */
+static uint64_t due_for_amount(uint64_t *table, uint64_t currency, int64_t amount)
+{
+    size_t row = 0;
+    int64_t total = amount;
+
+    while (row < table[0] && table[4 + 2 * row] != currency)
+        row++;
+    if (row < table[0])
+        total += (int64_t)table[5 + 2 * row];
+    table[3]++;
+    if (row == RIGCACTUS_MOST_CURRENCIES)
+        return RIGCACTUS_NO_ROW;
+    if (total < -RIGCACTUS_MOST_TOTAL || total > RIGCACTUS_MOST_TOTAL)
+        return RIGCACTUS_TOTAL;
+    table[3]--;
+    table[1]++;
+    table[0] += row == table[0];
+    table[4 + 2 * row] = currency;
+    table[5 + 2 * row] = (uint64_t)total;
+    return RIGCACTUS_ADDED << 8;
+}
+
+/* What a record does to a table follows from what it does to an empty one, unless the table is damaged or the day is full. */
+static uint64_t due_for(uint64_t *table, struct lent record, int64_t offset, uint8_t fill)
+{
+    uint64_t alone[TABLE];
+
+    if (is_damaged(table, fill))
+        return RIGCACTUS_DAMAGED;
+    if (table[1] + table[2] + table[3] == RIGCACTUS_MOST_COUNTED)
+        return RIGCACTUS_DAY_FULL;
+    uint64_t answer = add_alone(record, offset, fill, alone);
+    if (alone[1] == 1)
+        return due_for_amount(table, alone[4], (int64_t)alone[5]);
+    table[2] += alone[2];
+    table[3] += alone[3];
+    return answer;
+}
+
+/* Adds a record to a table. */
+static void try_add(uint64_t *numbers, const uint8_t *bytes, size_t length, int64_t offset, uint8_t fill)
+{
+    uint64_t due[TABLE], second[TABLE];
+    memcpy(due, numbers, TABLE_BYTES);
+    memcpy(second, numbers, TABLE_BYTES);
+    struct lent record = place(one, bytes, length, 1);
+    uint64_t due_answer = due_for(due, record, offset, fill);
+    uint64_t *table = place_numbers(table_room, numbers, TABLE, 1);
+    memset((uint8_t *)table - 64, 0x69, 64);
+    uint64_t answer = rigcactus_totals_add(table, record.bytes, record.length, offset);
+
+    see(6, answer, rigcactus_entry(answer) << 4 | (table[0] & 15));
+    CLAIM(answer == due_answer && is_same(table, due, TABLE));
+    CLAIM(answer == second_totals_add(second, record.bytes, record.length, offset) && is_same(table, second, TABLE));
+    CLAIM(is_all((uint8_t *)table - 64, 64, 0x69));
+    CLAIM(length == 0 || memcmp(record.bytes, bytes, length) == 0);
+    table = place_numbers(table_room, numbers, TABLE, 0);
+    record = place(one, bytes, length, 0);
+    CLAIM(rigcactus_totals_add(table, record.bytes, record.length, offset) == answer && is_same(table, due, TABLE));
+    CLAIM(is_damaged(due, fill) == (answer == RIGCACTUS_DAMAGED));
+    memcpy(numbers, due, TABLE_BYTES);
+}
+
+static void try_totals(const uint8_t *bytes, size_t length, int64_t offset, uint8_t fill)
+{
+    uint64_t table[TABLE] = {0};
+    size_t head = length < TABLE_BYTES ? length : TABLE_BYTES;
+    if (head > 0)
+        memcpy(table, bytes, head);
+    const uint8_t *record = bytes + head, *end = bytes + length;
+
+    for (int i = 0; i < MOST_ADDED; i++) {
+        const uint8_t *part = record < end ? memchr(record, 0xFF, (size_t)(end - record)) : NULL;
+        try_add(table, record, (size_t)((part ? part : end) - record), offset, fill);
+        if (!part)
+            return;
+        record = part + 1;
+    }
+}
+
 /* ---- Inputs ------------------------------------------------------------------------------------------------------- */
 
 int LLVMFuzzerTestOneInput(const uint8_t *input, size_t input_len);
@@ -566,13 +726,14 @@ int LLVMFuzzerTestOneInput(const uint8_t *input, size_t input_len)
     const uint8_t *bytes = input + HEAD;
     size_t length = input_len - HEAD;
 
-    switch (input[0] % 6) {
+    switch (input[0] % 7) {
     case 0: try_cut(bytes, length, cut_room); break;
     case 1: try_tick(bytes, length, offset, fill); break;
     case 2: try_check(bytes, length, offset); break;
     case 3: try_list(bytes, length, offset, room & MOST_LIST, fill); break;
     case 4: try_compare(bytes, length, offset); break;
-    default: try_print(bytes, length, offset, room & MOST_RECORD, fill); break;
+    case 5: try_print(bytes, length, offset, room & MOST_RECORD, fill); break;
+    default: try_totals(bytes, length, offset, fill); break;
     }
     return 0;
 }
