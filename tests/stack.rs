@@ -12,12 +12,16 @@
 mod check;
 mod compare;
 mod cut;
+mod day;
 mod faults;
+mod keeper;
 mod lent;
 mod likeness;
+mod limits;
 mod list;
 mod lists;
 mod markup;
+mod money;
 mod options;
 mod pairs;
 mod places;
@@ -25,15 +29,20 @@ mod print;
 mod printed;
 mod random;
 mod records;
+mod rows;
 mod series;
 mod sets;
+mod shares;
 mod table;
 mod tally;
 mod tick;
+mod totals;
 
 use std::ffi::c_void;
 use std::process::ExitCode;
 
+use day::Table;
+use money::Style;
 use options::Options;
 use random::Random;
 use records::Maker;
@@ -46,6 +55,9 @@ extern "C" {
     fn rigcactus_list(record: *const u8, record_len: usize, offset: i64, list: *mut u8, list_len: usize) -> u64;
     fn rigcactus_compare(first: *const u8, first_len: usize, second: *const u8, second_len: usize, offset: i64) -> u64;
     fn rigcactus_print(list: *const u8, list_len: usize, record: *mut u8, record_len: usize) -> u64;
+    fn rigcactus_totals_open(table: *mut u64) -> u64;
+    fn rigcactus_totals_add(table: *mut u64, record: *const u8, record_len: usize, offset: i64) -> u64;
+    fn rigcactus_totals_report(table: *const u64, report: *mut u64) -> u64;
 
     /// Calls a service with five words on the stack that ends at `top`.
     fn call_on_stack(top: *mut u64, service: *const c_void, words: *const u64) -> u64;
@@ -80,17 +92,24 @@ enum Service {
     List,
     Compare,
     Print,
+    TotalsOpen,
+    TotalsAdd,
+    TotalsReport,
 }
 use Service::*;
 
 /// The services, and the most bytes of stack that each is said to take.
-const SERVICES: [(Service, &str, usize); 6] = [
+const SERVICES: [(Service, &str, usize); 9] = [
     (Cut, "cut", 256),
     (Tick, "tick", 1024),
     (Check, "check", 8192),
     (List, "list", 49152),
     (Compare, "compare", 8192),
     (Print, "print", 1024),
+    // TODO(measured): the bounds of these three.
+    (TotalsOpen, "totals_open", 256),
+    (TotalsAdd, "totals_add", 8192),
+    (TotalsReport, "totals_report", 256),
 ];
 
 // ---- The stack -----------------------------------------------------------------------------------------------------
@@ -125,6 +144,7 @@ impl Stack {
         let mut tick = 0_i64;
         let mut list = [0_u8; 1024];
         let mut record = [0_u8; 8192];
+        let (mut table, mut report) = (input.table, [0_u64; 35]);
         let (at, length, number) = (first.as_ptr() as u64, first.len() as u64, input.number as u64);
         let (function, words): (*const c_void, [u64; 5]) = match service {
             Cut => (rigcactus_cut as *const c_void, [at, length, number, 0, 0]),
@@ -133,6 +153,9 @@ impl Stack {
             List => (rigcactus_list as *const c_void, [at, length, number, list.as_mut_ptr() as u64, 1024]),
             Compare => (rigcactus_compare as *const c_void, [at, length, second.as_ptr() as u64, second.len() as u64, number]),
             Print => (rigcactus_print as *const c_void, [at, length, record.as_mut_ptr() as u64, 8192, 0]),
+            TotalsOpen => (rigcactus_totals_open as *const c_void, [table.as_mut_ptr() as u64, 0, 0, 0, 0]),
+            TotalsAdd => (rigcactus_totals_add as *const c_void, [table.as_mut_ptr() as u64, at, length, number, 0]),
+            TotalsReport => (rigcactus_totals_report as *const c_void, [table.as_ptr() as u64, report.as_mut_ptr() as u64, 0, 0, 0]),
         };
         // SAFETY: the words are the service's arguments, with pointers to memory of the lengths beside them, and the stack is free.
         unsafe { call_on_stack(self.words.as_mut_ptr().add(WORDS), function, words.as_ptr()) };
@@ -144,17 +167,20 @@ impl Stack {
 
 // ---- Inputs --------------------------------------------------------------------------------------------------------
 
-/// A text, a list, a record or two; and the room or the agreed offset.
+/// A text, a list, a record or two; the room or the agreed offset; and the table that a record is added to.
 struct Input {
     what: String,
     first: Vec<u8>,
     second: Vec<u8>,
     number: i64,
+    table: Table,
 }
 
+/// An input with a table of sixteen rows, which has an amount in EUR go to the last one.
 fn input(what: &str, first: impl Into<Vec<u8>>) -> Input {
     let first = first.into();
-    Input { what: what.to_string(), second: first.clone(), first, number: 0 }
+    let table = table::totals("16:16,0,0:AAA-AAO=0,EUR=0", &[0; 36]);
+    Input { what: what.to_string(), second: first.clone(), first, number: 0, table }
 }
 
 /// An interval, its bounds at a place of a line, so that those of different places lie apart; at place 0 it has no bounds.
@@ -285,7 +311,7 @@ fn short_and_long_lists() -> Vec<Input> {
     inputs
 }
 
-/// The records of tests/records, the pairs and the lists.
+/// The records of tests/records, the pairs, the lists and the tables.
 fn stored() -> Vec<Input> {
     let mut inputs = Vec::new();
     for (table, count) in [(include_str!("records/check.txt"), 3), (include_str!("records/list.txt"), 5)] {
@@ -306,12 +332,20 @@ fn stored() -> Vec<Input> {
     for (number, line) in table::lines(include_str!("records/print.txt")) {
         inputs.push(input(&format!("a stored list, line {number}"), table::list(line.split(' ').nth(2).unwrap())));
     }
+    for (number, line) in table::lines(include_str!("records/totals.txt")) {
+        let words: Vec<&str> = line.splitn(5, ' ').collect();
+        let mut input = input(&format!("a stored table, line {number}"), table::bytes(words[4]));
+        (input.number, input.table) = (words[1].parse().unwrap(), table::totals(words[2], &[u64::MAX; 36]));
+        inputs.push(input);
+    }
     inputs
 }
 
 /// An input that is made from random numbers, as tests/services.rs makes it.
 fn made(service: Service, random: &mut Random, calendar: &Calendar) -> Input {
     let offset = random.from(0, 1680) as i64 - 840;
+    let style = Style::any(random);
+    let table = if random.once_in(4) { rows::damaged(random, &style.currencies) } else { rows::proper(random, &style.currencies) };
     let mut maker = Maker { random, offset, calendar };
     let (first, second) = match service {
         Cut => (cut::text(maker.random), Vec::new()),
@@ -320,8 +354,10 @@ fn made(service: Service, random: &mut Random, calendar: &Calendar) -> Input {
         List => (maker.record_to_list(), Vec::new()),
         Compare => maker.pair(),
         Print => (lists::list(maker.random), Vec::new()),
+        TotalsAdd => (maker.record_to_add(&style, &table).0, Vec::new()),
+        TotalsOpen | TotalsReport => (Vec::new(), Vec::new()),
     };
-    Input { what: "a made input".to_string(), first, second, number: offset }
+    Input { what: "a made input".to_string(), first, second, number: offset, table }
 }
 
 // ---- The measurement -----------------------------------------------------------------------------------------------
@@ -359,7 +395,7 @@ fn main() -> ExitCode {
         let (bytes, deepest) = most(&mut stack, service, inputs.iter());
         let bytes_of_made = (0..options.cases).map(|_| stack.measure(service, &made(service, &mut random, &calendar))).max().unwrap_or(0);
         let shown = deepest.first[..deepest.first.len().min(60)].escape_ascii();
-        println!("{name:<8}{bytes:>8} bytes of stack at most, {bytes_of_made:>8} with inputs that are made; {bound:>8} are said to be enough");
+        println!("{name:<14}{bytes:>8} bytes of stack at most, {bytes_of_made:>8} with inputs that are made; {bound:>8} are said to be enough");
         println!("        by {}: {shown}", deepest.what);
         within &= bytes.max(bytes_of_made) <= bound;
     }
