@@ -222,8 +222,8 @@ target/fuzz/services: tests/fuzz/services.c $(header) target/fuzz/librigcactus.a
 	clang $(CFLAGS) -O1 -g -fsanitize=fuzzer,address,undefined -fno-sanitize-recover=all -Iinclude -o $@ $< $(@D)/librigcactus.a $(@D)/libsecond.a -lpthread -ldl -lm
 
 # The bench is linked with the services at four places, since their speed depends on that. Without expat nothing is there to compare
-# checking and comparing with, and listing is compared with Boost.ICL's sets as well.
-benches = cut tick print $(if $(expat),check compare $(if $(boost),list))
+# checking, comparing and daily totals with, and listing is compared with Boost.ICL's sets as well.
+benches = cut tick print $(if $(expat),check compare totals $(if $(boost),list))
 bench: $(foreach bench,$(benches),$(places:%=target/bench/%/$(bench)))
 	@bench/times
 	@bench/instructions
@@ -252,6 +252,13 @@ target/bench/%/compare: bench/compare.c bench/sides.h bench/records.h $(header) 
 
 target/bench/%/list: bench/list.c bench/sides.h bench/records.h $(header) target/bench/list_expat_icl.o target/bench/%/librigcactus.a
 	$(CC) $(CFLAGS) -Iinclude -o $@ $< target/bench/list_expat_icl.o $(@D)/librigcactus.a -lexpat -lstdc++ -lm
+
+target/bench/%/totals: bench/totals.c bench/sides.h $(header) target/bench/totals_expat.o target/bench/%/librigcactus.a
+	$(CC) $(CFLAGS) -Iinclude -o $@ $< target/bench/totals_expat.o $(@D)/librigcactus.a -lexpat
+
+target/bench/totals_expat.o: bench/totals_expat.c bench/totals_expat.h
+	@mkdir -p $(@D)
+	$(CC) $(CFLAGS) -c -o $@ $<
 
 target/bench/compare_expat.o: bench/compare_expat.c bench/compare_expat.h $(header)
 	@mkdir -p $(@D)

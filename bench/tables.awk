@@ -152,6 +152,9 @@ function glances() {
   glance("compare", "names", "name-16000", "expat", "expat, strcmp, strtod")
   glance("print", "1 stretch", "open-1", "glibc", "gmtime_r, snprintf")
   glance("print", "32 stretches", "open-32", "glibc", "gmtime_r, snprintf")
+  glance("totals", "1 currency", "day-1", "expat", "expat, strtod")
+  glance("totals", "4 currencies", "day-4", "expat", "expat, strtod")
+  glance("totals", "16 currencies", "day-16", "expat", "expat, strtod")
 }
 
 function growths(  lengths) {
@@ -198,6 +201,14 @@ function compares(  records) {
   by_set("compare", "check", records)
 }
 
+function totals(  days) {
+  days = "day-1 first-1 last-1 day-4 first-4 last-4 day-16 first-16 last-16"
+  title("Beside expat, `strtod` and an array of sums, for each record:")
+  by_set("totals", "expat", days)
+  title("Beside `rigcactus_check` of the same record:")
+  by_set("totals", "check", days)
+}
+
 function share(service) {
   print "| " service " | " (shares[service] == "" ? "-" : shares[service]) " |"
 }
@@ -210,6 +221,7 @@ function all_shares() {
   share("list")
   share("compare")
   share("print")
+  share("totals")
 }
 
 END {
@@ -221,4 +233,5 @@ END {
   else if (part == "list") lists()
   else if (part == "compare") compares()
   else if (part == "print") by_set("print", "glibc", "open-1 open-32")
+  else if (part == "totals") totals()
 }

@@ -3,11 +3,8 @@
 
 use crate::day::{number, Currency, Table, MOST_ROWS, MOST_TOTAL};
 use crate::faults::MOST_BYTES;
-use crate::money::MOST_AMOUNT;
+use crate::money::{Given, MOST_AMOUNT};
 use crate::rows::{with_rows, END_TOTALS, TOO_MANY_ROWS};
-
-/// A record and the agreed offset.
-pub type Given = (Vec<u8>, i64);
 
 const EUR: Currency = *b"EUR";
 

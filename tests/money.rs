@@ -11,6 +11,9 @@ use crate::tick::agreed_offset;
 /// The largest amount that a record can have, 999999999999.9999.
 pub const MOST_AMOUNT: i128 = 9_999_999_999_999_999;
 
+/// A record and the agreed offset.
+pub type Given = (Vec<u8>, i64);
+
 /// What a day is like.
 pub struct Style {
     pub currencies: Vec<Currency>,
@@ -35,16 +38,14 @@ pub fn currencies(random: &mut Random, count: usize) -> Vec<Currency> {
 }
 
 impl Style {
-    /// One, some, as many as there are rows, or more.
+    /// One currency, some, as many as there are rows, or more.
     pub fn any(random: &mut Random) -> Style {
-        let count = random.one_of(&[1, 2, 3, 5, 15, 16, 17, 17, 20, 40, 40, 40]);
-        let huge = match random.below(10) {
+        let huge = match random.below(20) {
             0 => Some(1),
             1 => Some(-1),
             _ => None,
         };
-        // An amount of one currency in many would not bring it to the end of its range.
-        let count = if huge.is_some() { 1 + count % 2 } else { count };
+        let count = if huge.is_some() { 1 } else { random.one_of(&[1, 2, 3, 5, 15, 16, 17, 17, 20, 40, 40, 40]) };
         Style { currencies: currencies(random, count), huge }
     }
 }
@@ -108,8 +109,8 @@ const NO_CURRENCIES: [&str; 16] = [
 ];
 
 impl Maker<'_> {
-    /// A record for a day with this table, and the agreed offset: as good as two of three are added if there is a row.
-    pub fn record_to_add(&mut self, style: &Style, table: &Table) -> (Vec<u8>, i64) {
+    /// A record for a day with this table: about two of three are added where there is a row.
+    pub fn record_to_add(&mut self, style: &Style, table: &Table) -> Given {
         let offset = match self.random.below(20) {
             0 => self.random.one_of(&[i64::MIN, -841, -840, 840, 841, i64::MAX]),
             1 | 2 => agreed_offset(self.random),

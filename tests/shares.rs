@@ -1,12 +1,13 @@
 //! Counts of what adding to daily totals answered, and reporting them, and whether every answer occurred in good measure.
 
 use crate::day::{Day, Record, ADDED, DAMAGED, DAMAGES, DAY_FULL, MOST_COUNTED, MOST_ROWS, MOST_TOTAL, NO_ROW, NULL, TOTAL};
+use crate::money::MOST_AMOUNT;
 
 /// Of ten thousand answers to a record, how many at least are to be each.
 const ANSWERS: [(u64, &str, u64); 14] = [
-    (ADDED, "added", 3_000),
-    (NULL, "null", 400),
-    (1, "OFFSET (1)", 300),
+    (ADDED, "added", 2_500),
+    (NULL, "null", 300),
+    (1, "OFFSET (1)", 150),
     (2, "TOO LONG (2)", 2),
     (3, "NOT UTF-8 (3)", 50),
     (4, "MARKUP (4)", 80),
@@ -14,7 +15,7 @@ const ANSWERS: [(u64, &str, u64); 14] = [
     (6, "SHAPE (6)", 150),
     (7, "VALUE (7)", 150),
     (8, "RULE (8)", 150),
-    (NO_ROW, "NO ROW (16)", 400),
+    (NO_ROW, "NO ROW (16)", 200),
     (TOTAL, "TOTAL (17)", 100),
     (DAMAGED, "DAMAGED (21)", 1_000),
     (DAY_FULL, "DAY FULL (25)", 200),
@@ -22,13 +23,13 @@ const ANSWERS: [(u64, &str, u64); 14] = [
 
 /// Of ten thousand answers to a record, how many at least are to be of each kind.
 const KINDS: [(&str, u64); 22] = [
-    ("added, a new currency", 300),
-    ("added, the 16th currency", 50),
-    ("added, with 16 currencies held", 700),
+    ("added, a new currency", 200),
+    ("added, the 16th currency", 30),
+    ("added, with 16 currencies held", 500),
     ("added, the total comes to zero", 100),
     ("added, the total is below zero", 500),
-    ("added, the total comes to the upper end", 30),
-    ("added, the total comes to the lower end", 30),
+    ("added, the total comes to the upper end", 15),
+    ("added, the total comes to the lower end", 15),
     ("added, a new currency with an amount of zero", 10),
     ("added, the millionth record", 20),
     ("null, the millionth record", 2),
@@ -36,8 +37,8 @@ const KINDS: [(&str, u64); 22] = [
     ("refused by itself, with 16 currencies held", 200),
     ("NO ROW for an amount of zero", 10),
     ("NO ROW, every total at an end", 10),
-    ("TOTAL above, by a ten-thousandth", 10),
-    ("TOTAL below, by a ten-thousandth", 10),
+    ("TOTAL above, by a ten-thousandth", 5),
+    ("TOTAL below, by a ten-thousandth", 5),
     ("TOTAL above, with the largest amount", 10),
     ("TOTAL below, with the largest amount", 10),
     ("DAMAGED, and a million counted", 20),
@@ -47,13 +48,11 @@ const KINDS: [(&str, u64); 22] = [
 ];
 
 /// Of ten thousand answers to a record, how many at least are to be DAMAGED for each reason alone, and for several.
-const LEAST_OF_DAMAGE: u64 = 80;
+const LEAST_OF_DAMAGE: u64 = 40;
 
 /// Of a thousand reports, how many at least are to be of each kind.
 const REPORTS: [(&str, u64); 5] =
-    [("no row", 20), ("1 to 15 rows", 200), ("16 rows", 200), ("a million records", 20), ("DAMAGED", 80)];
-
-const LARGEST: i128 = 9_999_999_999_999_999;
+    [("no row", 20), ("1 to 15 rows", 200), ("16 rows", 100), ("a million records", 20), ("DAMAGED", 80)];
 
 /// Counts of answers that were due, of their kinds, and of reports.
 #[derive(Default)]
@@ -74,7 +73,7 @@ fn kinds(day: &Day, record: Record, answer: u64) -> [bool; KINDS.len()] {
     let rows = if day.damage.is_empty() { day.rows() } else { Vec::new() };
     let (amount, held) = match record {
         Record::Amount(currency, amount) => (i128::from(amount), rows.iter().find(|row| row.0 == currency)),
-        _ => (LARGEST + 1, None),
+        _ => (MOST_AMOUNT + 1, None),
     };
     let total = held.map_or(0, |row| row.1) + amount;
     let by_itself = matches!(record, Record::Refused(_));
@@ -99,8 +98,8 @@ fn kinds(day: &Day, record: Record, answer: u64) -> [bool; KINDS.len()] {
         answer == NO_ROW && rows.iter().all(|row| row.1.abs() == MOST_TOTAL),
         answer == TOTAL && total == MOST_TOTAL + 1,
         answer == TOTAL && total == -MOST_TOTAL - 1,
-        answer == TOTAL && amount == LARGEST,
-        answer == TOTAL && amount == -LARGEST,
+        answer == TOTAL && amount == MOST_AMOUNT,
+        answer == TOTAL && amount == -MOST_AMOUNT,
         answer == DAMAGED && day.counted() == MOST_COUNTED,
         answer == DAMAGED && by_itself,
         answer == DAY_FULL && by_itself,
@@ -123,6 +122,11 @@ impl Counts {
                 _ => self.several += 1,
             }
         }
+    }
+
+    /// How often an answer was due.
+    pub fn answered(&self, answer: u64) -> u64 {
+        ANSWERS.iter().zip(self.by_answer).filter(|(share, _)| share.0 == answer).map(|(_, count)| count).sum()
     }
 
     /// Counts a report.

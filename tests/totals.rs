@@ -2,8 +2,8 @@
 
 use crate::day::{self, Day, Record, Report, Table};
 use crate::keeper::{Keeper, Outcome, HAS_SERVICE};
-use crate::limits::{self, Given};
-use crate::money::Style;
+use crate::limits;
+use crate::money::{Given, Style};
 use crate::random::Random;
 use crate::records::Maker;
 use crate::rows;
@@ -55,7 +55,7 @@ impl Trial {
         (day, table)
     }
 
-    /// Gives a record to a day and to its table.
+    /// Gives a record to a day and to its table. The table becomes what is due, so that one difference does not bring others.
     fn add(&mut self, day: &mut Day, table: &mut Table, given: &Given) {
         let read = day::read(&given.0, given.1, &self.calendar);
         self.add_read(day, table, given, read);
@@ -99,6 +99,41 @@ impl Trial {
 
 // ---- The trials ----------------------------------------------------------------------------------------------------
 
+/// What a line of tests/records/totals.txt says: the answer, the tables before and after, and the record with its offset.
+fn stored(line: &str, past: &Table) -> (u64, Table, Table, Given) {
+    let words: Vec<&str> = line.splitn(5, ' ').collect();
+    let answer = match words[0] {
+        "added" => day::ADDED,
+        "null" => day::NULL,
+        refusal => refusal.parse().unwrap(),
+    };
+    let before = table::totals(words[2], past);
+    let after = if words[3] == "=" { before } else { table::totals(words[3], past) };
+    (answer, before, after, (table::bytes(words[4]), words[1].parse().unwrap()))
+}
+
+/// The tables of tests/records/totals.txt: the second keeper and the functions are to come to what stands there.
+fn stored_tables() -> bool {
+    let mut trial = Trial::new(1);
+    let (mut count, mut alike) = (0, true);
+    for (number, line) in table::lines(include_str!("records/totals.txt")) {
+        let past = std::array::from_fn(|_| trial.random.next());
+        let (answer, before, after, given) = stored(line, &past);
+        let mut day = Day::go_on(&before);
+        let read = day::read(&given.0, given.1, &trial.calendar);
+        let due = day.due(read);
+        day.take(read, due);
+        if (due, day.table()) != (answer, after) {
+            eprintln!("tests/records/totals.txt:{number}: due is {answer}, the second keeper says {due}, {:?}", day.table());
+            alike = false;
+        }
+        (0..16).for_each(|_| trial.attempt(&before, &given));
+        count += 1;
+    }
+    println!("totals: {count} stored tables");
+    alike && trial.counts.differences == 0
+}
+
 /// Days made from a seed, up to so many records, each from the opening of its table on; the table is reported now and then, and in the
 /// end.
 fn made_days(trial: &mut Trial, records: u64) {
@@ -106,7 +141,7 @@ fn made_days(trial: &mut Trial, records: u64) {
     while trial.counts.records < records {
         let style = Style::any(&mut random);
         let length = match random.below(8) {
-            _ if style.huge.is_some() => random.from(901, 1200),
+            _ if style.huge.is_some() => random.from(1500, 2200),
             0 => random.from(1000, 3000),
             1..=3 => random.from(200, 1000),
             _ => random.from(0, 200),
@@ -212,41 +247,6 @@ fn full_day() -> Counts {
     trial.counts
 }
 
-/// What a line of tests/records/totals.txt says: the answer, the tables before and after, and the record with its offset.
-fn stored(line: &str, past: &Table) -> (u64, Table, Table, Given) {
-    let words: Vec<&str> = line.splitn(5, ' ').collect();
-    let answer = match words[0] {
-        "added" => day::ADDED,
-        "null" => day::NULL,
-        refusal => refusal.parse().unwrap(),
-    };
-    let before = table::totals(words[2], past);
-    let after = if words[3] == "=" { before } else { table::totals(words[3], past) };
-    (answer, before, after, (table::bytes(words[4]), words[1].parse().unwrap()))
-}
-
-/// The tables of tests/records/totals.txt: the second keeper and the functions are to come to what stands there.
-fn stored_tables() -> bool {
-    let mut trial = Trial::new(1);
-    let (mut count, mut alike) = (0, true);
-    for (number, line) in table::lines(include_str!("records/totals.txt")) {
-        let past = std::array::from_fn(|_| trial.random.next());
-        let (answer, before, after, given) = stored(line, &past);
-        let mut day = Day::go_on(&before);
-        let read = day::read(&given.0, given.1, &trial.calendar);
-        let due = day.due(read);
-        day.take(read, due);
-        if (due, day.table()) != (answer, after) {
-            eprintln!("tests/records/totals.txt:{number}: due is {answer}, the second keeper says {due}, {:?}", day.table());
-            alike = false;
-        }
-        (0..16).for_each(|_| trial.attempt(&before, &given));
-        count += 1;
-    }
-    println!("totals: {count} stored tables");
-    alike && trial.counts.differences == 0
-}
-
 /// Whether the functions and the second keeper agree.
 pub fn run(options: &Options) -> bool {
     if !HAS_SERVICE {
@@ -255,12 +255,15 @@ pub fn run(options: &Options) -> bool {
     let mut alike = stored_tables();
     let mut trial = Trial::new(options.seed);
     made_days(&mut trial, options.cases / 2);
+    let in_days = [day::NO_ROW, day::TOTAL].map(|answer| trial.counts.answered(answer));
     made_tables(&mut trial, options.cases);
     let made = trial.counts;
     made.print(&format!("{} records made from seed {}, in days and to tables that are handed in", made.records, options.seed));
+    println!("  {:<52}{:>12}", "NO ROW in days from an opened table on", in_days[0]);
+    println!("  {:<52}{:>12}", "TOTAL in days from an opened table on", in_days[1]);
     alike &= made.differences == 0;
     if options.cases >= 100_000 {
-        alike &= made.is_broad();
+        alike &= made.is_broad() && !in_days.contains(&0);
     }
     if !options.only_made {
         let series = [
