@@ -1,7 +1,7 @@
 //! `rigcactus_totals_open`, `rigcactus_totals_add` and `rigcactus_totals_report` against a second keeper of daily totals (day.rs).
 
 use crate::day::{self, Day, Record, Report, Table};
-use crate::keeper::{Keeper, Outcome, HAS_SERVICE};
+use crate::lender::{Lender, Outcome, HAS_SERVICE};
 use crate::limits;
 use crate::money::{Given, Style};
 use crate::random::Random;
@@ -20,14 +20,14 @@ const PRINTED: u64 = 10;
 /// Where tables and records are tried, and what came of it.
 struct Trial {
     calendar: Calendar,
-    keeper: Keeper,
+    lender: Lender,
     counts: Counts,
     random: Random,
 }
 
 impl Trial {
     fn new(seed: u64) -> Trial {
-        Trial { calendar: Calendar::new(), keeper: Keeper::new(), counts: Counts::default(), random: Random::new(seed) }
+        Trial { calendar: Calendar::new(), lender: Lender::new(), counts: Counts::default(), random: Random::new(seed) }
     }
 
     /// Holds what came of a call against what is due.
@@ -49,7 +49,7 @@ impl Trial {
         self.counts.opened += 1;
         let day = Day::open();
         let due = Outcome { answer: 0, numbers: vec![0; 36] };
-        let came = self.keeper.open(before, &due, &mut self.random);
+        let came = self.lender.open(before, &due, &mut self.random);
         self.compare(came, &due, || format!("opening {before:?}"));
         let table = day.table();
         (day, table)
@@ -69,7 +69,7 @@ impl Trial {
         day.take(read, answer);
         *table = day.table();
         let due = Outcome { answer, numbers: table.to_vec() };
-        let came = self.keeper.add(&before, &given.0, given.1, &due, &mut self.random);
+        let came = self.lender.add(&before, &given.0, given.1, &due, &mut self.random);
         self.compare(came, &due, || {
             let shown = given.0[..given.0.len().min(2000)].escape_ascii();
             format!("adding {} bytes [{shown}], offset {}, to {before:?}", given.0.len(), given.1)
@@ -82,7 +82,7 @@ impl Trial {
         let before: Report = std::array::from_fn(|i| fill.wrapping_mul(2 * i as u64 + 1));
         let (answer, report) = day.report(&before);
         let due = Outcome { answer, numbers: report.to_vec() };
-        let came = self.keeper.report(table, &before, &due, &mut self.random);
+        let came = self.lender.report(table, &before, &due, &mut self.random);
         self.counts.add_report(day, answer);
         self.compare(came, &due, || format!("reporting {table:?}"));
     }

@@ -77,16 +77,16 @@ fn numbers_in(bytes: &mut [u8]) -> &mut [u64] {
 }
 
 /// Where numbers and bytes are lent.
-pub struct Keeper {
+pub struct Lender {
     guarded_numbers: Guarded,
     guarded_bytes: Guarded,
     fenced_numbers: Fenced,
     fenced_bytes: Fenced,
 }
 
-impl Keeper {
-    pub fn new() -> Keeper {
-        Keeper {
+impl Lender {
+    pub fn new() -> Lender {
+        Lender {
             guarded_numbers: Guarded::new(8 * 36),
             guarded_bytes: Guarded::new(LONGEST),
             fenced_numbers: Fenced::new(8 * 36),
