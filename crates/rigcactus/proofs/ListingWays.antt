@@ -24,7 +24,8 @@ use Rattle.listing.specs.Answers.{listedMeant, Answers}
 use Rattle.listing.specs.declared.Listed.{Listed}
 use Rattle.listing.proofs.Serving.{Serves, serves-list}
 use Rattle.rigcactus.specs.Faults.{typedFaults}
-use Rattle.rigcactus.proofs.Checking.{record-offset, record-input}
+use Rattle.rigcactus.proofs.Checking.{record-offset}
+use Rattle.rigcactus.proofs.TypedFaults.{split, type-fault, typed-accepted}
 
 module _ (offset : ℤ) (input list : List ℕ) where
   serves : {q : Refusal} → listing offset (roomOf list) input ≡ refused q → Serves offset input list (number q) list
@@ -35,14 +36,6 @@ module _ (offset : ℤ) (input list : List ℕ) where
   list-offset e = serves (listing-faulty-early offset (roomOf list) input OFFSET (check-refused offset input OFFSET .1 (record-offset offset input e)) (omega arith))
 
   module _ {shift : ℕ} (fine : isOffset offset ≡ true) (by : shift ≡ shiftBy offset) where
-    split : {o : Option Refusal} → o ≡ firstOf (typedFaults isListed shift input) → o ≡ earlier (firstOf (recordFaults offset input)) (firstOf (faultsIn unlisted (elementOf input)))
-    split h = h ∙ firstOf-append (inputFaults shift input) _ ∙ rw (by, ← record-input offset input fine)
-
-    -- a record that is accepted has no fault but for its type
-    type-fault : (e : Element) → check offset input ≡ answered e → {o : Option Refusal} → o ≡ firstOf (typedFaults isListed shift input) → o ≡ firstOf (TYPE when not (isListed e))
-    unfolding firstOf
-    type-fault e a h = let (d, n) = check-answered offset input e .0 a in split h ∙ rw (n, d)
-
     pub list-refused : {q : Refusal} → some q ≡ firstOf (typedFaults isListed shift input) → Serves offset input list (number q) list
     unfolding firstOf
     list-refused {q} h = go (check offset input) refl
@@ -52,23 +45,12 @@ module _ (offset : ℤ) (input list : List ℕ) where
         typed e a false l z = let w : TYPE ≡ q = cc in rw (← w) (serves (listing-unlisted offset (roomOf list) input e a l))
 
         go : (o : Outcome Element) → check offset input ≡ o → Serves offset input list (number q) list
-        go (refused r) f = serves (listing-faulty offset (roomOf list) input r f (sym (split h ∙ rw (check-refused offset input r .0 f))))
-        go (answered e) a = typed e a (isListed e) refl (type-fault e a h)
+        go (refused r) f = serves (listing-faulty offset (roomOf list) input r f (sym (split isListed offset input fine by h ∙ rw (check-refused offset input r .0 f))))
+        go (answered e) a = typed e a (isListed e) refl (type-fault isListed offset input fine by e a h)
 
     pub list-answered : {r : Listed} {after : List ℕ} → none ≡ firstOf (typedFaults isListed shift input)
         → ((e : Element) → check offset input ≡ answered e → topFaults shift e ≡ [] → isListed e ≡ true → Answers (listElement shift (roomOf list) e) list r after)
         → Serves offset input list (packed (λ n. n) (listedMeant r)) after
-    unfolding firstOf
-    list-answered {r} {after} h tells = go (check offset input) refl
-      where
-        some-earlier : (q : Refusal) (o : Option Refusal) → {A : Type 0} → none ≡ earlier (some q) o → A
-        some-earlier q none z = clash (cc)
-        some-earlier q (some p) z = clash (cc)
-
-        typed : (b : Bool) → none ≡ firstOf (TYPE when not b) → b ≡ true
-        typed true z = refl
-        typed false z = clash (cc)
-
-        go : (o : Outcome Element) → check offset input ≡ o → Serves offset input list (packed (λ n. n) (listedMeant r)) after
-        go (refused q) f = some-earlier q (firstOf (faultsIn unlisted (elementOf input))) (split h ∙ rw (check-refused offset input q .0 f))
-        go (answered e) a = serves-list offset input list e a (typed (isListed e) (type-fault e a h)) r after (rw (← by) (tells e a))
+    list-answered {r} {after} h tells =
+        let (e, a, l) = typed-accepted isListed offset input fine by h in
+        serves-list offset input list e a l r after (rw (← by) (tells e a))

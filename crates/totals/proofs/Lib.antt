@@ -6,3 +6,4 @@ pub mod Taking
 pub mod Putting
 pub mod Entering
 pub mod Posting
+pub mod Meaning

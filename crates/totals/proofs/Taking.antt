@@ -1,18 +1,20 @@
 -- A table taken from 36 numbers, row by row.
 use Prim.Native.Nat.{ℕ, zero, suc, _+_, _*_, _^_, _≤_, _<_, min}
 use mathlib.Core.Path.{_≡_, refl, sym, _∙_, ap, ap₂}
-use mathlib.Core.Bool.{true}
+use mathlib.Core.Bool.{Bool, true, false, _||_}
 use mathlib.Core.List.{List, [], _∷_, _++_, map}
 use native.Mathlib.Omega.{arith}
 use native.Mathlib.Numerals.{add-one}
-use borrow.Author.Tests.{lt-ltb}
+use borrow.Author.Tests.{ltb-true, ltb-false, lt-ltb}
+use lib.Dec.{ltb}
 use lib.ListN.{length, take, drop, getD, set, length-set}
 use lib.Seq.{getD-drop, take-suc-set}
 use Rattle.rules.specs.Basics.{every}
-use Rattle.rules.specs.Totals.{Row as RulesRow, Counts, Table as RulesTable, counting, table}
+use Rattle.rules.specs.Totals.{Row as RulesRow, Counts, Table as RulesTable, counting, table, isDamaged}
 use Rattle.rules.specs.TotalNumbers.{is64, rowIn}
 use Rattle.rules.specs.TotalTables.{rowsIn, tableIn}
 use Rattle.rules.proofs.Tests.{both-true}
+use Rattle.rules.proofs.TotalTables.{rows-length}
 use Rattle.totals.specs.declared.Row.{Row}
 use Rattle.totals.specs.declared.Table.{Table}
 use Rattle.totals.specs.Tables.{heldRows, rowMeant, countsMeant, tableMeant, areTotals, TakenFrom}
@@ -93,3 +95,18 @@ all-taken numbers t k s l =
 
 pub too-many : (numbers : List ℕ) (t : Table) → t .held ≡ 17 → 16 < getD numbers 0 0 → TakenFrom numbers t
 too-many numbers t h l = record { held = omega (arith, h, l); says = λ f. absurd (omega (arith, h, f)); bits = λ f. absurd (omega (arith, h, f)) }
+
+-- a table taken is damaged exactly if the numbers are
+over-16 : (x : RulesTable) → 16 < length (x .rows) → true ≡ isDamaged x
+unfolding isDamaged
+over-16 x l = rw (lt-ltb 16 (length (x .rows)) l) refl
+
+pub judged : (numbers : List ℕ) (t : Table) → TakenFrom numbers t → (ltb 16 (t .held) || isDamaged (tableMeant t)) ≡ isDamaged (tableIn numbers)
+judged numbers t h = go (ltb 16 (t .held)) refl
+  where
+    long : length (tableIn numbers .rows) ≡ t .held
+    long = rows-length (min 17 (getD numbers 0 0)) (drop 4 numbers) ∙ sym (h .held)
+
+    go : (b : Bool) → ltb 16 (t .held) ≡ b → (b || isDamaged (tableMeant t)) ≡ isDamaged (tableIn numbers)
+    go true e = over-16 (tableIn numbers) (omega (arith, long, ltb-true 16 (t .held) e))
+    go false e = ap isDamaged (h .says (ltb-false 16 (t .held) e))

@@ -1,6 +1,7 @@
 use Rattle.rigcactus.proofs.Held.{accepted-held}
 use Rattle.rigcactus.proofs.ListingWays.{list-offset, list-refused, list-answered}
 use Rattle.rules.specs.Check.{isOffset, shiftBy}
+use Rattle.rules.specs.ListingPromise.{isListed}
 use Rattle.refusal.specs.Meaning.{faultOf}
 use borrow.Author.Tests.{not-true, not-false}
 use mir.ValLaws.{toZ-ofZ}
@@ -16,7 +17,8 @@ use Rattle.listing.proofs.list.Reads as list-reads
 use Rattle.refusal.proofs.number.Reads as number-reads
 use Rattle.rigcactus.proofs.is_offset.Reads as is-offset-reads
 use Rattle.rigcactus.proofs.listed_number.Reads as listed-number-reads
-use Rattle.rigcactus.proofs.listing_fault.Reads as listing-fault-reads
+use Rattle.rigcactus.proofs.typed_fault.Reads as typed-fault-reads
+use Rattle.listing.proofs.is_listed.Reads as is-listed-reads
 use Rattle.rigcactus.proofs.shift_of.Reads as shift-of-reads
 
 -- src/lib.rt:114:9
@@ -41,8 +43,11 @@ check-requires : tie.Need-check-requires
 check-requires c κs = c .shift-of .ensures .1
 
 -- src/lib.rt:119:9
-listing-fault-requires : tie.Need-listing-fault-requires
-listing-fault-requires c κs = search needs
+is-listed-requires : tie.Need-is-listed-requires
+is-listed-requires c κs = search needs
+
+typed-fault-requires : tie.Need-typed-fault-requires
+typed-fault-requires c κs = search needs
 
 -- src/lib.rt:120:29
 enum-known-fault : tie.Need-enum-known-fault
@@ -55,7 +60,7 @@ number-requires-2 c κs = search needs
 -- src/lib.rt:121:9
 returns-2 : tie.Need-returns-2
 returns-2 c =
-    let h = list-refused (c .before .before .before .before .before .before .before .before .before .before .before .args .offset) (c .before .before .before .before .before .before .before .before .before .before .before .args .«record» .now) (c .before .before .before .before .before .before .before .before .before .before .before .args .list .now) (sym (subst (λ z. c .before .before .before .before .before .before .before .before .is-offset .result ≡ isOffset z) (toZ-ofZ w64 (c .before .before .before .before .before .before .before .before .before .before .before .args .offset) (c .before .before .before .before .before .before .before .before .before .before .before .fits .offset)) (c .before .before .before .before .before .before .before .before .is-offset .ensures)) ∙ not-false _ (c .before .before .before .before .before .before .before .if1 .left)) (subst (λ z. c .before .before .before .before .before .before .shift-of .result ≡ shiftBy z) (toZ-ofZ w64 (c .before .before .before .before .before .before .before .before .before .before .before .args .offset) (c .before .before .before .before .before .before .before .before .before .before .before .fits .offset)) (c .before .before .before .before .before .before .shift-of .ensures .0)) (sym (ap faultOf (c .before .before .fault .given .1)) ∙ c .before .before .before .before .listing-fault .ensures (c .before .before .before .before .before .before .shift-of .result) (c .before .before .before .before .before .before .before .before .before .before .before .args .«record» .now) (c .before .before .before .before .before .check .ensures)) in
+    let h = list-refused (c .before .before .before .before .before .before .before .before .before .before .before .before .before .args .offset) (c .before .before .before .before .before .before .before .before .before .before .before .before .before .args .«record» .now) (c .before .before .before .before .before .before .before .before .before .before .before .before .before .args .list .now) (sym (subst (λ z. c .before .before .before .before .before .before .before .before .before .before .is-offset .result ≡ isOffset z) (toZ-ofZ w64 (c .before .before .before .before .before .before .before .before .before .before .before .before .before .args .offset) (c .before .before .before .before .before .before .before .before .before .before .before .before .before .fits .offset)) (c .before .before .before .before .before .before .before .before .before .before .is-offset .ensures)) ∙ not-false _ (c .before .before .before .before .before .before .before .before .before .if1 .left)) (subst (λ z. c .before .before .before .before .before .before .before .before .shift-of .result ≡ shiftBy z) (toZ-ofZ w64 (c .before .before .before .before .before .before .before .before .before .before .before .before .before .args .offset) (c .before .before .before .before .before .before .before .before .before .before .before .before .before .fits .offset)) (c .before .before .before .before .before .before .before .before .shift-of .ensures .0)) (sym (ap faultOf (c .before .before .fault .given .1)) ∙ (c .before .before .before .before .typed-fault .ensures (c .before .before .before .before .before .before .before .before .shift-of .result) (c .before .before .before .before .before .before .before .before .before .before .before .before .before .args .«record» .now) isListed (c .before .before .before .before .before .before .before .check .ensures) (c .before .before .before .before .before .is-listed .ensures))) in
     (c .number2 .ensures ∙ h .answers, h .leaves)
 
 enum-told : tie.Need-enum-told
@@ -63,7 +68,7 @@ enum-told c = search needs
 
 -- src/lib.rt:124:9
 list-requires : tie.Need-list-requires
-list-requires c κs = (c .before .before .before .before .before .check .ensures .within, c .before .before .before .before .before .before .shift-of .ensures .1)
+list-requires c κs = (c .before .before .before .before .before .before .check .ensures .within, c .before .before .before .before .before .before .before .shift-of .ensures .1)
 
 -- src/lib.rt:125:5
 listed-number-requires : tie.Need-listed-number-requires
@@ -76,7 +81,7 @@ same-length c = search needs
 -- src/lib.rt:109:1
 returns-3 : tie.Need-returns-3
 returns-3 c =
-    let h = list-answered (c .before .before .before .before .before .before .before .before .before .before .before .before .before .before .before .args .offset) (c .before .before .before .before .before .before .before .before .before .before .before .before .before .before .before .args .«record» .now) (c .before .before .before .before .before .before .before .before .before .before .before .before .before .before .before .args .list .now) (sym (subst (λ z. c .before .before .before .before .before .before .before .before .before .before .before .before .is-offset .result ≡ isOffset z) (toZ-ofZ w64 (c .before .before .before .before .before .before .before .before .before .before .before .before .before .before .before .args .offset) (c .before .before .before .before .before .before .before .before .before .before .before .before .before .before .before .fits .offset)) (c .before .before .before .before .before .before .before .before .before .before .before .before .is-offset .ensures)) ∙ not-false _ (c .before .before .before .before .before .before .before .before .before .before .before .if1 .left)) (subst (λ z. c .before .before .before .before .before .before .before .before .before .before .shift-of .result ≡ shiftBy z) (toZ-ofZ w64 (c .before .before .before .before .before .before .before .before .before .before .before .before .before .before .before .args .offset) (c .before .before .before .before .before .before .before .before .before .before .before .before .before .before .before .fits .offset)) (c .before .before .before .before .before .before .before .before .before .before .shift-of .ensures .0)) (sym (ap faultOf (c .before .before .before .before .before .before .enum-told .given .1)) ∙ c .before .before .before .before .before .before .before .before .listing-fault .ensures (c .before .before .before .before .before .before .before .before .before .before .shift-of .result) (c .before .before .before .before .before .before .before .before .before .before .before .before .before .before .before .args .«record» .now) (c .before .before .before .before .before .before .before .before .before .check .ensures)) (λ e a. c .before .before .before .list .ensures .1 .0 e (accepted-held (c .before .before .before .before .before .before .before .before .before .check .result) (c .before .before .before .before .before .before .before .before .before .check .ensures) (c .before .before .before .before .before .before .before .before .before .before .before .before .before .before .before .args .offset) e a)) in
+    let h = list-answered (c .before .before .before .before .before .before .before .before .before .before .before .before .before .before .before .before .args .offset) (c .before .before .before .before .before .before .before .before .before .before .before .before .before .before .before .before .args .«record» .now) (c .before .before .before .before .before .before .before .before .before .before .before .before .before .before .before .before .args .list .now) (sym (subst (λ z. c .before .before .before .before .before .before .before .before .before .before .before .before .before .is-offset .result ≡ isOffset z) (toZ-ofZ w64 (c .before .before .before .before .before .before .before .before .before .before .before .before .before .before .before .before .args .offset) (c .before .before .before .before .before .before .before .before .before .before .before .before .before .before .before .before .fits .offset)) (c .before .before .before .before .before .before .before .before .before .before .before .before .before .is-offset .ensures)) ∙ not-false _ (c .before .before .before .before .before .before .before .before .before .before .before .before .if1 .left)) (subst (λ z. c .before .before .before .before .before .before .before .before .before .before .before .shift-of .result ≡ shiftBy z) (toZ-ofZ w64 (c .before .before .before .before .before .before .before .before .before .before .before .before .before .before .before .before .args .offset) (c .before .before .before .before .before .before .before .before .before .before .before .before .before .before .before .before .fits .offset)) (c .before .before .before .before .before .before .before .before .before .before .before .shift-of .ensures .0)) (sym (ap faultOf (c .before .before .before .before .before .enum-told .given .1)) ∙ (c .before .before .before .before .before .before .before .typed-fault .ensures (c .before .before .before .before .before .before .before .before .before .before .before .shift-of .result) (c .before .before .before .before .before .before .before .before .before .before .before .before .before .before .before .before .args .«record» .now) isListed (c .before .before .before .before .before .before .before .before .before .before .check .ensures) (c .before .before .before .before .before .before .before .before .is-listed .ensures))) (λ e a. c .before .before .before .list .ensures .1 .0 e (accepted-held (c .before .before .before .before .before .before .before .before .before .before .check .result) (c .before .before .before .before .before .before .before .before .before .before .check .ensures) (c .before .before .before .before .before .before .before .before .before .before .before .before .before .before .before .before .args .offset) e a)) in
     (c .listed-number .ensures ∙ h .answers, h .leaves)
 
 pub rigcactus-list-spec : {M : Type 1} → statement M
@@ -88,7 +93,8 @@ rigcactus-list-spec =
     returns
     shift-of-requires
     check-requires
-    listing-fault-requires
+    is-listed-requires
+    typed-fault-requires
     enum-known-fault
     number-requires-2
     returns-2
