@@ -106,10 +106,9 @@ const SERVICES: [(Service, &str, usize); 9] = [
     (List, "list", 49152),
     (Compare, "compare", 8192),
     (Print, "print", 1024),
-    // TODO(measured): the bounds of these three.
     (TotalsOpen, "totals_open", 256),
-    (TotalsAdd, "totals_add", 8192),
-    (TotalsReport, "totals_report", 256),
+    (TotalsAdd, "totals_add", 12288),
+    (TotalsReport, "totals_report", 2048),
 ];
 
 // ---- The stack -----------------------------------------------------------------------------------------------------
