@@ -7,7 +7,7 @@ use mathlib.Core.Logic.{_⊎_, inl, inr}
 use mathlib.Core.Option.{Option, none, some}
 use borrow.Author.Tests.{not-false}
 use lib.IntN.{ℤ}
-use Rattle.rules.specs.Refusal.{Refusal, OFFSET, TOO-LONG, NOT-UTF-8, TYPE, rankIn, earlier, firstOf, Outcome, answered, refused, faultsIn, _when_}
+use Rattle.rules.specs.Refusal.{Refusal, OFFSET, TOO-LONG, NOT-UTF-8, TYPE, rankIn, earlier, firstOf, answered, faultsIn, _when_}
 use Rattle.rules.specs.Markup.{Element, document}
 use Rattle.rules.specs.Types.{Kind, allTypes, typeAmong}
 use Rattle.rules.specs.Judge.{elementFaults, topFaults}

@@ -1,25 +1,21 @@
 -- The ways through the listing service.
 use Prim.Native.Nat.{ℕ}
-use mathlib.Core.Path.{_≡_, refl, sym, _∙_, ap}
+use mathlib.Core.Path.{_≡_, refl, sym, _∙_}
 use mathlib.Core.Bool.{Bool, true, false, not}
-use mathlib.Core.List.{List, [], _∷_, _++_}
-use mathlib.Core.Logic.{_⊎_, inl, inr}
-use mathlib.Core.Option.{Option, none, some}
+use mathlib.Core.List.{List, []}
+use mathlib.Core.Option.{none, some}
 use native.Mathlib.Omega.{arith}
 use lib.IntN.{ℤ}
-use Rattle.rules.specs.Basics.{ifSome}
-use Rattle.rules.specs.Refusal.{Refusal, OFFSET, TOO-LONG, NOT-UTF-8, MARKUP, TYPE, number, rankIn, earlier, firstOf, Outcome, answered, refused, faultsIn, _when_}
-use Rattle.rules.specs.Markup.{Element, document}
-use Rattle.rules.specs.Utf8.{isUtf8}
+use Rattle.rules.specs.Refusal.{Refusal, OFFSET, TYPE, number, rankIn, firstOf, Outcome, answered, refused, _when_}
+use Rattle.rules.specs.Markup.{Element}
 use Rattle.rules.specs.Judge.{topFaults}
-use Rattle.rules.specs.Check.{isOffset, shiftBy, isTooLong, elementOf, recordFaults, check}
-use Rattle.rules.specs.Listing.{unlisted, listElement}
+use Rattle.rules.specs.Check.{isOffset, shiftBy, check}
+use Rattle.rules.specs.Listing.{listElement}
 use Rattle.rules.specs.ListingPromise.{isListed}
 use Rattle.rules.specs.Services.{packed, listing, roomOf}
 use Rattle.rules.proofs.Tests.{clash}
-use Rattle.rules.proofs.Precedence.{firstOf-append, earlier-assoc, earlier-none-right, check-refused, check-answered}
+use Rattle.rules.proofs.Precedence.{check-refused}
 use Rattle.rules.proofs.ListingCases.{listing-unlisted, listing-faulty, listing-faulty-early}
-use Rattle.judge.specs.Faults.{inputFaults}
 use Rattle.listing.specs.Answers.{listedMeant, Answers}
 use Rattle.listing.specs.declared.Listed.{Listed}
 use Rattle.listing.proofs.Serving.{Serves, serves-list}

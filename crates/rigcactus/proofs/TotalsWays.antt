@@ -8,7 +8,7 @@ use borrow.Author.Tests.{eqb-false, ne-eqb, ltb-false}
 use lib.Dec.{ltb, eqb}
 use lib.ListN.{length, drop, getD}
 use lib.IntN.{ℤ}
-use Rattle.rules.specs.Refusal.{Refusal, DAMAGED, DAY-FULL, number, Outcome, answered, refused, _andThen_}
+use Rattle.rules.specs.Refusal.{DAMAGED, DAY-FULL, number, Outcome, _andThen_}
 use Rattle.rules.specs.Services.{packed, overwrite}
 use Rattle.rules.specs.Totals.{counted, isDamaged, isFull, Entry, reading, fitting, posting, isCounted, recorded, reporting}
 use Rattle.rules.specs.TotalNumbers.{reportNumbers, entryNumber}
@@ -18,7 +18,7 @@ use Rattle.rules.proofs.Tests.{clash, neither}
 use Rattle.rules.proofs.TotalReading.{reading-refusals}
 use Rattle.rules.proofs.TotalTables.{rows-length}
 use Rattle.rules.proofs.Totals.{Proper, undamaged, posted, step-proper, ladder-counted}
-use Rattle.totals.specs.Tables.{heldRows, countsMeant, tableMeant, areTotals, TakenFrom, reportOf}
+use Rattle.totals.specs.Tables.{countsMeant, tableMeant, TakenFrom, reportOf}
 use Rattle.totals.specs.Readings.{Usable, PostedAs}
 use Rattle.totals.specs.declared.Table.{Table}
 use Rattle.totals.specs.declared.post.Posted.{Posted as CodePosted}

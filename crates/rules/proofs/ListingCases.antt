@@ -11,7 +11,7 @@ use lib.Dec.{ltb}
 use lib.ListN.{length}
 use lib.IntN.{ℤ}
 use Rattle.rules.specs.Basics.{isSome, find}
-use Rattle.rules.specs.Refusal.{Refusal, OFFSET, TOO-LONG, NOT-UTF-8, MARKUP, TYPE, RULE, UNKNOWN-BOUND, TOO-MANY, NO-ROOM, rankIn, rank, earlier, firstOf, Outcome, answered, refused, faultsIn, _unless_, _when_, _andThen_}
+use Rattle.rules.specs.Refusal.{Refusal, OFFSET, TOO-LONG, NOT-UTF-8, MARKUP, TYPE, UNKNOWN-BOUND, TOO-MANY, NO-ROOM, rankIn, rank, earlier, firstOf, Outcome, answered, refused, faultsIn, _unless_, _when_, _andThen_}
 use Rattle.rules.specs.Markup.{Attribute, Element, document}
 use Rattle.rules.specs.Types.{IVL-TS, QSU-TS, QSI-TS, QSD-TS, memberTypes, hasType, typeAmong}
 use Rattle.rules.specs.Utf8.{isUtf8}

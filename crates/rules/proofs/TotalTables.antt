@@ -13,7 +13,7 @@ use Rattle.rules.specs.Services.{overwrite}
 use Rattle.rules.specs.Totals.{Row, Counts, Table, table, isInRange, Entry, isUncounted, isCounted, recorded}
 use Rattle.rules.specs.TotalNumbers.{is64, Lent, rowNumbers}
 use Rattle.rules.specs.TotalTables.{rowsIn, tableIn, tableNumbers, numbersAfter}
-use Rattle.rules.proofs.Tests.{clash, neither, both-true, every-true}
+use Rattle.rules.proofs.Tests.{clash, neither, both-true}
 use Rattle.rules.proofs.Totals.{Proper}
 use Rattle.rules.proofs.TotalNumbers.{total-read, total-written, currency-read, currency-written, row-numbers, rows-small, every-append, every-drop}
 

@@ -1,19 +1,19 @@
 -- A damaged table, row by row.
 use Prim.Native.Nat.{ℕ, zero, suc, _+_, _≤_, _<_}
 use mathlib.Core.Path.{_≡_, refl, sym, _∙_, ap}
-use mathlib.Core.Bool.{Bool, true, false, not, _&&_, _||_, cond}
+use mathlib.Core.Bool.{Bool, true, false, not, _&&_, _||_}
 use mathlib.Core.List.{List, [], _∷_, map}
 use native.Mathlib.Decide.{decLe}
 use native.Mathlib.Omega.{arith}
-use borrow.Author.Tests.{lt-ltb, le-ltb, ltb-true, ltb-false, not-false}
-use lib.Dec.{ltb, eqb}
-use lib.ListN.{length, take, getD, length-map, length-take}
+use borrow.Author.Tests.{le-ltb, ltb-false, not-false}
+use lib.Dec.{ltb}
+use lib.ListN.{length, take, getD, length-map}
 use lib.Seq.{getD-take, take-take, length-take-le}
 use Rattle.rules.specs.Basics.{exists, same}
 use Rattle.rules.specs.Forms.{isCurrency}
 use Rattle.rules.specs.Totals.{Row as RulesRow, Table as RulesTable, Counts, table, counted, isInRange, isHeld, isHeldTwice, isDamaged}
 use Rattle.rules.specs.TotalNumbers.{currencyIn, totalIn}
-use Rattle.rules.proofs.Tests.{clash, neither, both-true, same-sym, same-refl}
+use Rattle.rules.proofs.Tests.{clash, neither, both-true, same-sym}
 use Rattle.totals.specs.declared.Row.{Row}
 use Rattle.totals.specs.declared.Table.{Table}
 use Rattle.totals.specs.Tables.{blank, rowMeant, heldRows, countsMeant, tableMeant, placeOf, isBad}

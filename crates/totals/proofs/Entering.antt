@@ -1,16 +1,15 @@
 -- What an accepted MO says, from its tag.
-use Prim.Native.Nat.{ℕ, _^_, _<_}
+use Prim.Native.Nat.{ℕ}
 use mathlib.Core.Path.{_≡_, refl, sym, _∙_, ap}
 use mathlib.Core.Bool.{Bool, true, false, cond}
 use mathlib.Core.List.{List, [], _∷_}
-use mathlib.Core.Option.{Option, none, some}
+use mathlib.Core.Option.{none, some}
 use denote.Enum.Declared.{tagOf}
 use types.Run.{OneOf, miss}
-use Rattle.rules.specs.Basics.{isSome, ifSome, find, bytes}
+use Rattle.rules.specs.Basics.{ifSome, find, bytes}
 use Rattle.rules.specs.Refusal.{answered}
-use Rattle.rules.specs.Parsers.{whole}
-use Rattle.rules.specs.Markup.{Attribute, Element, lookup}
-use Rattle.rules.specs.Forms.{amountText, isCurrency}
+use Rattle.rules.specs.Markup.{Element, lookup}
+use Rattle.rules.specs.Forms.{isCurrency}
 use Rattle.rules.specs.Invariants.{isNull}
 use Rattle.rules.specs.Types.{Kind as RulesKind, MO, allTypes, hasType}
 use Rattle.rules.specs.Judge.{topFaults}
@@ -19,7 +18,7 @@ use Rattle.rules.specs.Totals.{null, money, entryOf}
 use Rattle.rules.specs.TotalNumbers.{currencyNumber, currencyIn, totalIn}
 use Rattle.rules.proofs.Tests.{clash}
 use Rattle.rules.proofs.TotalNumbers.{currency-read}
-use Rattle.rules.proofs.TotalReading.{EntryOf, is-null, is-money, type-money, entry-faultless}
+use Rattle.rules.proofs.TotalReading.{is-null, is-money, type-money, entry-faultless}
 use lib.IntN.{ℤ}
 use Rattle.form.specs.Amounts.{codeOf}
 use Rattle.datatype.specs.Meaning.{kindMeant}

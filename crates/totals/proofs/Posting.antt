@@ -1,7 +1,7 @@
 -- What posting a record comes to.
 use Prim.Native.Nat.{ℕ, zero, suc, _+_, _%_, _^_, _≤_, _<_}
 use mathlib.Core.Path.{_≡_, refl, sym, _∙_, ap, ap₂}
-use mathlib.Core.Bool.{Bool, true, false, not, _&&_, _||_, cond}
+use mathlib.Core.Bool.{Bool, true, false, not, _&&_, cond}
 use mathlib.Core.Logic.{inl, inr}
 use mathlib.Core.List.{List, [], _∷_, _++_, map}
 use mathlib.Core.Option.{some}
@@ -9,22 +9,22 @@ use native.Mathlib.Omega.{arith}
 use native.Mathlib.Numerals.{add-one}
 use borrow.Author.Tests.{ltb-true, ltb-false, lt-ltb, le-ltb, eq-eqb, ne-eqb, eqb-true, not-false}
 use lib.Dec.{ltb, eqb}
-use lib.ListN.{length, take, getD, set, length-set, length-map}
+use lib.ListN.{length, take, getD, set, length-map}
 use lib.Seq.{getD-take, take-suc-set, take-set-lt, length-take-le}
-use lib.IntN.{ℤ, pos, _+ℤ_}
-use Rattle.rules.specs.Basics.{ifSome, exists, every, find, same}
+use lib.IntN.{ℤ, _+ℤ_}
+use Rattle.rules.specs.Basics.{ifSome, exists, every, find}
 use Rattle.rules.specs.Refusal.{Refusal, NO-ROW, TOTAL, number, rankIn, firstOf, Outcome, answered, refused, _unless_, _when_, _andThen_}
 use Rattle.rules.specs.Forms.{isCurrency}
 use Rattle.rules.specs.Services.{packed}
-use Rattle.rules.specs.Totals.{Row as RulesRow, table, counting, totalling, counted, isInRange, isOf, isHeld, Entry, null, money, newTotal, fitting, entered, isUncounted, recorded}
+use Rattle.rules.specs.Totals.{Row as RulesRow, table, counting, totalling, isInRange, isOf, isHeld, Entry, null, money, newTotal, fitting, entered, isUncounted, recorded}
 use Rattle.rules.specs.TotalNumbers.{is64, currencyIn, totalIn, entryNumber}
-use Rattle.rules.proofs.Tests.{clash, neither, both-true, same-refl}
+use Rattle.rules.proofs.Tests.{clash, neither, both-true}
 use Rattle.rules.proofs.TotalRows.{entered-new}
-use Rattle.rules.proofs.Totals.{Proper, undamaged}
+use Rattle.rules.proofs.Totals.{undamaged}
 use Rattle.totals.specs.declared.Row.{Row}
 use Rattle.totals.specs.declared.Table.{Table}
 use Rattle.totals.specs.declared.post.Posted.{Posted}
-use Rattle.totals.specs.Tables.{blank, heldRows, rowMeant, countsMeant, tableMeant, areTotals, placeOf}
+use Rattle.totals.specs.Tables.{blank, heldRows, rowMeant, tableMeant, areTotals, placeOf}
 use Rattle.totals.specs.Readings.{Small, Usable, withRefused, withRow, PostedAs}
 use Rattle.totals.proofs.Arithmetic.{sum-numbers}
 use Rattle.totals.proofs.Places.{same-number, held-place}

@@ -1,7 +1,7 @@
 -- The numbers of a table, written one after another.
-use Prim.Native.Nat.{ℕ, suc, _+_, _*_, _≤_, _<_}
+use Prim.Native.Nat.{ℕ, _+_, _*_, _≤_, _<_}
 use mathlib.Core.Path.{_≡_, refl, sym, _∙_, ap}
-use mathlib.Core.List.{List, [], _∷_, _++_, flatMap, append-nil}
+use mathlib.Core.List.{List, [], _∷_, flatMap, append-nil}
 use native.Mathlib.Omega.{arith}
 use native.Mathlib.Numerals.{add-one}
 use lib.ListN.{length, take, drop, getD, set, length-set, drop-of-length-le}
@@ -10,7 +10,6 @@ use borrow.Rule.Slice.PartMut.{putMid}
 use Rattle.rules.specs.Services.{overwrite}
 use Rattle.writer.specs.Placing.{placed}
 use Rattle.writer.proofs.Placing.{placed-none, placed-cons, overwrite-placed}
-use Rattle.totals.specs.declared.Row.{Row}
 use Rattle.totals.specs.declared.Table.{Table}
 use Rattle.totals.specs.Tables.{blank, heldRows, numbersOf, reportOf}
 

@@ -10,14 +10,14 @@ use lib.Dec.{ltb}
 use lib.ListN.{length, take, drop, getD, set, length-set}
 use lib.Seq.{getD-drop, take-suc-set}
 use Rattle.rules.specs.Basics.{every}
-use Rattle.rules.specs.Totals.{Row as RulesRow, Counts, Table as RulesTable, counting, table, isDamaged}
+use Rattle.rules.specs.Totals.{Table as RulesTable, counting, table, isDamaged}
 use Rattle.rules.specs.TotalNumbers.{is64, rowIn}
 use Rattle.rules.specs.TotalTables.{rowsIn, tableIn}
 use Rattle.rules.proofs.Tests.{both-true}
 use Rattle.rules.proofs.TotalTables.{rows-length}
 use Rattle.totals.specs.declared.Row.{Row}
 use Rattle.totals.specs.declared.Table.{Table}
-use Rattle.totals.specs.Tables.{heldRows, rowMeant, countsMeant, tableMeant, areTotals, TakenFrom}
+use Rattle.totals.specs.Tables.{rowMeant, countsMeant, tableMeant, areTotals, TakenFrom}
 
 -- numbers of 64 bits
 pub all-64 : (l : List ℕ) → ((i : ℕ) → getD l i 0 < 2 ^ 64) → every is64 l ≡ true

@@ -52,4 +52,5 @@ returns-3 c =
 pub read-money-spec : {M : Type 1} → statement M
 read-money-spec =
     tie.close
-    (tie.spec is-offset-requires returns shift-of-requires check-requires is-money-requires typed-fault-requires enum-known-fault returns-2 enum-told read-requires returns-3)
+    (tie.spec is-offset-requires returns shift-of-requires check-requires is-money-requires typed-fault-requires enum-known-fault returns-2
+    enum-told read-requires returns-3)

@@ -5,40 +5,27 @@ use Rattle.rigcactus.proofs.TotalsWays.{is-damaged, few, reports, repor
 use borrow.Author.Needs.{needs}
 use Rattle.rigcactus.proofs.rigcactus_totals_report.Statement.{statement}
 use Rattle.rigcactus.proofs.rigcactus_totals_report.Tie as tie
-use Rattle.rigcactus.proofs.rigcactus_totals_report.Reads as reads
-use Rattle.rigcactus.proofs.rigcactus_totals_report.Lts as lts
-use Rattle.refusal.proofs.number.Reads as number-reads
-use Rattle.totals.proofs.damage.is_damaged.Reads as is-damaged-reads
-use Rattle.totals.proofs.numbers.report.Reads as report-reads
-use Rattle.totals.proofs.numbers.taken.Reads as taken-reads
 
--- src/lib.rt:306:9
 taken-requires : tie.Need-taken-requires
 taken-requires c κs = search needs
 
--- src/lib.rt:307:8
 is-damaged-requires : tie.Need-is-damaged-requires
 is-damaged-requires c κs = search needs
 
--- src/lib.rt:308:9
 number-requires : tie.Need-number-requires
 number-requires c κs = search needs
 
--- src/lib.rt:308:9
 returns : tie.Need-returns
 returns c =
     let h = report-damaged (c .before .before .before .before .before .args .table .now) (c .before .before .before .before .before .args .report .now) (sym (c .before .if1 .taken) ∙ is-damaged (c .before .before .before .before .before .args .table .now) (c .before .before .before .taken .result) (c .before .before .before .taken .ensures .1) (c .before .before .is-damaged .ensures)) in
     (c .number .ensures ∙ h .0, h .1)
 
--- src/lib.rt:310:15
 report-requires : tie.Need-report-requires
 report-requires c κs = few (c .before .before .before .before .before .args .table .now) (c .before .before .before .taken .result) (c .before .before .before .taken .ensures .1) (sym (c .before .if1 .left) ∙ c .before .before .is-damaged .ensures)
 
--- src/lib.rt:311:5
 mul-result : tie.Need-mul-result
 mul-result c = omega (arith, few (c .before .before .before .before .before .before .args .table .now) (c .before .before .before .before .taken .result) (c .before .before .before .before .taken .ensures .1) (sym (c .before .before .if1 .left) ∙ c .before .before .before .is-damaged .ensures))
 
--- src/lib.rt:301:1
 returns-2 : tie.Need-returns-2
 returns-2 c =
     let h = reports (c .before .before .before .before .before .before .args .table .now) (c .before .before .before .before .taken .result) (c .before .before .before .before .taken .ensures .1) (sym (c .before .before .if1 .left) ∙ c .before .before .before .is-damaged .ensures) (c .before .before .before .before .before .before .args .report .now) in
@@ -47,11 +34,4 @@ returns-2 c =
 pub rigcactus-totals-report-spec : {M : Type 1} → statement M
 rigcactus-totals-report-spec =
     tie.close
-    (tie.spec
-    taken-requires
-    is-damaged-requires
-    number-requires
-    returns
-    report-requires
-    mul-result
-    returns-2)
+    (tie.spec taken-requires is-damaged-requires number-requires returns report-requires mul-result returns-2)

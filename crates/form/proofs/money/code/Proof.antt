@@ -6,59 +6,43 @@ use Rattle.form.proofs.Amounting.{currency-long, code-three}
 use borrow.Author.Needs.{needs}
 use Rattle.form.proofs.money.code.Statement.{statement}
 use Rattle.form.proofs.money.code.Tie as tie
-use Rattle.form.proofs.money.code.Reads as reads
-use Rattle.form.proofs.money.code.Lts as lts
-use Rattle.form.proofs.money.is_currency.Reads as is-currency-reads
 
--- src/money.rt:67:9
 is-currency-requires : tie.Need-is-currency-requires
 is-currency-requires c κs = search needs
 
--- src/money.rt:68:9
 returns : tie.Need-returns
 returns c = rw (sym (c .before .is-currency .ensures) ∙ not-true _ (c .if1 .taken))
 
--- src/money.rt:70:6
 shared-slice-read-result : tie.Need-shared-slice-read-result
 shared-slice-read-result c = omega (arith, currency-long (c .before .before .before .before .args .t .now) (sym (c .before .before .is-currency .ensures) ∙ not-false _ (c .before .if1 .left)))
 
--- src/money.rt:70:6
 cast-result : tie.Need-cast-result
 cast-result c = omega (arith, c .before .before .before .shared-slice-known .given 0)
 
--- src/money.rt:70:28
 shared-slice-read-result-2 : tie.Need-shared-slice-read-result-2
 shared-slice-read-result-2 c = omega (arith, currency-long (c .before .before .before .before .before .args .t .now) (sym (c .before .before .before .is-currency .ensures) ∙ not-false _ (c .before .before .if1 .left)))
 
--- src/money.rt:70:28
 cast-result-2 : tie.Need-cast-result-2
 cast-result-2 c = omega (arith, c .before .before .before .before .shared-slice-known .given 1)
 
--- src/money.rt:70:21
 mul-result : tie.Need-mul-result
 mul-result c = omega (arith, c .before .before .before .before .shared-slice-known .given 1)
 
--- src/money.rt:70:5
 add-result : tie.Need-add-result
 add-result c = omega (arith, c .before .before .before .before .shared-slice-known .given 0, c .before .before .before .before .shared-slice-known .given 1)
 
--- src/money.rt:70:53
 shared-slice-read-result-3 : tie.Need-shared-slice-read-result-3
 shared-slice-read-result-3 c = omega (arith, currency-long (c .before .before .before .before .before .before .args .t .now) (sym (c .before .before .before .before .is-currency .ensures) ∙ not-false _ (c .before .before .before .if1 .left)))
 
--- src/money.rt:70:53
 cast-result-3 : tie.Need-cast-result-3
 cast-result-3 c = omega (arith, c .before .before .before .before .before .shared-slice-known .given 2)
 
--- src/money.rt:70:43
 mul-result-2 : tie.Need-mul-result-2
 mul-result-2 c = omega (arith, c .before .before .before .before .before .shared-slice-known .given 2)
 
--- src/money.rt:70:5
 add-result-2 : tie.Need-add-result-2
 add-result-2 c = omega (arith, c .before .before .before .before .before .shared-slice-known .given 0, c .before .before .before .before .before .shared-slice-known .given 1, c .before .before .before .before .before .shared-slice-known .given 2)
 
--- src/money.rt:64:1
 returns-2 : tie.Need-returns-2
 returns-2 c =
     let h = sym (c .before .before .before .before .is-currency .ensures) ∙ not-false _ (c .before .before .before .if1 .left) in
@@ -67,17 +51,5 @@ returns-2 c =
 pub code-spec : {M : Type 1} → statement M
 code-spec =
     tie.close
-    (tie.spec
-    is-currency-requires
-    returns
-    shared-slice-read-result
-    cast-result
-    shared-slice-read-result-2
-    cast-result-2
-    mul-result
-    add-result
-    shared-slice-read-result-3
-    cast-result-3
-    mul-result-2
-    add-result-2
-    returns-2)
+    (tie.spec is-currency-requires returns shared-slice-read-result cast-result shared-slice-read-result-2 cast-result-2 mul-result add-result
+    shared-slice-read-result-3 cast-result-3 mul-result-2 add-result-2 returns-2)

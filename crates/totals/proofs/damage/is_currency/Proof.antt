@@ -3,27 +3,19 @@ use Rattle.totals.proofs.Arithmetic.{no-currency, three-capitals}
 use borrow.Author.Needs.{needs}
 use Rattle.totals.proofs.damage.is_currency.Statement.{statement}
 use Rattle.totals.proofs.damage.is_currency.Tie as tie
-use Rattle.totals.proofs.damage.is_currency.Reads as reads
-use Rattle.totals.proofs.damage.is_currency.Lts as lts
-use Rattle.totals.proofs.damage.is_capital.Reads as is-capital-reads
 
--- src/damage.rt:36:9
 returns : tie.Need-returns
 returns c = no-currency (c .before .args .n) (c .if1 .taken)
 
--- src/damage.rt:38:5
 is-capital-requires : tie.Need-is-capital-requires
 is-capital-requires c κs = search needs
 
--- src/damage.rt:38:21
 is-capital-requires-2 : tie.Need-is-capital-requires-2
 is-capital-requires-2 c κs = search needs
 
--- src/damage.rt:38:43
 is-capital-requires-3 : tie.Need-is-capital-requires-3
 is-capital-requires-3 c κs = search needs
 
--- src/damage.rt:32:1
 returns-2 : tie.Need-returns-2
 returns-2 c = rw (c .before .before .is-capital .ensures, c .before .is-capital2 .ensures, c .is-capital3 .ensures) (three-capitals (c .before .before .before .before .args .n) (c .before .before .before .if1 .left))
 

@@ -3,10 +3,7 @@ use borrow.Author.Needs.{needs}
 use Rattle.totals.proofs.Arithmetic.{range-numbers}
 use Rattle.totals.proofs.damage.is_in_range.Statement.{statement}
 use Rattle.totals.proofs.damage.is_in_range.Tie as tie
-use Rattle.totals.proofs.damage.is_in_range.Reads as reads
-use Rattle.totals.proofs.damage.is_in_range.Lts as lts
 
--- src/damage.rt:42:1
 returns : tie.Need-returns
 returns c = range-numbers (c .args .total) (search needs)
 

@@ -4,22 +4,16 @@ use Rattle.totals.proofs.Arithmetic.{over-one, none-over}
 use borrow.Author.Needs.{needs}
 use Rattle.totals.proofs.damage.is_over_counted.Statement.{statement}
 use Rattle.totals.proofs.damage.is_over_counted.Tie as tie
-use Rattle.totals.proofs.damage.is_over_counted.Reads as reads
-use Rattle.totals.proofs.damage.is_over_counted.Lts as lts
 
--- src/damage.rt:68:9
 returns : tie.Need-returns
 returns c = over-one (c .before .before .before .before .args .t .added) (c .before .before .before .before .args .t .null) (c .before .before .before .before .args .t .refused) (c .if1 .taken)
 
--- src/damage.rt:70:20
 add-result : tie.Need-add-result
 add-result c = omega (arith, none-over (c .before .before .before .before .before .args .t .added) (c .before .before .before .before .before .args .t .null) (c .before .before .before .before .before .args .t .refused) (c .before .if1 .left))
 
--- src/damage.rt:70:20
 add-result-2 : tie.Need-add-result-2
 add-result-2 c = omega (arith, none-over (c .before .before .before .before .before .before .args .t .added) (c .before .before .before .before .before .before .args .t .null) (c .before .before .before .before .before .before .args .t .refused) (c .before .before .if1 .left))
 
--- src/damage.rt:64:1
 returns-2 : tie.Need-returns-2
 returns-2 c = search needs
 

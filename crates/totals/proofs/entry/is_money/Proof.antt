@@ -3,18 +3,13 @@ use Rattle.totals.proofs.Entering.{is-mo, is-other}
 use borrow.Author.Needs.{needs}
 use Rattle.totals.proofs.entry.is_money.Statement.{statement}
 use Rattle.totals.proofs.entry.is_money.Tie as tie
-use Rattle.totals.proofs.entry.is_money.Reads as reads
-use Rattle.totals.proofs.entry.is_money.Lts as lts
 
--- src/entry.rt:41:21
 enum-told : tie.Need-enum-told
 enum-told c = search needs
 
--- src/entry.rt:36:1
 returns : tie.Need-returns
 returns c = λ s e h. is-mo h (c .enum-told .given .1)
 
--- src/entry.rt:36:1
 returns-2 : tie.Need-returns-2
 returns-2 c = λ s e h. is-other h (c .match .keys2)
 

@@ -6,54 +6,37 @@ use Rattle.totals.proofs.Entering.{null-read, no-amount-read, amount-re
 use borrow.Author.Needs.{needs}
 use Rattle.totals.proofs.entry.read.Statement.{statement}
 use Rattle.totals.proofs.entry.read.Tie as tie
-use Rattle.totals.proofs.entry.read.Reads as reads
-use Rattle.totals.proofs.entry.read.Lts as lts
-use Rattle.datatype.proofs.money.amount_at.Reads as amount-at-reads
-use Rattle.datatype.proofs.money.currency_at.Reads as currency-at-reads
-use Rattle.element.proofs.tag.has.Reads as has-reads
-use Rattle.totals.proofs.entry.amount_number.Reads as amount-number-reads
 
--- src/entry.rt:63:8
 has-requires : tie.Need-has-requires
 has-requires c κs = search needs
 
--- src/entry.rt:64:9
 returns : tie.Need-returns
 returns c = λ e shift h f t. (tt, null-read e shift f t (sym (sym (c .before .has .ensures _ _ (h .tag .tells)) ∙ c .if1 .taken)))
 
--- src/entry.rt:66:31
 element-copy-out-amount-at : tie.Need-element-copy-out-amount-at
 element-copy-out-amount-at c = search needs
 
--- src/entry.rt:66:9
 amount-at-requires : tie.Need-amount-at-requires
 amount-at-requires c κs = c .before .before .before .before .before .pre .placed 0
 
--- src/entry.rt:67:22
 enum-known-amount : tie.Need-enum-known-amount
 enum-known-amount c = search needs
 
--- src/entry.rt:68:9
 enum-told : tie.Need-enum-told
 enum-told c = search needs
 
--- src/entry.rt:68:9
 returns-2 : tie.Need-returns-2
 returns-2 c = λ e shift h f t. (tt, no-amount-read e shift f t (sym (ap amountOf (c .enum-told .given .1)) ∙ c .before .before .amount-at .ensures .1 _ (h .tag .tells .placed 0 (omega arith))))
 
--- src/entry.rt:71:34
 element-copy-out-currency-at : tie.Need-element-copy-out-currency-at
 element-copy-out-currency-at c = search needs
 
--- src/entry.rt:71:19
 currency-at-requires : tie.Need-currency-at-requires
 currency-at-requires c κs = c .before .before .before .before .before .before .before .before .before .before .pre .placed 5
 
--- src/entry.rt:72:17
 amount-number-requires : tie.Need-amount-number-requires
 amount-number-requires c κs = subst Small (c .before .before .before .amount .given .1) (c .before .before .before .before .before .amount-at .ensures .0)
 
--- src/entry.rt:58:1
 returns-3 : tie.Need-returns-3
 returns-3 c = λ e shift h f t.
     let (i, j) = amount-read e shift f t (c .before .currency-at .result) (c .amount-number .result) (sym (sym (c .before .before .before .before .before .before .before .before .before .has .ensures _ _ (h .tag .tells)) ∙ c .before .before .before .before .before .before .before .before .if1 .left)) (sym (ap amountOf (c .before .before .before .before .amount .given .1)) ∙ c .before .before .before .before .before .before .amount-at .ensures .1 _ (h .tag .tells .placed 0 (omega arith))) (c .amount-number .ensures .1) (c .before .currency-at .ensures _ (h .tag .tells .placed 5 (omega arith))) in
@@ -62,15 +45,5 @@ returns-3 c = λ e shift h f t.
 pub read-spec : {M : Type 1} → statement M
 read-spec =
     tie.close
-    (tie.spec
-    has-requires
-    returns
-    element-copy-out-amount-at
-    amount-at-requires
-    enum-known-amount
-    enum-told
-    returns-2
-    element-copy-out-currency-at
-    currency-at-requires
-    amount-number-requires
-    returns-3)
+    (tie.spec has-requires returns element-copy-out-amount-at amount-at-requires enum-known-amount enum-told returns-2
+    element-copy-out-currency-at currency-at-requires amount-number-requires returns-3)

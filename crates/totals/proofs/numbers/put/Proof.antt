@@ -2,44 +2,28 @@
 use mathlib.Core.Path.{_∙_}
 use native.Mathlib.Omega.{arith}
 use Rattle.totals.proofs.Putting.{counts-room, counts-put}
-use borrow.Author.Needs.{needs}
 use Rattle.totals.proofs.numbers.put.Statement.{statement}
 use Rattle.totals.proofs.numbers.put.Tie as tie
-use Rattle.totals.proofs.numbers.put.Reads as reads
-use Rattle.totals.proofs.numbers.put.Lts as lts
-use Rattle.totals.proofs.numbers.put_rows.Reads as put-rows-reads
 
--- src/numbers.rt:63:5
 slice-write-out : tie.Need-slice-write-out
 slice-write-out c = omega (arith, c .before .pre .1)
 
--- src/numbers.rt:64:5
 slice-write-out-2 : tie.Need-slice-write-out-2
 slice-write-out-2 c = omega (arith, c .before .pre .1, counts-room (c .before .args .out .now) (c .before .args .t) (c .before .pre .1) .0)
 
--- src/numbers.rt:65:5
 slice-write-out-3 : tie.Need-slice-write-out-3
 slice-write-out-3 c = omega (arith, c .before .pre .1, counts-room (c .before .args .out .now) (c .before .args .t) (c .before .pre .1) .1)
 
--- src/numbers.rt:66:5
 put-rows-requires : tie.Need-put-rows-requires
 put-rows-requires c κs = (c .before .before .pre .0, omega (arith, c .before .before .pre .1, counts-room (c .before .before .args .out .now) (c .before .before .args .t) (c .before .before .pre .1) .2))
 
--- src/numbers.rt:59:1
 same-length : tie.Need-same-length
 same-length c = c .before .before .put-rows .kept .1 .0 ∙ counts-room (c .before .before .before .before .before .args .out .now) (c .before .before .before .before .before .args .t) (c .before .before .before .before .before .pre .1) .2
 
--- src/numbers.rt:59:1
 returns : tie.Need-returns
 returns c = c .before .before .put-rows .ensures ∙ counts-put (c .before .before .before .before .before .args .out .now) (c .before .before .before .before .before .args .t) (c .before .before .before .before .before .pre .1)
 
 pub put-spec : {M : Type 1} → statement M
 put-spec =
     tie.close
-    (tie.spec
-    slice-write-out
-    slice-write-out-2
-    slice-write-out-3
-    put-rows-requires
-    same-length
-    returns)
+    (tie.spec slice-write-out slice-write-out-2 slice-write-out-3 put-rows-requires same-length returns)

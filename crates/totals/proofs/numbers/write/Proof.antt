@@ -1,5 +1,5 @@
 -- `totals::numbers::write` meets its contract.
-use mathlib.Core.Path.{_≡_, _∙_, ap}
+use mathlib.Core.Path.{_≡_}
 use native.Mathlib.Omega.{arith}
 use lib.ListN.{length, length-set}
 use Rattle.totals.specs.Tables.{reportOf}
@@ -7,33 +7,24 @@ use Rattle.totals.proofs.Putting.{first-put}
 use borrow.Author.Needs.{needs}
 use Rattle.totals.proofs.numbers.write.Statement.{statement}
 use Rattle.totals.proofs.numbers.write.Tie as tie
-use Rattle.totals.proofs.numbers.write.Reads as reads
-use Rattle.totals.proofs.numbers.write.Lts as lts
-use Rattle.totals.proofs.numbers.put.Reads as put-reads
 
--- src/numbers.rt:76:5
 array-write-out : tie.Need-array-write-out
 array-write-out c = search needs
 
--- src/numbers.rt:77:12
 sub-put : tie.Need-sub-put
 sub-put c = search needs
 
--- src/numbers.rt:77:12
 part-out-start : tie.Need-part-out-start
 part-out-start c = search needs
 
--- src/numbers.rt:77:12
 part-out-end : tie.Need-part-out-end
 part-out-end c =
     let g : length (c .args .before) ≡ 36 = search needs in
     omega (arith, length-set (c .args .before) 0 (c .args .t .held))
 
--- src/numbers.rt:77:5
 put-requires : tie.Need-put-requires
 put-requires c κs = search needs
 
--- src/numbers.rt:71:1
 returns : tie.Need-returns
 returns c =
     let g : length (c .before .before .before .args .before) ≡ 36 = search needs in

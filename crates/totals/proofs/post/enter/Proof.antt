@@ -3,27 +3,19 @@ use mathlib.Core.Path.{refl}
 use borrow.Author.Needs.{needs}
 use Rattle.totals.proofs.post.enter.Statement.{statement}
 use Rattle.totals.proofs.post.enter.Tie as tie
-use Rattle.totals.proofs.post.enter.Reads as reads
-use Rattle.totals.proofs.post.enter.Lts as lts
-use Rattle.totals.proofs.post.held_with.Reads as held-with-reads
 
--- src/post.rt:63:5
 mul-row : tie.Need-mul-row
 mul-row c = search needs
 
--- src/post.rt:63:5
 element-set-from-row : tie.Need-element-set-from-row
 element-set-from-row c = search needs
 
--- src/post.rt:64:14
 held-with-requires : tie.Need-held-with-requires
 held-with-requires c κs = search needs
 
--- src/post.rt:65:15
 add-u : tie.Need-add-u
 add-u c = search needs
 
--- src/post.rt:58:1
 returns : tie.Need-returns
 returns c = rw (c .before .held-with .ensures) refl
 

@@ -3,18 +3,13 @@ use borrow.Author.Tests.{lt-ltb, le-ltb}
 use borrow.Author.Needs.{needs}
 use Rattle.totals.proofs.post.held_with.Statement.{statement}
 use Rattle.totals.proofs.post.held_with.Tie as tie
-use Rattle.totals.proofs.post.held_with.Reads as reads
-use Rattle.totals.proofs.post.held_with.Lts as lts
 
--- src/post.rt:54:38
 add-result : tie.Need-add-result
 add-result c = search needs
 
--- src/post.rt:50:1
 returns : tie.Need-returns
 returns c = rw (lt-ltb (c .before .before .args .at) (c .before .before .args .t .held) (c .if1 .taken))
 
--- src/post.rt:50:1
 returns-2 : tie.Need-returns-2
 returns-2 c = rw (le-ltb (c .before .before .before .args .at) (c .before .before .before .args .t .held) (c .before .if1 .left))
 

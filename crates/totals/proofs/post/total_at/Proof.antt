@@ -3,22 +3,16 @@ use borrow.Author.Tests.{lt-ltb, le-ltb}
 use borrow.Author.Needs.{needs}
 use Rattle.totals.proofs.post.total_at.Statement.{statement}
 use Rattle.totals.proofs.post.total_at.Tie as tie
-use Rattle.totals.proofs.post.total_at.Reads as reads
-use Rattle.totals.proofs.post.total_at.Lts as lts
 
--- src/post.rt:46:22
 mul-result : tie.Need-mul-result
 mul-result c = search needs
 
--- src/post.rt:46:22
 element-copy-out-result : tie.Need-element-copy-out-result
 element-copy-out-result c = search needs
 
--- src/post.rt:42:1
 returns : tie.Need-returns
 returns c = rw (lt-ltb (c .before .args .at) (c .before .args .t1 .held) (c .if1 .taken))
 
--- src/post.rt:42:1
 returns-2 : tie.Need-returns-2
 returns-2 c = rw (le-ltb (c .before .args .at) (c .before .args .t1 .held) (c .if1 .left))
 
