@@ -17,7 +17,7 @@ use Rattle.rules.specs.Sets.{Interval, meant, AreStretches}
 use Rattle.rules.specs.Services.{roomOf}
 use Rattle.rules.specs.ListingPromise.{numberIn, Refuses, Lists, PromiseOfSet, ListingPromise}
 use Rattle.rules.specs.TotalNumbers.{Lent}
-use Rattle.rules.specs.TotalsPromise.{Call}
+use Rattle.rules.specs.TotalDays.{Call}
 use Rattle.rules.specs.ComparisonPromise.{recordIn, answerIn, Names, Says, IsOf}
 use Rattle.rules.proofs.Tests.{clash}
 use Rattle.rules.proofs.Precedence.{first-is, no-fault}

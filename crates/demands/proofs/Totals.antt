@@ -16,7 +16,7 @@ use Rattle.rules.specs.Services.{packed, lentAfter, overwrite}
 use Rattle.rules.specs.Totals.{Table, counting, isDamaged, Entry, null, money, isUncounted, recorded, reporting}
 use Rattle.rules.specs.TotalNumbers.{Lent, reportNumbers, entryNumber}
 use Rattle.rules.specs.TotalTables.{tableIn, tableNumbers, numbersAfter, addAnswer, addAfter, reportAnswer, reportAfter}
-use Rattle.rules.specs.TotalsPromise.{Call, answerTo, Posted, damaged, full, faulty, a-null, no-row, out-of-range, added}
+use Rattle.rules.specs.TotalDays.{Call, answerTo, Posted, damaged, full, faulty, a-null, no-row, out-of-range, added}
 use Rattle.rules.proofs.Tests.{clash}
 use Rattle.rules.proofs.Precedence.{number-injective}
 use Rattle.rules.proofs.ListingPromise.{low-bits, count-bits}

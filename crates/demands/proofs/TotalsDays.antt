@@ -13,7 +13,7 @@ use Rattle.rules.specs.Services.{packed}
 use Rattle.rules.specs.Totals.{Table, counted, Entry, null, money, isCounted, recorded}
 use Rattle.rules.specs.TotalNumbers.{is64, Lent, entryNumber}
 use Rattle.rules.specs.TotalTables.{rowsIn, tableIn, openedTable}
-use Rattle.rules.specs.TotalsPromise.{Call, answerTo, Posted, damaged, full, faulty, a-null, no-row, out-of-range, added, History, beginning, _then_, reached, answers, isAdded, isNullAnswer, howMany, IsDay}
+use Rattle.rules.specs.TotalDays.{Call, answerTo, Posted, damaged, full, faulty, a-null, no-row, out-of-range, added, History, beginning, _then_, reached, answers, isAdded, isNullAnswer, howMany, IsDay}
 use Rattle.rules.proofs.Tests.{clash}
 use Rattle.rules.proofs.Precedence.{found-by-number, number-injective}
 use Rattle.rules.proofs.ListingPromise.{small}

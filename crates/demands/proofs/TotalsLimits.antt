@@ -14,7 +14,7 @@ use Rattle.rules.specs.Services.{packed}
 use Rattle.rules.specs.Totals.{Row, Table, totalling, counted, isInRange, isOf, isHeld, Entry, money, newTotal}
 use Rattle.rules.specs.TotalNumbers.{entryNumber}
 use Rattle.rules.specs.TotalTables.{tableIn}
-use Rattle.rules.specs.TotalsPromise.{Call, readingOf, answerTo, IsUsable, HasNoRow, History, sumAdded, currenciesAdded, rowsOf}
+use Rattle.rules.specs.TotalDays.{Call, readingOf, answerTo, IsUsable, HasNoRow, History, sumAdded, currenciesAdded, rowsOf}
 use Rattle.rules.proofs.Tests.{same-true}
 use Rattle.rules.proofs.TotalRows.{sum-none}
 use Rattle.rules.proofs.Totals.{exactly-no-row, exactly-total}

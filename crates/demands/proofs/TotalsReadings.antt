@@ -20,7 +20,7 @@ use Rattle.rules.specs.Forms.{amountText}
 use Rattle.rules.specs.Types.{MO, hasType}
 use Rattle.rules.specs.Check.{elementOf, check}
 use Rattle.rules.specs.Totals.{entryOf, notMoney, reading}
-use Rattle.rules.specs.TotalsPromise.{Call, readingOf}
+use Rattle.rules.specs.TotalDays.{Call, readingOf}
 use Rattle.rules.proofs.Tests.{clash, every-true, isFrom-true}
 use Rattle.rules.proofs.Precedence.{check-answered}
 use Rattle.rules.proofs.Digits.{decimal-append}

@@ -21,7 +21,7 @@ use Rattle.rules.specs.Services.{overwrite}
 use Rattle.rules.specs.Totals.{Row, Table, counted, isInRange, isDamaged, Entry, null, money, notMoney, newTotal, recorded}
 use Rattle.rules.specs.TotalNumbers.{Lent}
 use Rattle.rules.specs.TotalTables.{tableIn, tableNumbers}
-use Rattle.rules.specs.TotalsPromise.{Call, readingOf, IsUsable, HasNoRow, Posted, History, beginning, _then_, sumAdded, currenciesAdded, IsDay}
+use Rattle.rules.specs.TotalDays.{Call, readingOf, IsUsable, HasNoRow, Posted, History, beginning, _then_, sumAdded, currenciesAdded, IsDay}
 use Rattle.demands.specs.Services.{Services}
 
 -- What a record says, in the words of the rules page: "MO records", "null and refused"; "other types are TYPE in its place".

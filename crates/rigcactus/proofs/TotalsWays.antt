@@ -13,7 +13,7 @@ use Rattle.rules.specs.Services.{packed, overwrite}
 use Rattle.rules.specs.Totals.{counted, isDamaged, isFull, Entry, reading, fitting, posting, isCounted, recorded, reporting}
 use Rattle.rules.specs.TotalNumbers.{reportNumbers, entryNumber}
 use Rattle.rules.specs.TotalTables.{tableIn, tableNumbers, addAnswer, addAfter, reportAnswer, reportAfter}
-use Rattle.rules.specs.TotalsPromise.{Call, answerTo, IsUsable, Posted, damaged, full, faulty, a-null, no-row, out-of-range, added}
+use Rattle.rules.specs.TotalDays.{Call, answerTo, IsUsable, Posted, damaged, full, faulty, a-null, no-row, out-of-range, added}
 use Rattle.rules.proofs.Tests.{clash, neither}
 use Rattle.rules.proofs.TotalReading.{reading-refusals}
 use Rattle.rules.proofs.TotalTables.{rows-length}

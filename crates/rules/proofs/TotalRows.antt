@@ -9,7 +9,7 @@ use lib.IntN.{ℤ, pos, _+ℤ_, +ℤ-idl}
 use Rattle.rules.specs.Basics.{ifSome, find, exists, same}
 use Rattle.rules.specs.Refusal.{Outcome, answered, refused}
 use Rattle.rules.specs.Totals.{Row, totalling, isInRange, isOf, isHeld, isHeldTwice, Entry, null, money, newTotal, entered}
-use Rattle.rules.specs.TotalsPromise.{History, beginning, _then_, sumAdded, currenciesAdded, rowsOf}
+use Rattle.rules.specs.TotalDays.{History, beginning, _then_, sumAdded, currenciesAdded, rowsOf}
 use Rattle.rules.proofs.Tests.{clash, neither, same-true, same-refl, same-sym}
 
 pub exists-append : {A : Type 0} (p : A → Bool) (a b : List A) → exists p (a ++ b) ≡ (exists p a || exists p b)

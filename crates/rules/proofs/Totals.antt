@@ -13,7 +13,7 @@ use Rattle.rules.specs.Basics.{exists}
 use Rattle.rules.specs.Refusal.{Refusal, NO-ROW, TOTAL, DAMAGED, DAY-FULL, number, rankIn, firstOf, Outcome, answered, refused, _unless_, _when_, _andThen_}
 use Rattle.rules.specs.Forms.{isCurrency}
 use Rattle.rules.specs.Totals.{Table, totalling, counting, table, counted, isInRange, isHeld, isHeldTwice, isDamaged, isFull, Entry, null, money, newTotal, fitting, posting, isUncounted, recorded, isCounted}
-use Rattle.rules.specs.TotalsPromise.{History, beginning, _then_, Call, readingOf, answerTo, IsUsable, HasNoRow, Posted, damaged, full, faulty, a-null, no-row, out-of-range, added, reached, answers, isAdded, isNullAnswer, isCountedRefusal, howMany, sumAdded, currenciesAdded, rowsOf, countsOf, dayOf}
+use Rattle.rules.specs.TotalDays.{History, beginning, _then_, Call, readingOf, answerTo, IsUsable, HasNoRow, Posted, damaged, full, faulty, a-null, no-row, out-of-range, added, reached, answers, isAdded, isNullAnswer, isCountedRefusal, howMany, sumAdded, currenciesAdded, rowsOf, countsOf, dayOf}
 use Rattle.rules.proofs.Tests.{clash, neither}
 use Rattle.rules.proofs.TotalRows.{exists-append, entered-new, entered-held, entered-length, entered-once, entered-within, rows-more}
 use Rattle.rules.proofs.Precedence.{number-injective}

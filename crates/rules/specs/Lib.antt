@@ -23,4 +23,4 @@ pub mod TotalNumbers
 pub mod TotalTables
 pub mod ListingPromise
 pub mod ComparisonPromise
-pub mod TotalsPromise
+pub mod TotalDays
