@@ -458,7 +458,7 @@ uint64_t rigcactus_totals_open(uint64_t table[RIGCACTUS_TABLE_NUMBERS]);
  * RIGCACTUS_DAY_FULL. Numbers past the rows that are then held are left as they are.
  *
  * Refusals: RIGCACTUS_DAMAGED exactly if the table has over RIGCACTUS_MOST_CURRENCIES rows, in one of its rows a currency that
- * is not three letters or stands in another row too, or a total out of range, or counts whose sum is over
+ * is not three letters A to Z or stands in another row too, or a total out of range, or counts whose sum is over
  * RIGCACTUS_MOST_COUNTED; RIGCACTUS_DAY_FULL exactly if that sum is RIGCACTUS_MOST_COUNTED; then those of rigcactus_check, with
  * RIGCACTUS_TYPE also for a record of another type, null or not; then RIGCACTUS_NO_ROW for a new currency where
  * RIGCACTUS_MOST_CURRENCIES are held; RIGCACTUS_TOTAL if the new total would be out of range. No calls of these services damage a

@@ -29,7 +29,8 @@ use Rattle.demands.specs.Demands.{addRefusals}
 use Rattle.demands.specs.Totals.{raised, Adding, damaged-table, full-day, refused-record, null-record, added-record, Exactly, Reporting, TotalsPromise}
 use Rattle.demands.proofs.Answers.{iff-trans, packed-answers, record-among}
 use Rattle.demands.proofs.TotalsReadings.{reads, amount-read}
-use Rattle.demands.proofs.TotalsDamage.{damage-is, row-says}
+use Rattle.demands.proofs.TotalsNumbers.{range-of}
+use Rattle.demands.proofs.TotalsDamage.{damage-is, table-says}
 use Rattle.demands.proofs.TotalsDays.{packed-number, table-lent, is-day}
 use Rattle.demands.proofs.TotalsLimits.{limits-of}
 
@@ -143,13 +144,14 @@ pub totals-kept : TotalsPromise services
 totals-kept = record {
   readings = reads;
   amounts = amount-read;
+  range = range-of;
   opens = λ numbers l. (refl, refl);
   days = λ before l h. is-day before h;
   limits = λ before l h. limits-of before h;
   tables = λ before l h. table-lent before h;
   adds = λ numbers l k. adding numbers l k (answerTo k (tableIn numbers)) (posted k (tableIn numbers));
   damage = damage-is;
-  rows = row-says;
+  says = table-says;
   exactly = λ numbers l k. is-exact k (tableIn numbers);
   reports = λ numbers before l m. reporting-says numbers before l;
 }

@@ -17,7 +17,7 @@ use Rattle.rules.specs.TotalTables.{rowsIn, tableIn}
 use Rattle.rules.proofs.Tests.{clash, every-true, same-refl, neither}
 use Rattle.rules.proofs.Totals.{Proper, undamaged}
 use Rattle.rules.proofs.TotalTables.{rows-length}
-use Rattle.demands.specs.Totals.{currencyAt, totalAt, IsRow, IsDamaged, too-many, wrong-form, held-twice, out-of-range, over-counted}
+use Rattle.demands.specs.Totals.{currencyAt, totalAt, IsRow, Says, IsDamaged, too-many, wrong-form, held-twice, out-of-range, over-counted}
 use Rattle.demands.proofs.TotalsNumbers.{letters-of, amount-of, capitals-read, same-currency, outside-read}
 
 -- the rows of some numbers, one by one
@@ -156,14 +156,19 @@ module _ (numbers : List ℕ) (lent : Lent 36 numbers) where
       go d true e = refl
       go d false e = absurd (no-damage (undamaged (tableIn numbers) .0 e) d)
 
-  -- row i of an undamaged table
-  pub row-says : isDamaged (tableIn numbers) ≡ false → (i : ℕ) → i < getD numbers 0 0
+  -- row i of a table that passes them
+  row-says : Proper (tableIn numbers) → (i : ℕ) → i < held
       → (r : Row) × (take 1 (drop i (tableIn numbers .rows)) ≡ r ∷ []) × IsRow r (currencyAt numbers i) (totalAt numbers i)
-  row-says d i l =
-      let p = undamaged (tableIn numbers) .0 d in
-      let k : i < held = omega (arith, p .few, held-rows) in
-      let f = sym (ap isMisformed (row-is i)) ∙ no-row isMisformed held (drop 4 numbers) (p .formed) i k in (
+  row-says p i k =
+      let f = sym (ap isMisformed (row-is i)) ∙ no-row isMisformed held (drop 4 numbers) (p .formed) i k in
+      let g = sym (ap isOutside (row-is i)) ∙ no-row isOutside held (drop 4 numbers) (p .within) i k in (
         rowIn (currencyAt numbers i) (totalAt numbers i),
         nth held (drop 4 numbers) i k ∙ ap (λ r. r ∷ []) (row-is i),
-        record { letters = letters-of (currencyAt numbers i) (not-false _ f); amount = amount-of (totalAt numbers i) (small-at numbers (lent .bits) _) },
+        record { letters = letters-of (currencyAt numbers i) (not-false _ f); amount = amount-of (totalAt numbers i) (small-at numbers (lent .bits) _) (not-false _ g) },
       )
+
+  pub table-says : isDamaged (tableIn numbers) ≡ false → Says (tableIn numbers) numbers
+  table-says d =
+      let p = undamaged (tableIn numbers) .0 d in
+      let e : held ≡ getD numbers 0 0 = omega (arith, p .few, held-rows) in
+      record { held = held-rows ∙ e; rows = λ i l. row-says p i (omega arith); added = refl; null = refl; refused = refl }

@@ -1,14 +1,14 @@
 -- What a currency's number and a total's say: three capitals, each text of one number; and a total out of range.
-use Prim.Native.Nat.{ℕ, suc, _+_, _-_, _*_, _^_, _<_}
+use Prim.Native.Nat.{ℕ, zero, suc, _+_, _-_, _*_, _^_, _≤_, _<_}
 use mathlib.Core.Path.{_≡_, refl, sym, _∙_, ap}
 use mathlib.Core.Logic.{_⊎_, inl, inr, _↔_}
 use mathlib.Core.Bool.{Bool, true, false, _&&_, cond}
 use mathlib.Core.List.{List, [], _∷_}
 use native.Mathlib.Omega.{arith}
-use borrow.Author.Tests.{ltb-true, ltb-false, leb-false, le-leb, lt-leb, eqb-true}
+use borrow.Author.Tests.{ltb-true, ltb-false, leb-true, leb-false, le-leb, lt-leb, eqb-true}
 use lib.Dec.{ltb, eqb}
 use lib.ListN.{length}
-use lib.IntN.{pos, negsuc, negℤ}
+use lib.IntN.{ℤ, pos, negsuc, negℤ}
 use Rattle.rules.specs.Basics.{every, same, isFrom}
 use Rattle.rules.specs.Forms.{isCurrency}
 use Rattle.rules.specs.LentLists.{unsigned}
@@ -18,7 +18,7 @@ use Rattle.rules.specs.TotalNumbers.{totalIn, currencyNumber, currencyIn}
 use Rattle.rules.proofs.Tests.{clash, both-true, every-true, isFrom-true, same-true}
 use Rattle.rules.proofs.LentLists.{unsigned-low}
 use Rattle.rules.proofs.TotalNumbers.{currency-read, currency-written}
-use Rattle.demands.specs.Totals.{IsCapital, AreCapitals}
+use Rattle.demands.specs.Totals.{IsCapital, AreCapitals, ofSign}
 
 -- a currency is of the right form exactly if its number is of three capitals
 currency-letters : (x : List ℕ) → isCurrency x ≡ true
@@ -48,8 +48,9 @@ capitals-read n = (there, λ h. let (a, b, c, x, i, j, k, e) = currency-letters 
         rw (g, currency-read (a ∷ b ∷ c ∷ []) f, f)
 
 -- its text is its letters, the first in the lowest byte
-pub letters-of : (n : ℕ) → isCurrency (currencyIn n) ≡ true → (a b c : ℕ) × (currencyIn n ≡ a ∷ b ∷ c ∷ []) × (n ≡ a + 256 * b + 65_536 * c)
-letters-of n h = let (a, b, c, x, i, j, k, e) = currency-letters (currencyIn n) h in (a, b, c, x, sym (currency-written n h) ∙ e)
+pub letters-of : (n : ℕ) → isCurrency (currencyIn n) ≡ true
+    → (a b c : ℕ) × (currencyIn n ≡ a ∷ b ∷ c ∷ []) × IsCapital a × IsCapital b × IsCapital c × (n ≡ a + 256 * b + 65_536 * c)
+letters-of n h = let (a, b, c, x, i, j, k, e) = currency-letters (currencyIn n) h in (a, b, c, x, i, j, k, sym (currency-written n h) ∙ e)
 
 -- one text is of one number
 currency-number : (n : ℕ) → n < 2 ^ 64 → currencyNumber (currencyIn n) ≡ n
@@ -63,14 +64,25 @@ pub same-currency : (m n : ℕ) → m < 2 ^ 64 → n < 2 ^ 64 → same (currency
 same-currency m n h k e =
     sym (currency-number m h) ∙ ap currencyNumber (same-true (currencyIn m) (currencyIn n) e) ∙ currency-number n k
 
--- a total is its number in two's complement
-pub amount-of : (n : ℕ) → n < 2 ^ 64 → (totalIn n ≡ pos n) ⊎ ((m : ℕ) × (totalIn n ≡ negℤ (pos m)) × (n + m ≡ 2 ^ 64))
+-- the range is of numbers of either sign
+pub range-of : (negative : Bool) (n : ℕ) → isInRange (ofSign negative n) ≡ true ↔ n ≤ 9_000_000_000_000_000_000
+range-of false n = (leb-true n 9_000_000_000_000_000_000, le-leb n 9_000_000_000_000_000_000)
+range-of true zero = (λ e. omega arith, λ l. refl)
+range-of true (suc n) = (
+  λ e. omega (arith, leb-true n 8_999_999_999_999_999_999 (both-true _ _ e .0)),
+  λ l. rw (le-leb n 8_999_999_999_999_999_999 (omega arith)),
+)
+
+-- a total in range is its number in two's complement
+abbrev IsAmount : ℤ → ℕ → Type 0
+IsAmount z n = (m : ℕ) × (m ≤ 9_000_000_000_000_000_000) × (((z ≡ pos m) × (n ≡ m)) ⊎ ((z ≡ negℤ (pos m)) × (n + m ≡ 2 ^ 64)))
+
+pub amount-of : (n : ℕ) → n < 2 ^ 64 → isInRange (totalIn n) ≡ true → IsAmount (totalIn n) n
 amount-of n h = go (ltb n (2 ^ 63)) refl
   where
-    go : (b : Bool) → ltb n (2 ^ 63) ≡ b
-        → (cond b (pos n) (negsuc (2 ^ 64 - suc n)) ≡ pos n) ⊎ ((m : ℕ) × (cond b (pos n) (negsuc (2 ^ 64 - suc n)) ≡ negℤ (pos m)) × (n + m ≡ 2 ^ 64))
-    go true e = inl refl
-    go false e = inr (suc (2 ^ 64 - suc n), refl, omega arith)
+    go : (b : Bool) → ltb n (2 ^ 63) ≡ b → isInRange (cond b (pos n) (negsuc (2 ^ 64 - suc n))) ≡ true → IsAmount (cond b (pos n) (negsuc (2 ^ 64 - suc n))) n
+    go true e i = (n, range-of false n .0 i, inl (refl, refl))
+    go false e i = (suc (2 ^ 64 - suc n), range-of true (suc (2 ^ 64 - suc n)) .0 i, inr (refl, omega arith))
 
 -- a total is out of range exactly if its number is between the ends
 abbrev pub IsOutside : ℕ → Type 0

@@ -9,13 +9,13 @@ use native.Mathlib.Omega.{arith}
 use borrow.Author.Tests.{ne-eqb}
 use lib.Dec.{eqb}
 use lib.ListN.{length}
-use lib.IntN.{pos, negℤ}
+use lib.IntN.{ℤ, pos, negℤ}
 use lib.Pow.{pow-add}
-use Rattle.rules.specs.Basics.{every, isDigit, decimal}
+use Rattle.rules.specs.Basics.{ifSome, every, bytes, isDigit, decimal}
 use Rattle.rules.specs.Refusal.{Refusal, TYPE, earlier, firstOf, Outcome, answered, refused, faultsIn, _when_, _unless_, _andThen_}
 use Rattle.rules.specs.Parsers.{bad, ok, one, upTo, finish, whole}
 use Rattle.rules.specs.Timestamp.{point}
-use Rattle.rules.specs.Markup.{Element}
+use Rattle.rules.specs.Markup.{Attribute, Element, lookup}
 use Rattle.rules.specs.Forms.{amountText}
 use Rattle.rules.specs.Types.{MO, hasType}
 use Rattle.rules.specs.Check.{elementOf, check}
@@ -26,6 +26,12 @@ use Rattle.rules.proofs.Precedence.{check-answered}
 use Rattle.rules.proofs.Digits.{decimal-append}
 use Rattle.rules.proofs.TotalReading.{is-null, is-money, entry-cases}
 use Rattle.demands.specs.Totals.{Reads, AreDigits, pointed, signWritten, ofSign}
+
+-- the text of an amount
+written : (attrs : List Attribute) {z : ℤ} (o : Option (List ℕ)) → lookup (bytes "value") attrs ≡ o → ifSome o (whole amountText) none ≡ some z
+    → (text : List ℕ) × (lookup (bytes "value") attrs ≡ some text) × (whole amountText text ≡ some z)
+written attrs none l a = clash (cc)
+written attrs (some text) l a = (text, l, a)
 
 pub reads : (k : Call) → Reads k (readingOf k)
 unfolding reading firstOf
@@ -41,7 +47,7 @@ reads k = go (check (k .offset) (k .record′)) refl
     by-type e c false t = Reads.other-type c t
     by-type e c true t = elim (entry-cases (k .offset) (k .record′) e c t) [
       | is-null n m ↦ rw m (Reads.a-null c t n)
-      | is-money d z n l f a m ↦ rw m (Reads.an-amount c t n l a)
+      | is-money d z n l f a m ↦ let (text, v, w) = written (e .attrs) _ refl a in rw m (Reads.an-amount c t n l v w)
     ]
 
     go : (o : Outcome Element) → check (k .offset) (k .record′) ≡ o

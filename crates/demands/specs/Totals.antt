@@ -2,23 +2,22 @@
 use Prim.Native.Nat.{ℕ, suc, _+_, _-_, _*_, _^_, _≤_, _<_}
 use mathlib.Core.Path.{_≡_}
 use mathlib.Core.Logic.{_⊎_, _↔_}
-use mathlib.Core.Bool.{Bool, true, false, cond}
+use mathlib.Core.Bool.{Bool, true, false, not, cond}
 use mathlib.Core.List.{List, [], _∷_, _++_}
 use mathlib.Core.Option.{some}
 use lib.Dec.{eqb}
 use lib.ListN.{length, take, drop, getD, set, replicate}
 use lib.IntN.{ℤ, pos, negℤ, _+ℤ_}
 use Rattle.rules.specs.Basics.{ifSome, find, exists, every, bytes, same, isDigit, decimal}
-use Rattle.rules.specs.Refusal.{Refusal, TYPE, NO-ROW, TOTAL, DAMAGED, DAY-FULL, number, precedence, firstOf, Outcome, answered, refused, faultsIn}
+use Rattle.rules.specs.Refusal.{Refusal, TYPE, NO-ROW, TOTAL, DAMAGED, DAY-FULL, number, precedence, firstOf, Outcome, answered, refused, faultsIn, _when_}
 use Rattle.rules.specs.Parsers.{whole}
 use Rattle.rules.specs.Markup.{Element, lookup}
 use Rattle.rules.specs.Forms.{amountText}
 use Rattle.rules.specs.Invariants.{isNull}
 use Rattle.rules.specs.Types.{MO, hasType}
 use Rattle.rules.specs.Check.{elementOf, check}
-use Rattle.rules.specs.Comparison.{amountOf}
 use Rattle.rules.specs.Services.{overwrite}
-use Rattle.rules.specs.Totals.{Row, Table, counted, isInRange, isDamaged, Entry, null, money, notMoney, newTotal, recorded}
+use Rattle.rules.specs.Totals.{Row, Table, counted, isInRange, isDamaged, Entry, null, money, newTotal, recorded}
 use Rattle.rules.specs.TotalNumbers.{Lent}
 use Rattle.rules.specs.TotalTables.{tableIn, tableNumbers}
 use Rattle.rules.specs.TotalDays.{Call, readingOf, IsUsable, HasNoRow, Posted, History, beginning, _then_, sumAdded, currenciesAdded, IsDay}
@@ -27,11 +26,12 @@ use Rattle.demands.specs.Services.{Services}
 -- What a record says, in the words of the rules page: "MO records", "null and refused"; "other types are TYPE in its place".
 pub data Reads (k : Call) : Outcome Entry → Type 0 where
   -- of its faults, TYPE among them if it is no MO, the one that stands first on the ladder
-  faulty : {r q : Refusal} → check (k .offset) (k .record′) ≡ refused r → firstOf (r ∷ faultsIn notMoney (elementOf (k .record′))) ≡ some q → Reads k (refused q)
+  faulty : {r q : Refusal} → check (k .offset) (k .record′) ≡ refused r → firstOf (r ∷ faultsIn (λ e. TYPE when not (hasType (e .attrs) MO)) (elementOf (k .record′))) ≡ some q
+      → Reads k (refused q)
   other-type : {e : Element} → check (k .offset) (k .record′) ≡ answered e → hasType (e .attrs) MO ≡ false → Reads k (refused TYPE)
   a-null : {e : Element} → check (k .offset) (k .record′) ≡ answered e → hasType (e .attrs) MO ≡ true → isNull (e .attrs) ≡ true → Reads k (answered null)
-  an-amount : {e : Element} {c : List ℕ} {z : ℤ} → check (k .offset) (k .record′) ≡ answered e → hasType (e .attrs) MO ≡ true → isNull (e .attrs) ≡ false
-      → lookup (bytes "currency") (e .attrs) ≡ some c → amountOf (e .attrs) ≡ some z → Reads k (answered (money c z))
+  an-amount : {e : Element} {c text : List ℕ} {z : ℤ} → check (k .offset) (k .record′) ≡ answered e → hasType (e .attrs) MO ≡ true → isNull (e .attrs) ≡ false
+      → lookup (bytes "currency") (e .attrs) ≡ some c → lookup (bytes "value") (e .attrs) ≡ some text → whole amountText text ≡ some z → Reads k (answered (money c z))
 
 -- so many digits
 pub record AreDigits (least most : ℕ) (ds : List ℕ) : Type 0 where
@@ -84,8 +84,16 @@ AreCapitals n = (a b c : ℕ) × IsCapital a × IsCapital b × IsCapital c × (n
 
 -- a row as C has it: its letters, the first in the lowest byte, and its total in two's complement
 pub record IsRow (r : Row) (currency total : ℕ) : Type 0 where
-  pub letters : (a b c : ℕ) × (r .currency ≡ a ∷ b ∷ c ∷ []) × (currency ≡ a + 256 * b + 65_536 * c)
-  pub amount : (r .total ≡ pos total) ⊎ ((n : ℕ) × (r .total ≡ negℤ (pos n)) × (total + n ≡ 2 ^ 64))
+  pub letters : (a b c : ℕ) × (r .currency ≡ a ∷ b ∷ c ∷ []) × IsCapital a × IsCapital b × IsCapital c × (currency ≡ a + 256 * b + 65_536 * c)
+  pub amount : (n : ℕ) × (n ≤ 9_000_000_000_000_000_000) × (((r .total ≡ pos n) × (total ≡ n)) ⊎ ((r .total ≡ negℤ (pos n)) × (total + n ≡ 2 ^ 64)))
+
+-- the rows and counts of an undamaged table
+pub record Says (t : Table) (numbers : List ℕ) : Type 0 where
+  pub held : length (t .rows) ≡ getD numbers 0 0
+  pub rows : (i : ℕ) → i < getD numbers 0 0 → (r : Row) × (take 1 (drop i (t .rows)) ≡ r ∷ []) × IsRow r (currencyAt numbers i) (totalAt numbers i)
+  pub added : t .counts .added ≡ getD numbers 1 0
+  pub null : t .counts .null ≡ getD numbers 2 0
+  pub refused : t .counts .refused ≡ getD numbers 3 0
 
 pub data IsDamaged (numbers : List ℕ) : Type 0 where
   -- "over 16 rows"
@@ -143,10 +151,11 @@ pub record Limits (h : History (Outcome Entry)) (c : List ℕ) (z : ℤ) (answer
       ↔ ((exists (λ d. same d c) (currenciesAdded h) ≡ false) × (length (currenciesAdded h) ≡ 16) → ⊥) × (isInRange (sumAdded c h +ℤ z) ≡ false)
 
 pub record TotalsPromise (s : Services) : Type 0 where
-  -- what the amounts are, "in ten-thousandths"
+  -- what the amounts are, "in ten-thousandths", and which totals are "within plus or minus 9,000,000,000,000,000,000"
   pub readings : (k : Call) → Reads k (readingOf k)
   pub amounts : (negative : Bool) (ds fs : List ℕ) → AreDigits 1 12 ds → AreDigits 0 4 fs
       → whole amountText (signWritten negative ++ ds ++ pointed fs) ≡ some (ofSign negative (decimal (ds ++ fs) * 10 ^ (4 - length fs)))
+  pub range : (negative : Bool) (n : ℕ) → isInRange (ofSign negative n) ≡ true ↔ n ≤ 9_000_000_000_000_000_000
   -- "A day starts with an empty table"
   pub opens : (numbers : List ℕ) → Lent 36 numbers → (s .open-says numbers ≡ 0) × (s .open-leaves numbers ≡ replicate 36 0)
   -- "what follows is said of every table reached from it by these calls": at any moment it is what `IsDay` says
@@ -158,8 +167,7 @@ pub record TotalsPromise (s : Services) : Type 0 where
   pub adds : (numbers : List ℕ) → Lent 36 numbers → (k : Call)
       → Adding numbers k (s .add-says (k .offset) (k .record′) numbers) (s .add-leaves (k .offset) (k .record′) numbers)
   pub damage : (numbers : List ℕ) → Lent 36 numbers → isDamaged (tableIn numbers) ≡ true ↔ IsDamaged numbers
-  -- what the rows of an undamaged table are
-  pub rows : (numbers : List ℕ) → Lent 36 numbers → isDamaged (tableIn numbers) ≡ false → (i : ℕ) → i < getD numbers 0 0
-      → (r : Row) × (take 1 (drop i (tableIn numbers .rows)) ≡ r ∷ []) × IsRow r (currencyAt numbers i) (totalAt numbers i)
+  -- what an undamaged table says
+  pub says : (numbers : List ℕ) → Lent 36 numbers → isDamaged (tableIn numbers) ≡ false → Says (tableIn numbers) numbers
   pub exactly : (numbers : List ℕ) → Lent 36 numbers → (k : Call) → Exactly (tableIn numbers) k (s .add-says (k .offset) (k .record′) numbers)
   pub reports : (numbers before : List ℕ) → Lent 36 numbers → Lent 35 before → Reporting numbers before (s .report-says numbers) (s .report-leaves numbers before)
