@@ -8,12 +8,12 @@ use native.Mathlib.Omega.{arith}
 use borrow.Author.Tests.{eqb-true, eqb-false, ne-eqb}
 use lib.Dec.{eqb}
 use lib.ListN.{length, getD, take, drop}
-use lib.Seq.{take-at}
+use lib.Seq.{take-at, drop-append-seam}
 use lib.IntN.{ℤ}
 use Rattle.rules.specs.Basics.{exists}
 use Rattle.rules.specs.Refusal.{Refusal, NO-ROW, TOTAL, DAMAGED, DAY-FULL, number, Outcome, answered, refused}
 use Rattle.rules.specs.Services.{packed, lentAfter, overwrite}
-use Rattle.rules.specs.Totals.{Table, counting, isDamaged, Entry, null, money, isUncounted, recorded, reporting}
+use Rattle.rules.specs.Totals.{Table, counting, isDamaged, Entry, null, money, isUncounted, isCounted, recorded, reporting}
 use Rattle.rules.specs.TotalNumbers.{Lent, reportNumbers, entryNumber}
 use Rattle.rules.specs.TotalTables.{tableIn, tableNumbers, numbersAfter, addAnswer, addAfter, reportAnswer, reportAfter}
 use Rattle.rules.specs.TotalDays.{Call, answerTo, Posted, damaged, full, faulty, a-null, no-row, out-of-range, added}
@@ -26,7 +26,7 @@ use Rattle.rules.proofs.TotalNumbers.{row-numbers}
 use Rattle.rules.proofs.TotalTables.{table-written}
 use Rattle.demands.specs.Services.{services, isAmong, Answers, accepts, refuses}
 use Rattle.demands.specs.Demands.{addRefusals}
-use Rattle.demands.specs.Totals.{raised, Adding, damaged-table, full-day, refused-record, null-record, added-record, Exactly, Reporting, TotalsPromise}
+use Rattle.demands.specs.Totals.{raised, Adding, damaged-table, full-day, refused-record, null-record, added-record, Beyond, Exactly, Reporting, TotalsPromise}
 use Rattle.demands.proofs.Answers.{iff-trans, packed-answers, record-among}
 use Rattle.demands.proofs.TotalsReadings.{reads, amount-read}
 use Rattle.demands.proofs.TotalsNumbers.{range-of}
@@ -106,6 +106,19 @@ module _ (numbers : List ℕ) (lent : Lent 36 numbers) where
       let g : length (reportNumbers t) ≡ 3 + 2 * held = omega (arith, row-numbers (t .rows), f) in
       (f, sym (take-at (reportNumbers t) (drop (length (tableNumbers t)) numbers) (3 + 2 * held) g) ∙ ap (λ l. take (3 + 2 * held) (drop 1 l)) e)
 
+-- what is written over the numbers of a table ends with its rows
+beyond-rows : (numbers : List ℕ) (o : Outcome Entry) → Beyond numbers (numbersAfter o numbers)
+beyond-rows numbers o = go (isCounted o)
+  where
+    left : Table
+    left = recorded o (tableIn numbers)
+
+    go : (b : Bool) → Beyond numbers (cond b (overwrite numbers (tableNumbers left)) numbers)
+    go false = refl
+    go true =
+        let l : length (tableNumbers left) ≡ 4 + 2 * length (left .rows) = omega (arith, row-numbers (left .rows)) in
+        rw (← l) (drop-append-seam (tableNumbers left) _)
+
 -- 21, 25, 16 and 17 are given exactly if what they are for is so
 is-exact : (k : Call) (t : Table) → Exactly t k (packed entryNumber (answerTo k t))
 is-exact k t = record {
@@ -150,6 +163,7 @@ totals-kept = record {
   limits = λ before l h. limits-of before h;
   tables = λ before l h. table-lent before h;
   adds = λ numbers l k. adding numbers l k (answerTo k (tableIn numbers)) (posted k (tableIn numbers));
+  beyond = λ numbers l k. beyond-rows numbers (answerTo k (tableIn numbers));
   damage = damage-is;
   says = table-says;
   exactly = λ numbers l k. is-exact k (tableIn numbers);

@@ -23,9 +23,9 @@ use Rattle.rules.specs.TotalTables.{tableIn, tableNumbers}
 use Rattle.rules.specs.TotalDays.{Call, readingOf, IsUsable, HasNoRow, Posted, History, beginning, _then_, sumAdded, currenciesAdded, IsDay}
 use Rattle.demands.specs.Services.{Services}
 
--- What a record says, in the words of the rules page: "MO records", "null and refused"; "other types are TYPE in its place".
+-- What a record says: "MO records" have amounts or are null, and "other types are TYPE in its place".
 pub data Reads (k : Call) : Outcome Entry → Type 0 where
-  -- of its faults, TYPE among them if it is no MO, the one that stands first on the ladder
+  -- the first of its faults, or TYPE if it is no MO and TYPE stands before that on the ladder
   faulty : {r q : Refusal} → check (k .offset) (k .record′) ≡ refused r → firstOf (r ∷ faultsIn (λ e. TYPE when not (hasType (e .attrs) MO)) (elementOf (k .record′))) ≡ some q
       → Reads k (refused q)
   other-type : {e : Element} → check (k .offset) (k .record′) ≡ answered e → hasType (e .attrs) MO ≡ false → Reads k (refused TYPE)
@@ -68,17 +68,17 @@ pub data Adding (numbers : List ℕ) (k : Call) : (answer : ℕ) → (after : Li
   added-record : {c : List ℕ} {z : ℤ} → Posted k (tableIn numbers) (answered (money c z))
       → Adding numbers k (1 * 2 ^ 8) (overwrite numbers (tableNumbers (recorded (answered (money c z)) (tableIn numbers))))
 
--- A damaged table by its numbers, as C has them: rows held, three counts, then currency and total of each row.
+-- A table by its numbers, as C has them: rows held, three counts, then currency and total of each row.
 abbrev pub currencyAt : (numbers : List ℕ) → (row : ℕ) → ℕ
 currencyAt numbers i = getD numbers (4 + 2 * i) 0
 
 abbrev pub totalAt : (numbers : List ℕ) → (row : ℕ) → ℕ
 totalAt numbers i = getD numbers (5 + 2 * i) 0
 
--- three capitals, the first in the lowest byte
 abbrev pub IsCapital : ℕ → Type 0
 IsCapital b = (65 ≤ b) × (b ≤ 90)
 
+-- three capitals, the first in the lowest byte
 abbrev pub AreCapitals : ℕ → Type 0
 AreCapitals n = (a b c : ℕ) × IsCapital a × IsCapital b × IsCapital c × (n ≡ a + 256 * b + 65_536 * c)
 
@@ -87,7 +87,7 @@ pub record IsRow (r : Row) (currency total : ℕ) : Type 0 where
   pub letters : (a b c : ℕ) × (r .currency ≡ a ∷ b ∷ c ∷ []) × IsCapital a × IsCapital b × IsCapital c × (currency ≡ a + 256 * b + 65_536 * c)
   pub amount : (n : ℕ) × (n ≤ 9_000_000_000_000_000_000) × (((r .total ≡ pos n) × (total ≡ n)) ⊎ ((r .total ≡ negℤ (pos n)) × (total + n ≡ 2 ^ 64)))
 
--- the rows and counts of an undamaged table
+-- what a table that is not damaged says
 pub record Says (t : Table) (numbers : List ℕ) : Type 0 where
   pub held : length (t .rows) ≡ getD numbers 0 0
   pub rows : (i : ℕ) → i < getD numbers 0 0 → (r : Row) × (take 1 (drop i (t .rows)) ≡ r ∷ []) × IsRow r (currencyAt numbers i) (totalAt numbers i)
@@ -95,6 +95,7 @@ pub record Says (t : Table) (numbers : List ℕ) : Type 0 where
   pub null : t .counts .null ≡ getD numbers 2 0
   pub refused : t .counts .refused ≡ getD numbers 3 0
 
+-- a damaged one
 pub data IsDamaged (numbers : List ℕ) : Type 0 where
   -- "over 16 rows"
   too-many : 16 < getD numbers 0 0 → IsDamaged numbers
@@ -106,6 +107,10 @@ pub data IsDamaged (numbers : List ℕ) : Type 0 where
   out-of-range : (i : ℕ) → i < getD numbers 0 0 → 9_000_000_000_000_000_000 < totalAt numbers i → totalAt numbers i < 2 ^ 64 - 9_000_000_000_000_000_000 → IsDamaged numbers
   -- "or counts whose sum is over 1,000,000"
   over-counted : 1_000_000 < getD numbers 1 0 + getD numbers 2 0 + getD numbers 3 0 → IsDamaged numbers
+
+-- all past the rows that are held afterwards is as it was
+abbrev pub Beyond : (numbers after : List ℕ) → Type 0
+Beyond numbers after = drop (4 + 2 * getD after 0 0) after ≡ drop (4 + 2 * getD after 0 0) numbers
 
 -- the four refusals that the request adds, each with its "exactly if"
 pub record Exactly (t : Table) (k : Call) (answer : ℕ) : Type 0 where
@@ -166,6 +171,8 @@ pub record TotalsPromise (s : Services) : Type 0 where
   -- and of any table handed in
   pub adds : (numbers : List ℕ) → Lent 36 numbers → (k : Call)
       → Adding numbers k (s .add-says (k .offset) (k .record′) numbers) (s .add-leaves (k .offset) (k .record′) numbers)
+  -- the rows past those held then are as they were
+  pub beyond : (numbers : List ℕ) → Lent 36 numbers → (k : Call) → Beyond numbers (s .add-leaves (k .offset) (k .record′) numbers)
   pub damage : (numbers : List ℕ) → Lent 36 numbers → isDamaged (tableIn numbers) ≡ true ↔ IsDamaged numbers
   -- what an undamaged table says
   pub says : (numbers : List ℕ) → Lent 36 numbers → isDamaged (tableIn numbers) ≡ false → Says (tableIn numbers) numbers
