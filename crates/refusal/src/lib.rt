@@ -6,6 +6,7 @@ ghost use Rattle.refusal.specs.Meaning.{refusalOf, faultOf};
 
 // The page's refusals, in the order of the ladder.
 pub enum Refusal {
+    NoDesk,
     Damaged,
     DayFull,
     Offset,
@@ -35,6 +36,7 @@ pub fn number(r: Refusal) -> u64
     ensures { λ n. ⌜ n ≡ pageNumber (refusalOf r) ⌝ }
 {
     match r {
+        Refusal::NoDesk => 23,
         Refusal::Damaged => 21,
         Refusal::DayFull => 25,
         Refusal::Offset => 1,
@@ -59,22 +61,23 @@ fn rank(r: Refusal) -> u64
     ensures { λ n. ⌜ n ≡ pageRank (refusalOf r) ⌝ }
 {
     match r {
-        Refusal::Damaged => 0,
-        Refusal::DayFull => 1,
-        Refusal::Offset => 2,
-        Refusal::TooLong => 3,
-        Refusal::NotUtf8 => 4,
-        Refusal::Markup => 5,
-        Refusal::Type => 6,
-        Refusal::Shape => 7,
-        Refusal::Value => 8,
-        Refusal::Rule => 9,
-        Refusal::UnknownBound => 10,
-        Refusal::TooMany => 11,
-        Refusal::NotWritable => 12,
-        Refusal::NoRoom => 13,
-        Refusal::NoRow => 14,
-        Refusal::Total => 15,
+        Refusal::NoDesk => 0,
+        Refusal::Damaged => 1,
+        Refusal::DayFull => 2,
+        Refusal::Offset => 3,
+        Refusal::TooLong => 4,
+        Refusal::NotUtf8 => 5,
+        Refusal::Markup => 6,
+        Refusal::Type => 7,
+        Refusal::Shape => 8,
+        Refusal::Value => 9,
+        Refusal::Rule => 10,
+        Refusal::UnknownBound => 11,
+        Refusal::TooMany => 12,
+        Refusal::NotWritable => 13,
+        Refusal::NoRoom => 14,
+        Refusal::NoRow => 15,
+        Refusal::Total => 16,
     }
 }
 

@@ -39,7 +39,8 @@ pub mod TotalReading
 pub mod TotalRows
 pub mod Totals
 pub mod TotalNumbers
-pub mod TotalTables
+pub mod Desks
+pub mod DeskNumbers
 pub mod ComparedRecords
 pub mod Comparing
 pub mod ComparisonPromise

@@ -10,7 +10,7 @@ use lib.ListN.{length, take, drop, length-append, length-drop}
 use lib.Seq.{take-at, drop-at}
 use lib.IntN.{ℤ, pos, negsuc}
 use Rattle.rules.specs.Basics.{every}
-use Rattle.rules.specs.Refusal.{Refusal, OFFSET, TOO-LONG, NOT-UTF-8, MARKUP, TYPE, SHAPE, VALUE, RULE, UNKNOWN-BOUND, TOO-MANY, NOT-WRITABLE, NO-ROOM, NO-ROW, TOTAL, DAMAGED, DAY-FULL, number, rankIn, rank, firstOf, answered, refused, faultsIn}
+use Rattle.rules.specs.Refusal.{Refusal, OFFSET, TOO-LONG, NOT-UTF-8, MARKUP, TYPE, SHAPE, VALUE, RULE, UNKNOWN-BOUND, TOO-MANY, NOT-WRITABLE, NO-ROOM, NO-ROW, TOTAL, DAMAGED, NO-DESK, DAY-FULL, number, rankIn, rank, firstOf, answered, refused, faultsIn}
 use Rattle.rules.specs.Markup.{Element}
 use Rattle.rules.specs.Check.{shiftBy, elementOf, check}
 use Rattle.rules.specs.Sets.{Bound, unbounded, openAt, closedAt, Interval, Expression}
@@ -47,6 +47,7 @@ small NO-ROOM = omega arith
 small NO-ROW = omega arith
 small TOTAL = omega arith
 small DAMAGED = omega arith
+small NO-DESK = omega arith
 small DAY-FULL = omega arith
 
 pub low-bits : (r : Refusal) → (number r % 2 ^ 8 ≡ number r) × (number r / 2 ^ 8 ≡ 0)

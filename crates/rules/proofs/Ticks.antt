@@ -65,7 +65,7 @@ pub record Form (w : Written) : Type 0 where
   pub fraction-digits : every isDigit (w .fraction) ≡ true
   pub fraction-last : length (w .parts) < 5 → w .fraction ≡ []
 
-point-ok : (s : List ℕ) {ds r : List ℕ} → point s ≡ ok ds r → (length ds ≤ 4) × (every isDigit ds ≡ true)
+pub point-ok : (s : List ℕ) {ds r : List ℕ} → point s ≡ ok ds r → (length ds ≤ 4) × (every isDigit ds ≡ true)
 unfolding point every
 point-ok s e = next-ok (byte 46 s) _ e λ b t f g.
     let (d, u, ds, h, k, z) = cons-ok (one isDigit t) (upTo 3 isDigit) g in

@@ -31,7 +31,7 @@ total-written n h = go (ltb n (2 ^ 63)) refl
     go true e = refl
     go false e = omega arith
 
-total-small : (z : ℤ) → isInRange z ≡ true → totalNumber z < 2 ^ 64
+pub total-small : (z : ℤ) → isInRange z ≡ true → totalNumber z < 2 ^ 64
 total-small (pos n) h = let l = leb-true n 9_000_000_000_000_000_000 h in omega arith
 total-small (negsuc n) h = omega arith
 
@@ -63,7 +63,7 @@ currency-written n = go (ltb n (2 ^ 24)) refl
     go true e h = unsigned-low 3 n (omega (arith, ltb-true n (2 ^ 24) e))
     go false e h = clash (cc)
 
-currency-64 : (c : List ℕ) → isCurrency c ≡ true → currencyNumber c < 2 ^ 64
+pub currency-64 : (c : List ℕ) → isCurrency c ≡ true → currencyNumber c < 2 ^ 64
 currency-64 c h = omega (arith, currency-small c h)
 
 -- rows

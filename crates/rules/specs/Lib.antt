@@ -20,7 +20,9 @@ pub mod Services
 pub mod Printing
 pub mod Totals
 pub mod TotalNumbers
-pub mod TotalTables
+pub mod Desks
+pub mod DeskNumbers
 pub mod ListingPromise
 pub mod ComparisonPromise
 pub mod TotalDays
+pub mod DeskDays

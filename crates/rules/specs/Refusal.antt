@@ -1,4 +1,4 @@
--- 01-scope.md, "The refusal ladder", and requests A1 and A6: the refusals, their numbers and their order.
+-- 01-scope.md, "The refusal ladder", and requests A1, A6 and A7: the refusals, their numbers and their order.
 use Prim.Native.Nat.{ℕ, suc}
 use mathlib.Core.Bool.{Bool, true, false, cond}
 use mathlib.Core.List.{List, [], _∷_, _++_}
@@ -7,7 +7,7 @@ use lib.Dec.{leb, eqb}
 use Rattle.rules.specs.Basics.{ifSome}
 
 pub data Refusal : Type 0 where
-  OFFSET TOO-LONG NOT-UTF-8 MARKUP TYPE SHAPE VALUE RULE UNKNOWN-BOUND TOO-MANY NOT-WRITABLE NO-ROOM NO-ROW TOTAL DAMAGED DAY-FULL : Refusal
+  OFFSET TOO-LONG NOT-UTF-8 MARKUP TYPE SHAPE VALUE RULE UNKNOWN-BOUND TOO-MANY NOT-WRITABLE NO-ROOM NO-ROW TOTAL DAMAGED NO-DESK DAY-FULL : Refusal
 
 abbrev pub number : Refusal → ℕ
 number OFFSET = 1
@@ -25,12 +25,13 @@ number NO-ROOM = 11
 number NO-ROW = 16
 number TOTAL = 17
 number DAMAGED = 21
+number NO-DESK = 23
 number DAY-FULL = 25
 
 -- the ladder: the order in which refusals are given
 abbrev pub precedence : List Refusal
 precedence =
-    DAMAGED ∷ DAY-FULL ∷ OFFSET ∷ TOO-LONG ∷ NOT-UTF-8 ∷ MARKUP ∷ TYPE ∷ SHAPE ∷ VALUE ∷ RULE ∷ UNKNOWN-BOUND ∷ TOO-MANY ∷ NOT-WRITABLE ∷ NO-ROOM
+    NO-DESK ∷ DAMAGED ∷ DAY-FULL ∷ OFFSET ∷ TOO-LONG ∷ NOT-UTF-8 ∷ MARKUP ∷ TYPE ∷ SHAPE ∷ VALUE ∷ RULE ∷ UNKNOWN-BOUND ∷ TOO-MANY ∷ NOT-WRITABLE ∷ NO-ROOM
     ∷ NO-ROW ∷ TOTAL ∷ []
 
 abbrev pub isSame : Refusal → Refusal → Bool
