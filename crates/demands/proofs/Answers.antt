@@ -8,7 +8,7 @@ use mathlib.Core.Option.{Option, none, some}
 use native.Mathlib.Omega.{arith}
 use lib.IntN.{ℤ}
 use Rattle.rules.specs.Basics.{exists}
-use Rattle.rules.specs.Refusal.{Refusal, OFFSET, TOO-LONG, NOT-UTF-8, MARKUP, TYPE, SHAPE, VALUE, RULE, UNKNOWN-BOUND, TOO-MANY, NOT-WRITABLE, NO-ROOM, NO-ROW, TOTAL, DAMAGED, DAY-FULL, number, rankIn, firstOf, Outcome, answered, refused, faultsOf}
+use Rattle.rules.specs.Refusal.{Refusal, OFFSET, TOO-LONG, NOT-UTF-8, MARKUP, TYPE, SHAPE, VALUE, RULE, UNKNOWN-BOUND, TOO-MANY, NOT-WRITABLE, NO-ROOM, NO-ROW, TOTAL, DAMAGED, NO-DESK, DAY-FULL, number, rankIn, firstOf, Outcome, answered, refused, faultsOf}
 use Rattle.rules.specs.Timestamp.{Moment, readTimestamp}
 use Rattle.rules.specs.Check.{shiftBy}
 use Rattle.rules.specs.Services.{packed}
@@ -41,6 +41,7 @@ record-among NO-ROOM h = clash (omega (arith, of-record NO-ROOM h))
 record-among NO-ROW h = clash (omega (arith, of-record NO-ROW h))
 record-among TOTAL h = clash (omega (arith, of-record TOTAL h))
 record-among DAMAGED h = clash (omega (arith, of-record DAMAGED h))
+record-among NO-DESK h = clash (omega (arith, of-record NO-DESK h))
 record-among DAY-FULL h = clash (omega (arith, of-record DAY-FULL h))
 
 module _ {A : Type 0} (result : A → ℕ) where

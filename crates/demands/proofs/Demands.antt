@@ -33,7 +33,8 @@ use Rattle.demands.specs.Demands.{recordRefusals, listRefusals, IsFirst,
 use Rattle.demands.proofs.Answers.{iff-trans, record-among, packed-refused, packed-accepted, packed-answers}
 use Rattle.demands.proofs.Printing.{print-answers, print-promise}
 use Rattle.demands.proofs.Years.{years-kept}
-use Rattle.demands.proofs.Totals.{totals-kept, add-answers, report-answers}
+use Rattle.demands.proofs.DesksAnswers.{start-answers, add-answers, report-answers}
+use Rattle.demands.proofs.Desks.{totals-kept, desks-kept}
 
 -- checking
 module _ (offset : ℤ) (input : List ℕ) where
@@ -189,6 +190,7 @@ demands-met = record {
     cut-answers = cut-answers;
     print-answers = print-answers;
     open-answers = λ numbers. refl;
+    start-answers = start-answers;
     add-answers = add-answers;
     report-answers = report-answers;
   };
@@ -197,4 +199,5 @@ demands-met = record {
   print = print-promise;
   years = years-kept services met-2;
   totals = totals-kept;
+  desks = desks-kept;
 }

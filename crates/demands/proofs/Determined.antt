@@ -29,7 +29,7 @@ use Rattle.demands.specs.Services.{Services, services, resultIn, Answers
 use Rattle.demands.specs.Printing.{Prints}
 use Rattle.demands.specs.Demands.{IsFirst, timeFaults, cutFaults, IsCut, Demands}
 use Rattle.demands.proofs.Answers.{no-number, faultless-read}
-use Rattle.demands.proofs.Totals.{adding-only, reporting-only}
+use Rattle.demands.proofs.Desks.{starting-only, adding-only, reporting-only}
 use Rattle.demands.proofs.Demands.{demands-met}
 
 same-answer : {a b : ℕ} → numberIn a ≡ numberIn b → resultIn a ≡ resultIn b → a ≡ b
@@ -189,19 +189,26 @@ module _ {s t : Services} (p : Demands s) (q : Demands t) where
       ]
 
   -- a table afterwards, and the answer, are the rules' of either
-  same-add : (offset : ℤ) (record′ numbers : List ℕ) → Lent 36 numbers
-      → (s .add-says offset record′ numbers ≡ t .add-says offset record′ numbers) × (s .add-leaves offset record′ numbers ≡ t .add-leaves offset record′ numbers)
-  same-add offset record′ numbers l =
-      let k : Call = record { offset = offset; record′ = record′ } in
-      let (e, f) = adding-only numbers l k (p .totals .adds numbers l k) in
-      let (g, h) = adding-only numbers l k (q .totals .adds numbers l k) in
+  same-start : (n : ℕ) (numbers : List ℕ) → Lent 103 numbers
+      → (s .start-says n numbers ≡ t .start-says n numbers) × (s .start-leaves n numbers ≡ t .start-leaves n numbers)
+  same-start n numbers l =
+      let (e, f) = starting-only numbers l n (p .desks .starts numbers l n) in
+      let (g, h) = starting-only numbers l n (q .desks .starts numbers l n) in
       (e ∙ sym g, f ∙ sym h)
 
-  same-report : (numbers report : List ℕ) → Lent 36 numbers → Lent 35 report
-      → (s .report-says numbers ≡ t .report-says numbers) × (s .report-leaves numbers report ≡ t .report-leaves numbers report)
-  same-report numbers report l m =
-      let (e, f) = reporting-only numbers report l (p .totals .reports numbers report l m) in
-      let (g, h) = reporting-only numbers report l (q .totals .reports numbers report l m) in
+  same-add : (n : ℕ) (offset : ℤ) (record′ numbers : List ℕ) → Lent 103 numbers
+      → (s .add-says n offset record′ numbers ≡ t .add-says n offset record′ numbers) × (s .add-leaves n offset record′ numbers ≡ t .add-leaves n offset record′ numbers)
+  same-add n offset record′ numbers l =
+      let k : Call = record { offset = offset; record′ = record′ } in
+      let (e, f) = adding-only numbers l n k (p .desks .adds numbers l n k) in
+      let (g, h) = adding-only numbers l n k (q .desks .adds numbers l n k) in
+      (e ∙ sym g, f ∙ sym h)
+
+  same-report : (n : ℕ) (numbers report : List ℕ) → Lent 103 numbers → Lent 35 report
+      → (s .report-says n numbers ≡ t .report-says n numbers) × (s .report-leaves n numbers report ≡ t .report-leaves n numbers report)
+  same-report n numbers report l m =
+      let (e, f) = reporting-only numbers l n report (p .desks .reports numbers report l m n) in
+      let (g, h) = reporting-only numbers l n report (q .desks .reports numbers report l m n) in
       (e ∙ sym g, f ∙ sym h)
 
   pub demands-agree : Same s t
@@ -215,12 +222,14 @@ module _ {s t : Services} (p : Demands s) (q : Demands t) where
     same-cut = same-cut;
     same-print = λ list record′. same-print list record′ .0;
     same-print-left = λ list record′. same-print list record′ .1;
-    same-open = λ numbers l. p .totals .opens numbers l .0 ∙ sym (q .totals .opens numbers l .0);
-    same-open-left = λ numbers l. p .totals .opens numbers l .1 ∙ sym (q .totals .opens numbers l .1);
-    same-add = λ offset record′ numbers l. same-add offset record′ numbers l .0;
-    same-add-left = λ offset record′ numbers l. same-add offset record′ numbers l .1;
-    same-report = λ numbers l. same-report numbers (replicate 35 0) l blank .0;
-    same-report-left = λ numbers report l m. same-report numbers report l m .1;
+    same-open = λ numbers l. p .desks .opens numbers l .0 ∙ sym (q .desks .opens numbers l .0);
+    same-open-left = λ numbers l. p .desks .opens numbers l .1 ∙ sym (q .desks .opens numbers l .1);
+    same-start = λ n numbers l. same-start n numbers l .0;
+    same-start-left = λ n numbers l. same-start n numbers l .1;
+    same-add = λ n offset record′ numbers l. same-add n offset record′ numbers l .0;
+    same-add-left = λ n offset record′ numbers l. same-add n offset record′ numbers l .1;
+    same-report = λ n numbers l. same-report n numbers (replicate 35 0) l blank .0;
+    same-report-left = λ n numbers report l m. same-report n numbers report l m .1;
   }
 
 pub demands-determine : (s : Services) → Demands s → Same s services

@@ -1,26 +1,21 @@
--- A day of calls: at any moment the table is what the answers come to.
+-- A desk's day: its answers told and counted by their numbers, and what they come to.
 use Prim.Native.Nat.{ℕ, suc, _+_, _*_, _^_}
 use mathlib.Core.Path.{_≡_, refl, sym, _∙_, ap}
 use mathlib.Core.Logic.{_↔_}
 use mathlib.Core.Bool.{Bool, true, false, not, _||_, cond}
-use mathlib.Core.List.{List}
 use native.Mathlib.Omega.{arith}
 use borrow.Author.Tests.{eqb-true, ne-eqb}
 use lib.Dec.{eqb}
-use Rattle.rules.specs.Basics.{every}
 use Rattle.rules.specs.Refusal.{Refusal, NO-ROW, TOTAL, DAMAGED, DAY-FULL, number, Outcome, answered, refused}
 use Rattle.rules.specs.Services.{packed}
-use Rattle.rules.specs.Totals.{Table, counted, Entry, null, money, isCounted, recorded}
-use Rattle.rules.specs.TotalNumbers.{is64, Lent, entryNumber}
-use Rattle.rules.specs.TotalTables.{rowsIn, tableIn, openedTable}
-use Rattle.rules.specs.TotalDays.{Call, answerTo, Posted, damaged, full, faulty, a-null, no-row, out-of-range, added, History, beginning, _then_, reached, answers, isAdded, isNullAnswer, howMany, IsDay}
+use Rattle.rules.specs.Totals.{Table, counted, Entry, null, money, isCounted}
+use Rattle.rules.specs.TotalNumbers.{entryNumber}
+use Rattle.rules.specs.TotalDays.{Call, Posted, damaged, full, faulty, a-null, no-row, out-of-range, added, History, beginning, _then_, reached, answers, isAdded, isNullAnswer, howMany, IsDay}
 use Rattle.rules.proofs.Tests.{clash}
 use Rattle.rules.proofs.Precedence.{found-by-number, number-injective}
 use Rattle.rules.proofs.ListingPromise.{small}
-use Rattle.rules.proofs.Totals.{Proper, posted, step-proper, reached-proper, reached-day, counts-add-up, never-damaged}
-use Rattle.rules.proofs.TotalTables.{numbers-say, numbers-lent}
-use Rattle.demands.specs.Services.{services}
-use Rattle.demands.specs.Totals.{told, tableAt, saidIn, toldIn}
+use Rattle.rules.proofs.Totals.{reached-proper, reached-day, counts-add-up, never-damaged}
+use Rattle.demands.specs.Totals.{told}
 
 -- a refusal is told by its number
 pub packed-number : (o : Outcome Entry) (r : Refusal) → packed entryNumber o ≡ number r ↔ o ≡ refused r
@@ -36,7 +31,7 @@ no-entry r = let l = small r in (ne-eqb (number r) (1 * 2 ^ 8) (λ e. omega arit
 told-refusal : (k : Call) (r : Refusal) → told k (number r) ≡ refused r
 told-refusal k r = rw (no-entry r .0, no-entry r .1, found-by-number r)
 
-told-is : (k : Call) (t : Table) {o : Outcome Entry} → Posted k t o → told k (packed entryNumber o) ≡ o
+pub told-is : (k : Call) (t : Table) {o : Outcome Entry} → Posted k t o → told k (packed entryNumber o) ≡ o
 told-is k t (damaged d) = told-refusal k DAMAGED
 told-is k t (full d f) = told-refusal k DAY-FULL
 told-is k t (faulty u {r = r} h) = told-refusal k r
@@ -88,51 +83,37 @@ all-counted beginning = refl
 all-counted (a then o) =
     omega (arith, all-counted a, one-of-three o, more isCounted a o, more (λ o. eqb (packed entryNumber o) 21) a o, more (λ o. eqb (packed entryNumber o) 25) a o, more (λ o. true) a o)
 
-zeros : every is64 openedTable ≡ true
-unfolding every
-zeros = refl
+-- answers by their numbers
+unfoldable pub numbersOf : History (Outcome Entry) → History ℕ
+numbersOf beginning = beginning
+numbersOf (a then o) = numbersOf a then packed entryNumber o
 
--- at any moment of a day: 36 numbers of 64 bits, and what they say
-module _ (before : List ℕ) where
-  abbrev at : History Call → List ℕ
-  at = tableAt services before
+said-many : (p : ℕ → Bool) (q : Outcome Entry → Bool) → ((o : Outcome Entry) → p (packed entryNumber o) ≡ q o) → (a : History (Outcome Entry))
+    → howMany p (numbersOf a) ≡ howMany q a
+unfolding numbersOf howMany
+said-many p q e beginning = refl
+said-many p q e (a then o) = rw (e o, said-many p q e a)
 
-  record Moment (h : History Call) : Type 0 where
-    long : Lent 36 (at h)
-    says : tableIn (at h) ≡ reached h
+-- a table that calls have reached from an empty one is what their answers come to
+pub is-day : (g : History Call) {t : Table} {said : History ℕ} {told : History (Outcome Entry)}
+    → t ≡ reached g → said ≡ numbersOf (answers g) → told ≡ answers g → IsDay t said told
+is-day g e f w =
+    let a = answers g in
+    rw (e, f, w) (record {
+      totals = ap (λ t. t .rows) (reached-day g);
+      added = ap (λ t. t .counts .added) (reached-day g) ∙ sym (said-many _ isAdded said-added a);
+      null = ap (λ t. t .counts .null) (reached-day g) ∙ sym (said-many _ isNullAnswer said-null a);
+      add-up =
+          omega (arith, ap (λ t. counted (t .counts)) (reached-day g), counts-add-up a, all-counted a, said-many (λ a. eqb a 21) (λ o. eqb (packed entryNumber o) 21) (λ o. refl) a, said-many (λ a. eqb a 25) (λ o. eqb (packed entryNumber o) 25) (λ o. refl) a, said-many (λ a. true) (λ o. true) (λ o. refl) a);
+      in-range = reached-proper g .within;
+      undamaged = never-damaged g;
+    })
 
-  moment : (h : History Call) → Moment h
-  unfolding tableAt reached rowsIn
-  moment beginning = record { long = record { long = refl; bits = zeros }; says = refl }
-  moment (h then k) =
-      let m = moment h in
-      let o = answerTo k (tableIn (at h)) in
-      let p : Proper (recorded o (tableIn (at h))) = step-proper k (tableIn (at h)) (rw (m .says) (reached-proper h)) (posted k (tableIn (at h))) in
-      record { long = numbers-lent (at h) (m .long) o p; says = numbers-say (at h) o p ∙ ap (λ t. recorded (answerTo k t) t) (m .says) }
+-- what is counted is all that was said, save 21 and 25
+said-counted : (o : Outcome Entry) → not (eqb (packed entryNumber o) 21 || eqb (packed entryNumber o) 25) ≡ isCounted o
+said-counted (answered null) = refl
+said-counted (answered (money c z)) = refl
+said-counted (refused r) = refl
 
-  pub table-lent : (h : History Call) → Lent 36 (at h)
-  table-lent h = moment h .long
-
-  told-answers : (h : History Call) → toldIn services before h ≡ answers h
-  unfolding toldIn answers
-  told-answers beginning = refl
-  told-answers (h then k) =
-      let e = told-is k (tableIn (at h)) (posted k (tableIn (at h))) in
-      cc (told-answers h, moment h .says)
-
-  said-answers : (p : ℕ → Bool) (q : Outcome Entry → Bool) → ((o : Outcome Entry) → p (packed entryNumber o) ≡ q o) → (h : History Call)
-      → howMany p (saidIn services before h) ≡ howMany q (answers h)
-  unfolding saidIn answers howMany
-  said-answers p q e beginning = refl
-  said-answers p q e (h then k) = rw (moment h .says, e (answerTo k (reached h)), said-answers p q e h)
-
-  pub is-day : (h : History Call) → IsDay (tableIn (at h)) (saidIn services before h) (toldIn services before h)
-  is-day h = rw (moment h .says, told-answers h) (record {
-    totals = ap (λ t. t .rows) (reached-day h);
-    added = ap (λ t. t .counts .added) (reached-day h) ∙ sym (said-answers _ isAdded said-added h);
-    null = ap (λ t. t .counts .null) (reached-day h) ∙ sym (said-answers _ isNullAnswer said-null h);
-    add-up =
-        omega (arith, ap (λ t. counted (t .counts)) (reached-day h), counts-add-up (answers h), all-counted (answers h), said-answers (λ a. eqb a 21) (λ o. eqb (packed entryNumber o) 21) (λ o. refl) h, said-answers (λ a. eqb a 25) (λ o. eqb (packed entryNumber o) 25) (λ o. refl) h, said-answers (λ a. true) (λ o. true) (λ o. refl) h);
-    in-range = reached-proper h .within;
-    undamaged = never-damaged h;
-  })
+pub day-counted : (g : History Call) → counted (reached g .counts) ≡ howMany (λ a. not (eqb a 21 || eqb a 25)) (numbersOf (answers g))
+day-counted g = ap (λ t. counted (t .counts)) (reached-day g) ∙ counts-add-up (answers g) ∙ sym (said-many (λ a. not (eqb a 21 || eqb a 25)) isCounted said-counted (answers g))

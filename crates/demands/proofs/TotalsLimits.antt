@@ -1,27 +1,24 @@
 -- The two limits of a day, NO ROW and TOTAL, are met exactly where the request has them.
-use Prim.Native.Nat.{ℕ, _<_}
+use Prim.Native.Nat.{ℕ}
 use mathlib.Core.Path.{_≡_, refl, sym, _∙_, ap, subst}
 use mathlib.Core.Logic.{_↔_}
 use mathlib.Core.Bool.{Bool, true, false, _||_, cond}
 use mathlib.Core.List.{List, [], _∷_, map}
 use mathlib.Core.Option.{some}
-use native.Mathlib.Omega.{arith}
 use lib.ListN.{length, length-map}
 use lib.IntN.{ℤ, pos, _+ℤ_, +ℤ-idl}
 use Rattle.rules.specs.Basics.{ifSome, find, exists, same}
 use Rattle.rules.specs.Refusal.{NO-ROW, TOTAL, Outcome, answered}
 use Rattle.rules.specs.Services.{packed}
-use Rattle.rules.specs.Totals.{Row, Table, totalling, counted, isInRange, isOf, isHeld, Entry, money, newTotal}
+use Rattle.rules.specs.Totals.{Row, Table, totalling, isInRange, isOf, isHeld, Entry, money, newTotal}
 use Rattle.rules.specs.TotalNumbers.{entryNumber}
-use Rattle.rules.specs.TotalTables.{tableIn}
 use Rattle.rules.specs.TotalDays.{Call, readingOf, answerTo, IsUsable, HasNoRow, History, sumAdded, currenciesAdded, rowsOf}
 use Rattle.rules.proofs.Tests.{same-true}
 use Rattle.rules.proofs.TotalRows.{sum-none}
 use Rattle.rules.proofs.Totals.{exactly-no-row, exactly-total}
-use Rattle.demands.specs.Services.{services}
-use Rattle.demands.specs.Totals.{tableAt, toldIn, Limits}
+use Rattle.demands.specs.Totals.{Limits}
 use Rattle.demands.proofs.Answers.{iff-trans}
-use Rattle.demands.proofs.TotalsDays.{packed-number, is-day}
+use Rattle.demands.proofs.TotalsDays.{packed-number}
 
 -- rows that hold a number for each currency of a list
 module _ (c : List ℕ) (z : ℤ) (f : List ℕ → ℤ) where
@@ -63,7 +60,7 @@ module _ (a : History (Outcome Entry)) (c : List ℕ) where
       go false e = rw (sum-none c a e) (sym (+ℤ-idl z))
 
 -- the limits of a usable table that is what some answers come to
-limits-met : (a : History (Outcome Entry)) (k : Call) (t : Table) → t .rows ≡ rowsOf a → IsUsable t → (c : List ℕ) (z : ℤ) → readingOf k ≡ answered (money c z)
+pub limits-met : (a : History (Outcome Entry)) (k : Call) (t : Table) → t .rows ≡ rowsOf a → IsUsable t → (c : List ℕ) (z : ℤ) → readingOf k ≡ answered (money c z)
     → Limits a c z (packed entryNumber (answerTo k t))
 limits-met a k t e u c z h = record {
   no-row =
@@ -89,9 +86,3 @@ limits-met a k t e u c z h = record {
 
     same-total : {d : List ℕ} {y : ℤ} → d ≡ c → y ≡ z → newTotal d y (t .rows) ≡ sumAdded c a +ℤ z
     same-total i j = rw (i, j, e) (new-total a c z)
-
-pub limits-of : (before : List ℕ) (h : History Call) (k : Call) (c : List ℕ) (z : ℤ) → readingOf k ≡ answered (money c z)
-    → counted (tableIn (tableAt services before h) .counts) < 1_000_000 → Limits (toldIn services before h) c z (services .add-says (k .offset) (k .record′) (tableAt services before h))
-limits-of before h k c z e l =
-    limits-met (toldIn services before h) k (tableIn (tableAt services before h)) (is-day before h .totals)
-    (record { undamaged = is-day before h .undamaged; not-full = λ f. omega (arith, l, f) }) c z e

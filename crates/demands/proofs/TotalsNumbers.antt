@@ -1,56 +1,51 @@
 -- What a currency's number and a total's say: three capitals, each text of one number; and a total out of range.
-use Prim.Native.Nat.{ℕ, zero, suc, _+_, _-_, _*_, _^_, _≤_, _<_}
+use Prim.Native.Nat.{ℕ, zero, suc, _-_, _^_, _≤_, _<_}
 use mathlib.Core.Path.{_≡_, refl, sym, _∙_, ap}
-use mathlib.Core.Logic.{_⊎_, inl, inr, _↔_}
+use mathlib.Core.Logic.{inl, inr, _↔_}
 use mathlib.Core.Bool.{Bool, true, false, _&&_, cond}
 use mathlib.Core.List.{List, [], _∷_}
 use native.Mathlib.Omega.{arith}
-use borrow.Author.Tests.{ltb-true, ltb-false, leb-true, leb-false, le-leb, lt-leb, eqb-true}
+use borrow.Author.Tests.{ltb-true, ltb-false, lt-ltb, le-ltb, leb-true, leb-false, le-leb, lt-leb, eqb-true}
 use lib.Dec.{ltb, eqb}
 use lib.ListN.{length}
-use lib.IntN.{ℤ, pos, negsuc, negℤ}
+use lib.IntN.{ℤ, pos, negsuc}
 use Rattle.rules.specs.Basics.{every, same, isFrom}
 use Rattle.rules.specs.Forms.{isCurrency}
 use Rattle.rules.specs.LentLists.{unsigned}
 use Rattle.rules.specs.Services.{lowBytes}
 use Rattle.rules.specs.Totals.{isInRange}
-use Rattle.rules.specs.TotalNumbers.{totalIn, currencyNumber, currencyIn}
+use Rattle.rules.specs.TotalNumbers.{totalNumber, totalIn, currencyNumber, currencyIn}
 use Rattle.rules.proofs.Tests.{clash, both-true, every-true, isFrom-true, same-true}
 use Rattle.rules.proofs.LentLists.{unsigned-low}
-use Rattle.rules.proofs.TotalNumbers.{currency-read, currency-written}
-use Rattle.demands.specs.Totals.{IsCapital, AreCapitals, ofSign}
+use Rattle.rules.proofs.TotalNumbers.{total-read, total-small, currency-read, currency-written}
+use Rattle.demands.specs.Totals.{IsCapital, AreLetters, IsTotal, ofSign}
 
--- a currency is of the right form exactly if its number is of three capitals
-currency-letters : (x : List ℕ) → isCurrency x ≡ true
-    → (a b c : ℕ) × (x ≡ a ∷ b ∷ c ∷ []) × IsCapital a × IsCapital b × IsCapital c × (currencyNumber x ≡ a + 256 * b + 65_536 * c)
+-- a currency of the right form is three capitals, and its number is of them, the first in the lowest byte
+pub letters-of : (c : List ℕ) → isCurrency c ≡ true → AreLetters c (currencyNumber c)
 unfolding unsigned
-currency-letters [] h = clash (cc)
-currency-letters (a ∷ []) h = clash (cc)
-currency-letters (a ∷ b ∷ []) h = clash (cc)
-currency-letters (a ∷ b ∷ c ∷ []) h =
-    let (f, g) = every-true (isFrom 65 90) a (b ∷ c ∷ []) h in
-    let (i, j) = every-true (isFrom 65 90) b (c ∷ []) g in
-    let k = every-true (isFrom 65 90) c [] j .0 in
-    (a, b, c, refl, isFrom-true 65 90 a f, isFrom-true 65 90 b i, isFrom-true 65 90 c k, omega arith)
-currency-letters (a ∷ b ∷ c ∷ d ∷ x) h = clash (omega (arith, eqb-true (length (a ∷ b ∷ c ∷ d ∷ x)) 3 (both-true (eqb (length (a ∷ b ∷ c ∷ d ∷ x)) 3) _ h .0)))
+letters-of [] h = clash (cc)
+letters-of (x ∷ []) h = clash (cc)
+letters-of (x ∷ y ∷ []) h = clash (cc)
+letters-of (x ∷ y ∷ z ∷ []) h =
+    let (f, g) = every-true (isFrom 65 90) x (y ∷ z ∷ []) h in
+    let (i, j) = every-true (isFrom 65 90) y (z ∷ []) g in
+    let k = every-true (isFrom 65 90) z [] j .0 in
+    (x, y, z, refl, isFrom-true 65 90 x f, isFrom-true 65 90 y i, isFrom-true 65 90 z k, omega arith)
+letters-of (x ∷ y ∷ z ∷ w ∷ c) h = clash (omega (arith, eqb-true (length (x ∷ y ∷ z ∷ w ∷ c)) 3 (both-true (eqb (length (x ∷ y ∷ z ∷ w ∷ c)) 3) _ h .0)))
 
-pub capitals-read : (n : ℕ) → AreCapitals n ↔ isCurrency (currencyIn n) ≡ true
+pub letters-in : (n : ℕ) → isCurrency (currencyIn n) ≡ true → AreLetters (currencyIn n) n
+letters-in n h = rw (currency-written n h) at (letters-of (currencyIn n) h)
+
+-- and the other way
+pub letters-read : (c : List ℕ) (n : ℕ) → AreLetters c n → (n ≡ currencyNumber c) × (currencyIn n ≡ c) × (isCurrency c ≡ true)
 unfolding every unsigned
-capitals-read n = (there, λ h. let (a, b, c, x, i, j, k, e) = currency-letters (currencyIn n) h in (a, b, c, i, j, k, sym (currency-written n h) ∙ e))
+letters-read c n (x, y, z, d, i, j, k, e) =
+    let f : isCurrency (x ∷ y ∷ z ∷ []) ≡ true = rw (capital x i, capital y j, capital z k) in
+    let g : n ≡ currencyNumber (x ∷ y ∷ z ∷ []) = omega arith in
+    rw d (g, rw g (currency-read (x ∷ y ∷ z ∷ []) f), f)
   where
     capital : (b : ℕ) → IsCapital b → isFrom 65 90 b ≡ true
     capital b (l, m) = rw (le-leb 65 b l, le-leb b 90 m)
-
-    there : AreCapitals n → isCurrency (currencyIn n) ≡ true
-    there (a, b, c, i, j, k, e) =
-        let f : isCurrency (a ∷ b ∷ c ∷ []) ≡ true = rw (capital a i, capital b j, capital c k) in
-        let g : n ≡ currencyNumber (a ∷ b ∷ c ∷ []) = omega arith in
-        rw (g, currency-read (a ∷ b ∷ c ∷ []) f, f)
-
--- its text is its letters, the first in the lowest byte
-pub letters-of : (n : ℕ) → isCurrency (currencyIn n) ≡ true
-    → (a b c : ℕ) × (currencyIn n ≡ a ∷ b ∷ c ∷ []) × IsCapital a × IsCapital b × IsCapital c × (n ≡ a + 256 * b + 65_536 * c)
-letters-of n h = let (a, b, c, x, i, j, k, e) = currency-letters (currencyIn n) h in (a, b, c, x, i, j, k, sym (currency-written n h) ∙ e)
 
 -- one text is of one number
 currency-number : (n : ℕ) → n < 2 ^ 64 → currencyNumber (currencyIn n) ≡ n
@@ -74,15 +69,33 @@ range-of true (suc n) = (
 )
 
 -- a total in range is its number in two's complement
-abbrev IsAmount : ℤ → ℕ → Type 0
-IsAmount z n = (m : ℕ) × (m ≤ 9_000_000_000_000_000_000) × (((z ≡ pos m) × (n ≡ m)) ⊎ ((z ≡ negℤ (pos m)) × (n + m ≡ 2 ^ 64)))
-
-pub amount-of : (n : ℕ) → n < 2 ^ 64 → isInRange (totalIn n) ≡ true → IsAmount (totalIn n) n
-amount-of n h = go (ltb n (2 ^ 63)) refl
+pub total-in : (n : ℕ) → n < 2 ^ 64 → isInRange (totalIn n) ≡ true → IsTotal (totalIn n) n
+total-in n h = go (ltb n (2 ^ 63)) refl
   where
-    go : (b : Bool) → ltb n (2 ^ 63) ≡ b → isInRange (cond b (pos n) (negsuc (2 ^ 64 - suc n))) ≡ true → IsAmount (cond b (pos n) (negsuc (2 ^ 64 - suc n))) n
+    go : (b : Bool) → ltb n (2 ^ 63) ≡ b → isInRange (cond b (pos n) (negsuc (2 ^ 64 - suc n))) ≡ true → IsTotal (cond b (pos n) (negsuc (2 ^ 64 - suc n))) n
     go true e i = (n, range-of false n .0 i, inl (refl, refl))
-    go false e i = (suc (2 ^ 64 - suc n), range-of true (suc (2 ^ 64 - suc n)) .0 i, inr (refl, omega arith))
+    go false e i = (suc (2 ^ 64 - suc n), range-of true (suc (2 ^ 64 - suc n)) .0 i, inr (refl, omega arith, omega arith))
+
+pub total-of : (z : ℤ) → isInRange z ≡ true → IsTotal z (totalNumber z)
+total-of z h = let e = total-read z h in rw e at (total-in (totalNumber z) (total-small z h) (ap isInRange e ∙ h))
+
+-- and the other way
+pub total-is : (z : ℤ) (n : ℕ) → IsTotal z n → (n ≡ totalNumber z) × (totalIn n ≡ z)
+total-is z n (m, l, inl (e, f)) = rw (e, f, lt-ltb m (2 ^ 63) (omega arith)) (refl, refl)
+total-is z n (zero, l, inr (e, k, f)) = absurd (omega arith)
+total-is z n (suc m, l, inr (e, k, f)) = rw (e, le-ltb n (2 ^ 63) (omega arith)) (omega arith, ap negsuc (omega arith))
+
+-- what is in range has a number, and nothing else
+pub total-range : (z : ℤ) {n : ℕ} → IsTotal z n → isInRange z ≡ true
+total-range z (m, l, inl (e, f)) = ap isInRange e ∙ range-of false m .1 l
+total-range z (m, l, inr (e, k, f)) = ap isInRange e ∙ range-of true m .1 l
+
+pub no-total : (z : ℤ) → isInRange z ≡ false ↔ ((n : ℕ) → IsTotal z n → ⊥)
+no-total z = (λ e n t. let f = total-range z t in clash (cc), λ h. go (isInRange z) refl h)
+  where
+    go : (b : Bool) → isInRange z ≡ b → ((n : ℕ) → IsTotal z n → ⊥) → b ≡ false
+    go true e h = absurd (h (totalNumber z) (total-of z e))
+    go false e h = refl
 
 -- a total is out of range exactly if its number is between the ends
 abbrev pub IsOutside : ℕ → Type 0

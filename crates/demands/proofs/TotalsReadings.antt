@@ -1,31 +1,35 @@
 -- What a record says to a day's totals: its refusal, null, or its amount, in ten-thousandths, of its currency.
-use Prim.Native.Nat.{ℕ, zero, suc, _+_, _-_, _*_, _^_, _≤_}
-use mathlib.Core.Path.{_≡_, refl, sym, _∙_, ap}
+use Prim.Native.Nat.{ℕ, zero, suc, _+_, _-_, _*_, _^_, _≤_, _<_}
+use mathlib.Core.Path.{_≡_, refl, sym, _∙_, ap, subst}
+use mathlib.Core.Logic.{_⊎_, inl, inr}
 use mathlib.Core.Bool.{Bool, true, false, not}
 use mathlib.Core.List.{List, [], _∷_, _++_, append-nil}
 use mathlib.Core.Option.{Option, none, some}
-use native.Mathlib.Nat.{add-mul, mul-assoc}
+use native.Mathlib.Nat.{add-mul, mul-assoc, one-le-pow, pow-le-pow-right}
 use native.Mathlib.Omega.{arith}
 use borrow.Author.Tests.{ne-eqb}
 use lib.Dec.{eqb}
 use lib.ListN.{length}
 use lib.IntN.{ℤ, pos, negℤ}
 use lib.Pow.{pow-add}
-use Rattle.rules.specs.Basics.{ifSome, every, bytes, isDigit, decimal}
+use Rattle.rules.specs.Basics.{ifSome, every, bytes, isDigit, decimalFrom, decimal}
 use Rattle.rules.specs.Refusal.{Refusal, TYPE, earlier, firstOf, Outcome, answered, refused, faultsIn, _when_, _unless_, _andThen_}
-use Rattle.rules.specs.Parsers.{bad, ok, one, upTo, finish, whole}
-use Rattle.rules.specs.Timestamp.{point}
+use Rattle.rules.specs.Parsers.{bad, ok, next, else, pure, one, upTo, byte, finish, whole}
+use Rattle.rules.specs.Timestamp.{point, tenThousandths}
 use Rattle.rules.specs.Markup.{Attribute, Element, lookup}
 use Rattle.rules.specs.Forms.{amountText}
 use Rattle.rules.specs.Types.{MO, hasType}
 use Rattle.rules.specs.Check.{elementOf, check}
-use Rattle.rules.specs.Totals.{entryOf, notMoney, reading}
+use Rattle.rules.specs.Totals.{isInRange, money, entryOf, notMoney, reading}
 use Rattle.rules.specs.TotalDays.{Call, readingOf}
 use Rattle.rules.proofs.Tests.{clash, every-true, isFrom-true}
 use Rattle.rules.proofs.Precedence.{check-answered}
-use Rattle.rules.proofs.Digits.{decimal-append}
+use Rattle.rules.proofs.Parsers.{next-ok, map-ok, else-ok, one-ok, upTo-ok, whole-ok}
+use Rattle.rules.proofs.Digits.{decimal-append, decimal-below}
+use Rattle.rules.proofs.Ticks.{point-ok, fraction-in-second}
 use Rattle.rules.proofs.TotalReading.{is-null, is-money, entry-cases}
 use Rattle.demands.specs.Totals.{Reads, AreDigits, pointed, signWritten, ofSign}
+use Rattle.demands.proofs.TotalsNumbers.{range-of}
 
 -- the text of an amount
 written : (attrs : List Attribute) {z : ℤ} (o : Option (List ℕ)) → lookup (bytes "value") attrs ≡ o → ifSome o (whole amountText) none ≡ some z
@@ -100,3 +104,36 @@ amount-read negative (d ∷ ds) fs h k = go negative fs k
         let (i, j) = every-true isDigit f fs (k .digits) in
         rw (no-sign, first .0, digits-read 11 ds (46 ∷ f ∷ fs) (omega (arith, h .few)) (first .1) refl, i, rw append-nil at (digits-read 3 fs [] (omega (arith, k .few)) j refl))
         (ap (λ n. some (pos n)) (scaled (d ∷ ds) (f ∷ fs) (k .few)))
+
+-- an amount that is read is of at most 16 digits, and so within the range
+fraction-small : (s : List ℕ) {fs r : List ℕ} → else (point s) (ok [] s) ≡ ok fs r → tenThousandths fs < 10_000
+unfolding point every decimalFrom
+fraction-small s {fs} e = elim (else-ok (point s) (ok [] s) e) [
+  | inl f ↦ let (few, all) = point-ok s f in omega (arith, fraction-in-second fs few all, one-le-pow (4 - length fs) 10 (omega arith))
+  | inr f ↦ let z : fs ≡ [] = cc in rw z (omega arith)
+]
+
+amount-small : (text : List ℕ) {z : ℤ} → whole amountText text ≡ some z → isInRange z ≡ true
+unfolding amountText every
+amount-small text {z} e =
+    next-ok (else (next (byte 45 text) (λ b. pure negℤ)) (ok (λ z. z) text)) _ (whole-ok amountText text e) λ sign s f e₁.
+    next-ok (one isDigit s) _ e₁ λ d t g e₂.
+    next-ok (upTo 11 isDigit t) _ e₂ λ ds u h e₃.
+    let (fs, i, y) = map-ok (else (point u) (ok [] u)) (λ fs. sign (pos (decimal (d ∷ ds) * 10_000 + tenThousandths fs))) e₃ in
+    let (few, all) = upTo-ok 11 isDigit t h in
+    let l = decimal-below (d ∷ ds) (rw (one-ok isDigit s g .1) all) in
+    let m = pow-le-pow-right {n = 10} (omega arith) {i = length (d ∷ ds)} {j = 12} (omega arith) in
+    let n = decimal (d ∷ ds) * 10_000 + tenThousandths fs in
+    let small : n ≤ 9_000_000_000_000_000_000 = omega (arith, fraction-small u i) in
+    rw (← y) (go sign n small (else-ok (next (byte 45 text) (λ b. pure negℤ)) (ok (λ z. z) text) f))
+  where
+    go : (sign : ℤ → ℤ) (n : ℕ) → n ≤ 9_000_000_000_000_000_000 → {s : List ℕ}
+        → (next (byte 45 text) (λ b. pure negℤ) ≡ ok sign s) ⊎ (ok (λ z. z) text ≡ ok sign s) → isInRange (sign (pos n)) ≡ true
+    go sign n l (inl f) = let (b, g, y) = map-ok (byte 45 text) (λ b. negℤ) f in rw (← y) (range-of true n .1 l)
+    go sign n l (inr f) = let y : (λ z. z) ≡ sign = cc in rw (← y) (range-of false n .1 l)
+
+pub reading-small : (k : Call) {c : List ℕ} {z : ℤ} → readingOf k ≡ answered (money c z) → isInRange z ≡ true
+reading-small k {c} {z} e = go (subst (Reads k) e (reads k))
+  where
+    go : Reads k (answered (money c z)) → isInRange z ≡ true
+    go (Reads.an-amount {text = text} a t n l v w) = amount-small text w

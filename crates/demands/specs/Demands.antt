@@ -9,7 +9,7 @@ use mathlib.Core.List.{List, [], _∷_, _++_, map, List·Memᴰ}
 use mathlib.Core.Option.{some}
 use lib.ListN.{length, take}
 use lib.IntN.{ℤ}
-use Rattle.rules.specs.Refusal.{Refusal, OFFSET, TOO-LONG, NOT-UTF-8, MARKUP, TYPE, SHAPE, VALUE, RULE, UNKNOWN-BOUND, TOO-MANY, NOT-WRITABLE, NO-ROOM, NO-ROW, TOTAL, DAMAGED, DAY-FULL, number, precedence, rank, answered, faultsOf, _when_}
+use Rattle.rules.specs.Refusal.{Refusal, OFFSET, TOO-LONG, NOT-UTF-8, MARKUP, TYPE, SHAPE, VALUE, RULE, UNKNOWN-BOUND, TOO-MANY, NOT-WRITABLE, NO-ROOM, NO-ROW, TOTAL, DAMAGED, NO-DESK, DAY-FULL, number, precedence, rank, answered, faultsOf, _when_}
 use Rattle.rules.specs.Utf8.{isUtf8}
 use Rattle.rules.specs.Markup.{Element}
 use Rattle.rules.specs.Timestamp.{Moment, readTimestamp, tickOf}
@@ -23,6 +23,7 @@ use Rattle.demands.specs.Services.{Services, resultIn, Answers, Compares
 use Rattle.demands.specs.Printing.{PrintPromise}
 use Rattle.demands.specs.Years.{YearsPromise}
 use Rattle.demands.specs.Totals.{TotalsPromise}
+use Rattle.demands.specs.Desks.{DesksPromise}
 
 -- what checking may give
 abbrev pub recordRefusals : List Refusal
@@ -34,16 +35,16 @@ listRefusals = OFFSET ∷ TOO-LONG ∷ NOT-UTF-8 ∷ MARKUP ∷ TYPE ∷ SHAPE �
 
 -- what adding to a day's totals may give
 abbrev pub addRefusals : List Refusal
-addRefusals = DAMAGED ∷ DAY-FULL ∷ OFFSET ∷ TOO-LONG ∷ NOT-UTF-8 ∷ MARKUP ∷ TYPE ∷ SHAPE ∷ VALUE ∷ RULE ∷ NO-ROW ∷ TOTAL ∷ []
+addRefusals = NO-DESK ∷ DAMAGED ∷ DAY-FULL ∷ OFFSET ∷ TOO-LONG ∷ NOT-UTF-8 ∷ MARKUP ∷ TYPE ∷ SHAPE ∷ VALUE ∷ RULE ∷ NO-ROW ∷ TOTAL ∷ []
 
 -- 1. "Give the box any bytes and it ends with an answer. Each entry point refuses what is wrong by one number from your rules page, from
 -- OFFSET to NO ROOM, and asks nothing of its caller. A refusal hands back that number (in a comparison, also which record it was) and no
 -- result, and every lent buffer keeps its bytes."
 pub record Demand1 (s : Services) : Type 0 where
   pub order : precedence
-      ≡ DAMAGED ∷ DAY-FULL ∷ OFFSET ∷ TOO-LONG ∷ NOT-UTF-8 ∷ MARKUP ∷ TYPE ∷ SHAPE ∷ VALUE ∷ RULE ∷ UNKNOWN-BOUND ∷ TOO-MANY ∷ NOT-WRITABLE ∷ NO-ROOM
+      ≡ NO-DESK ∷ DAMAGED ∷ DAY-FULL ∷ OFFSET ∷ TOO-LONG ∷ NOT-UTF-8 ∷ MARKUP ∷ TYPE ∷ SHAPE ∷ VALUE ∷ RULE ∷ UNKNOWN-BOUND ∷ TOO-MANY ∷ NOT-WRITABLE ∷ NO-ROOM
       ∷ NO-ROW ∷ TOTAL ∷ []
-  pub numbers : map number precedence ≡ 21 ∷ 25 ∷ 1 ∷ 2 ∷ 3 ∷ 4 ∷ 5 ∷ 6 ∷ 7 ∷ 8 ∷ 9 ∷ 10 ∷ 12 ∷ 11 ∷ 16 ∷ 17 ∷ []
+  pub numbers : map number precedence ≡ 23 ∷ 21 ∷ 25 ∷ 1 ∷ 2 ∷ 3 ∷ 4 ∷ 5 ∷ 6 ∷ 7 ∷ 8 ∷ 9 ∷ 10 ∷ 12 ∷ 11 ∷ 16 ∷ 17 ∷ []
   pub one-number : (r q : Refusal) → number r ≡ number q → r ≡ q
   pub check-answers : (offset : ℤ) (record′ : List ℕ) → Answers recordRefusals (λ n. n ≡ 0) (Unit {0}) (s .check-says offset record′)
   pub compare-answers : (offset : ℤ) (first second : List ℕ) → Compares recordRefusals (s .compare-says offset first second)
@@ -55,11 +56,16 @@ pub record Demand1 (s : Services) : Type 0 where
   pub print-answers : (list record′ : List ℕ)
       → Answers (NOT-WRITABLE ∷ NO-ROOM ∷ []) (λ n. n ≤ 4_735) (s .print-leaves list record′ ≡ record′) (s .print-says list record′)
   pub open-answers : (numbers : List ℕ) → s .open-says numbers ≡ 0
-  -- 21 and 25 keep a table; other refusals raise a count in it, "demand 1 .. notwithstanding" (A6)
-  pub add-answers : (offset : ℤ) (record′ numbers : List ℕ)
-      → Answers addRefusals (λ n. (n ≡ 1) ⊎ (n ≡ 2)) ((s .add-says offset record′ numbers ≡ 21) ⊎ (s .add-says offset record′ numbers ≡ 25) → s .add-leaves offset record′ numbers ≡ numbers)
-      (s .add-says offset record′ numbers)
-  pub report-answers : (numbers report : List ℕ) → Answers (DAMAGED ∷ []) (λ n. n ≤ 16) (s .report-leaves numbers report ≡ report) (s .report-says numbers)
+  -- "report and start give only 23 and 21" (A7)
+  pub start-answers : (desk : ℕ) (numbers : List ℕ)
+      → Answers (NO-DESK ∷ DAMAGED ∷ []) (λ n. n ≡ 0) (s .start-leaves desk numbers ≡ numbers) (s .start-says desk numbers)
+  -- 23, 21 and 25 keep a table; other refusals raise a count in it, "demand 1 .. notwithstanding" (A6)
+  pub add-answers : (desk : ℕ) (offset : ℤ) (record′ numbers : List ℕ)
+      → Answers addRefusals (λ n. (n ≡ 1) ⊎ (n ≡ 2))
+      (List·Memᴰ (s .add-says desk offset record′ numbers) (23 ∷ 21 ∷ 25 ∷ []) → s .add-leaves desk offset record′ numbers ≡ numbers)
+      (s .add-says desk offset record′ numbers)
+  pub report-answers : (desk : ℕ) (numbers report : List ℕ)
+      → Answers (NO-DESK ∷ DAMAGED ∷ []) (λ n. n ≤ 16) (s .report-leaves desk numbers report ≡ report) (s .report-says desk numbers)
 
 -- r applies, and nothing that applies stands before it on the ladder
 abbrev pub IsFirst : Refusal → (faults : List Refusal) → Type 0
@@ -114,5 +120,6 @@ pub record Demands (s : Services) : Type 0 where
   pub print : PrintPromise s
   -- request A3
   pub years : YearsPromise s
-  -- request A6
-  pub totals : TotalsPromise s
+  -- requests A6 and A7
+  pub totals : TotalsPromise
+  pub desks : DesksPromise s

@@ -2,4 +2,5 @@ pub mod Services
 pub mod Printing
 pub mod Years
 pub mod Totals
+pub mod Desks
 pub mod Demands

@@ -11,11 +11,11 @@ use Rattle.rules.specs.Comparison.{Answer}
 use Rattle.rules.specs.Services.{checkAnswer, compareAnswer, listAnswer, listAfter, tickAnswer, tickAfter, cutAnswer}
 use Rattle.rules.specs.Printing.{printAnswer, printAfter}
 use Rattle.rules.specs.TotalNumbers.{Lent}
-use Rattle.rules.specs.TotalTables.{openedTable, addAnswer, addAfter, reportAnswer, reportAfter}
+use Rattle.rules.specs.DeskNumbers.{openedTable, startAnswer, startAfter, addAnswer, addAfter, reportAnswer, reportAfter}
 use Rattle.rules.specs.ListingPromise.{numberIn}
 use Rattle.rules.specs.ComparisonPromise.{Names, Says}
 
--- what nine functions do with each input: what they say, and what they leave in lent memory
+-- what ten functions do with each input: what they say, and what they leave in lent memory
 pub record Services : Type 0 where
   pub check-says : (offset : ℤ) → (record′ : List ℕ) → ℕ
   pub compare-says : (offset : ℤ) → (first second : List ℕ) → ℕ
@@ -28,10 +28,12 @@ pub record Services : Type 0 where
   pub print-leaves : (list record′ : List ℕ) → List ℕ
   pub open-says : (numbers : List ℕ) → ℕ
   pub open-leaves : (numbers : List ℕ) → List ℕ
-  pub add-says : (offset : ℤ) → (record′ numbers : List ℕ) → ℕ
-  pub add-leaves : (offset : ℤ) → (record′ numbers : List ℕ) → List ℕ
-  pub report-says : (numbers : List ℕ) → ℕ
-  pub report-leaves : (numbers report : List ℕ) → List ℕ
+  pub start-says : (desk : ℕ) → (numbers : List ℕ) → ℕ
+  pub start-leaves : (desk : ℕ) → (numbers : List ℕ) → List ℕ
+  pub add-says : (desk : ℕ) → (offset : ℤ) → (record′ numbers : List ℕ) → ℕ
+  pub add-leaves : (desk : ℕ) → (offset : ℤ) → (record′ numbers : List ℕ) → List ℕ
+  pub report-says : (desk : ℕ) → (numbers : List ℕ) → ℕ
+  pub report-leaves : (desk : ℕ) → (numbers report : List ℕ) → List ℕ
 
 -- the exported functions, each by its contract
 abbrev pub services : Services
@@ -47,6 +49,8 @@ services = record {
   print-leaves = printAfter;
   open-says = λ numbers. 0;
   open-leaves = λ numbers. openedTable;
+  start-says = startAnswer;
+  start-leaves = startAfter;
   add-says = addAnswer;
   add-leaves = addAfter;
   report-says = reportAnswer;
@@ -70,7 +74,7 @@ pub data Compares (may : List Refusal) (answer : ℕ) : Type 0 where
   says : (x : Answer) → Says x answer → Compares may answer
   names : (which : ℕ) (r : Refusal) → (which ≡ 1) ⊎ (which ≡ 2) → isAmong may r ≡ true → Names which r answer → Compares may answer
 
--- two that do the same with every input; a table is 36 numbers of 64 bits, and a report 35
+-- two that do the same with every input; a table is 103 numbers of 64 bits, and a report 35
 pub record Same (s t : Services) : Type 0 where
   pub same-check : (offset : ℤ) (record′ : List ℕ) → s .check-says offset record′ ≡ t .check-says offset record′
   pub same-compare : (offset : ℤ) (first second : List ℕ) → s .compare-says offset first second ≡ t .compare-says offset first second
@@ -81,9 +85,12 @@ pub record Same (s t : Services) : Type 0 where
   pub same-cut : (text : List ℕ) (room : ℕ) → s .cut-says text room ≡ t .cut-says text room
   pub same-print : (list record′ : List ℕ) → s .print-says list record′ ≡ t .print-says list record′
   pub same-print-left : (list record′ : List ℕ) → s .print-leaves list record′ ≡ t .print-leaves list record′
-  pub same-open : (numbers : List ℕ) → Lent 36 numbers → s .open-says numbers ≡ t .open-says numbers
-  pub same-open-left : (numbers : List ℕ) → Lent 36 numbers → s .open-leaves numbers ≡ t .open-leaves numbers
-  pub same-add : (offset : ℤ) (record′ numbers : List ℕ) → Lent 36 numbers → s .add-says offset record′ numbers ≡ t .add-says offset record′ numbers
-  pub same-add-left : (offset : ℤ) (record′ numbers : List ℕ) → Lent 36 numbers → s .add-leaves offset record′ numbers ≡ t .add-leaves offset record′ numbers
-  pub same-report : (numbers : List ℕ) → Lent 36 numbers → s .report-says numbers ≡ t .report-says numbers
-  pub same-report-left : (numbers report : List ℕ) → Lent 36 numbers → Lent 35 report → s .report-leaves numbers report ≡ t .report-leaves numbers report
+  pub same-open : (numbers : List ℕ) → Lent 103 numbers → s .open-says numbers ≡ t .open-says numbers
+  pub same-open-left : (numbers : List ℕ) → Lent 103 numbers → s .open-leaves numbers ≡ t .open-leaves numbers
+  pub same-start : (desk : ℕ) (numbers : List ℕ) → Lent 103 numbers → s .start-says desk numbers ≡ t .start-says desk numbers
+  pub same-start-left : (desk : ℕ) (numbers : List ℕ) → Lent 103 numbers → s .start-leaves desk numbers ≡ t .start-leaves desk numbers
+  pub same-add : (desk : ℕ) (offset : ℤ) (record′ numbers : List ℕ) → Lent 103 numbers → s .add-says desk offset record′ numbers ≡ t .add-says desk offset record′ numbers
+  pub same-add-left : (desk : ℕ) (offset : ℤ) (record′ numbers : List ℕ) → Lent 103 numbers
+      → s .add-leaves desk offset record′ numbers ≡ t .add-leaves desk offset record′ numbers
+  pub same-report : (desk : ℕ) (numbers : List ℕ) → Lent 103 numbers → s .report-says desk numbers ≡ t .report-says desk numbers
+  pub same-report-left : (desk : ℕ) (numbers report : List ℕ) → Lent 103 numbers → Lent 35 report → s .report-leaves desk numbers report ≡ t .report-leaves desk numbers report
