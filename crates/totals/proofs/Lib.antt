@@ -2,7 +2,10 @@ pub mod Arithmetic
 pub mod Rows
 pub mod Places
 pub mod Damaged
+pub mod Owners
 pub mod Taking
+pub mod Sharing
+pub mod Shared
 pub mod Putting
 pub mod Entering
 pub mod Posting

@@ -1,16 +1,12 @@
 -- The numbers of a table are those of what it means, if its currencies are of the right form and its totals of 64 bits.
-use Prim.Native.Nat.{_^_, _≤_}
-use mathlib.Core.Path.{_≡_, refl, _∙_, ap}
+use Prim.Native.Nat.{_^_}
+use mathlib.Core.Path.{_≡_, refl, ap}
 use mathlib.Core.Bool.{true, false, not}
 use mathlib.Core.List.{List, [], _∷_, map, flatMap}
-use native.Mathlib.Omega.{arith}
 use borrow.Author.Tests.{ltb-true, not-false}
-use lib.ListN.{length, length-map}
-use lib.Seq.{length-take-le}
 use Rattle.rules.specs.Basics.{exists, every}
 use Rattle.rules.specs.Forms.{isCurrency}
 use Rattle.rules.specs.TotalNumbers.{is64, currencyIn, rowNumbers, reportNumbers}
-use Rattle.rules.specs.TotalTables.{tableNumbers}
 use Rattle.rules.proofs.Tests.{neither, both-true}
 use Rattle.rules.proofs.Totals.{Proper}
 use Rattle.rules.proofs.TotalNumbers.{currency-written, total-written}
@@ -30,6 +26,3 @@ rows-meant (r ∷ rows) f b =
 module _ (t : Table) (p : Proper (tableMeant t)) (bits : areTotals (heldRows t) ≡ true) where
   pub report-meant : reportOf t ≡ reportNumbers (tableMeant t)
   report-meant = ap (λ l. t .added ∷ t .null ∷ t .refused ∷ l) (rows-meant (heldRows t) (p .formed) bits)
-
-  pub numbers-meant : length (t .rows) ≡ 16 → t .held ≤ 16 → t .held ∷ reportOf t ≡ tableNumbers (tableMeant t)
-  numbers-meant long few = rw (length-map (heldRows t) rowMeant ∙ length-take-le (t .held) (t .rows) (omega (arith, long))) (ap (λ l. t .held ∷ l) report-meant)

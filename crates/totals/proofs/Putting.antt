@@ -1,12 +1,11 @@
 -- The numbers of a table, written one after another.
 use Prim.Native.Nat.{ℕ, _+_, _*_, _≤_, _<_}
 use mathlib.Core.Path.{_≡_, refl, sym, _∙_, ap}
-use mathlib.Core.List.{List, [], _∷_, flatMap, append-nil}
+use mathlib.Core.List.{List, [], _∷_, flatMap}
 use native.Mathlib.Omega.{arith}
 use native.Mathlib.Numerals.{add-one}
-use lib.ListN.{length, take, drop, getD, set, length-set, drop-of-length-le}
-use lib.Seq.{drop-cons, getD-take, length-take-le, take-all}
-use borrow.Rule.Slice.PartMut.{putMid}
+use lib.ListN.{length, drop, getD, set, length-set, drop-of-length-le}
+use lib.Seq.{drop-cons, getD-take, length-take-le}
 use Rattle.rules.specs.Services.{overwrite}
 use Rattle.writer.specs.Placing.{placed}
 use Rattle.writer.proofs.Placing.{placed-none, placed-cons, overwrite-placed}
@@ -74,11 +73,3 @@ module _ (before : List ℕ) (t : Table) (room : 35 ≤ length before) where
         let n = length-take-le (t .held) (t .rows) (omega arith) in
         let e : drop k (heldRows t) ≡ [] = drop-of-length-le (heldRows t) {i = k} (omega arith) in
         sym (placed-none (3 + 2 * k) out) ∙ ap (λ q. placed (3 + 2 * k) (flatMap numbersOf q) out) (sym e) ∙ s .rest
-
--- the numbers after the first, written in place
-pub first-put : (before : List ℕ) (n : ℕ) (new : List ℕ) → length before ≡ 36
-    → putMid 1 35 (set before 0 n) (overwrite (take 35 (drop 1 (set before 0 n))) new) ≡ overwrite before (n ∷ new)
-first-put [] n new l = absurd (omega arith)
-first-put (x ∷ rest) n new l =
-    let m : length rest ≤ 35 = omega arith in
-    rw (take-all 35 rest m, drop-of-length-le rest m, append-nil) refl

@@ -33,6 +33,12 @@ Readable Null = Unit {0}
 Readable (Money c n) = (isCurrency (currencyIn c) ≡ true) × Small n
 Readable (Refused r) = isUncounted (refusalOf r) ≡ false
 
+-- not damaged, and of 16 rows at most
+pub record Sound (t : Table) : Type 0 where
+  pub few : t .held ≤ 16
+  pub undamaged : isDamaged (tableMeant t) ≡ false
+  pub bits : areTotals (heldRows t) ≡ true
+
 -- neither damaged nor full, and of 16 rows at most
 pub record Usable (t : Table) : Type 0 where
   pub few : t .held ≤ 16

@@ -4,12 +4,11 @@ use mathlib.Core.Path.{_≡_}
 use mathlib.Core.Bool.{Bool, true, not, _&&_, _||_, cond}
 use mathlib.Core.List.{List, [], _∷_, map, flatMap}
 use lib.Dec.{ltb, eqb}
-use lib.ListN.{take, getD}
+use lib.ListN.{length, take, getD}
 use Rattle.rules.specs.Basics.{every}
 use Rattle.rules.specs.Forms.{isCurrency}
 use Rattle.rules.specs.Totals.{Row as RulesRow, Counts, Table as RulesTable, counting, table, isInRange}
 use Rattle.rules.specs.TotalNumbers.{is64, currencyIn, totalIn, rowIn}
-use Rattle.rules.specs.TotalTables.{tableIn}
 use Rattle.totals.specs.declared.Row.{Row}
 use Rattle.totals.specs.declared.Table.{Table}
 
@@ -34,10 +33,10 @@ tableMeant t = table (map rowMeant (heldRows t)) (countsMeant t)
 abbrev pub areTotals : List Row → Bool
 areTotals = every (λ r. is64 (r .total))
 
--- a table is that of 36 numbers, unless they have too many rows
-pub record TakenFrom (numbers : List ℕ) (t : Table) : Type 0 where
-  pub held : t .held ≡ min 17 (getD numbers 0 0)
-  pub says : t .held ≤ 16 → tableMeant t ≡ tableIn numbers
+-- a table is another of the rules, unless that has too many rows
+pub record Holds (x : RulesTable) (t : Table) : Type 0 where
+  pub held : t .held ≡ min 17 (length (x .rows))
+  pub says : t .held ≤ 16 → tableMeant t ≡ x
   pub bits : t .held ≤ 16 → areTotals (heldRows t) ≡ true
 
 -- the counts, then the rows held, as numbers
