@@ -27,12 +27,17 @@ use refusal::Refusal;
 use refusal::Verdict;
 use timestamp::Timestamp;
 use timestamp::tick::Tick;
-use totals::damage::is_damaged;
 use totals::damage::is_full;
 use totals::entry;
 use totals::entry::Reading;
-use totals::numbers;
+use totals::part::is_desk;
+use totals::part::is_faulty;
+use totals::part::lent;
+use totals::part::part;
 use totals::post::post;
+use totals::report;
+use totals::share::clear;
+use totals::share::share;
 
 // The longest input that is read, in bytes.
 const MOST: usize = 16_384;
@@ -266,47 +271,82 @@ fn read_money(record: &[u8], offset: i64) -> Reading
     entry::read(record, held)
 }
 
-// Opens a table of a day's totals: all its numbers are 0. Always answers 0.
+// Opens a table of totals for two desks: all its numbers are 0. Always answers 0.
 #[no_mangle]
-pub extern "C" fn rigcactus_totals_open(table: &mut [u64; 36]) -> u64
+pub extern "C" fn rigcactus_totals_open(table: &mut [u64; 103]) -> u64
     ensures { λ r. ⌜ r ≡ services .open-says (now (table .entry)) ⌝ }
     ensures { λ r. ⌜ now (table .exit) ≡ services .open-leaves (now (table .entry)) ⌝ }
 {
-    *table = [0; 36];
+    *table = [0; 103];
     0
 }
 
-// Adds a record to a day's totals. Bits 0 to 7 of the answer are the refusal's number, 0 if the record is accepted; bits 8 to 15 are 1 if it
-// was added, 2 if it is null. A table that is damaged or full stays as it was; else the record is counted, a refused one too.
+// Starts a desk's day: its rows and counts are cleared, and nothing of the other desk's. Bits 0 to 7 of the answer are the refusal's number, 0 if
+// there is such a desk and the table is not damaged; the other bits are 0.
 #[no_mangle]
-pub extern "C" fn rigcactus_totals_add(table: &mut [u64; 36], record: &[u8], offset: i64) -> u64
-    ensures { λ r. ⌜ r ≡ services .add-says offset (now («record» .entry)) (now (table .entry)) ⌝ }
-    ensures { λ r. ⌜ now (table .exit) ≡ services .add-leaves offset (now («record» .entry)) (now (table .entry)) ⌝ }
+pub extern "C" fn rigcactus_totals_start(table: &mut [u64; 103], desk: u64) -> u64
+    ensures { λ r. ⌜ r ≡ services .start-says desk (now (table .entry)) ⌝ }
+    ensures { λ r. ⌜ now (table .exit) ≡ services .start-leaves desk (now (table .entry)) ⌝ }
 {
-    let before = *table;
-    let t = numbers::taken(before);
-    if is_damaged(t) {
+    if !is_desk(desk) {
+        return refusal::number(Refusal::NoDesk);
+    }
+    lent(*table);
+    if is_faulty(table) {
         return refusal::number(Refusal::Damaged);
     }
+    clear(table, desk);
+    0
+}
+
+// Adds a desk's record to its totals. Bits 0 to 7 of the answer are the refusal's number, 0 if the record is accepted; bits 8 to 15 are 1 if it
+// was added, 2 if it is null. With no such desk, a damaged table, or a desk whose day is full, the table stays as it was; else the record is
+// counted, a refused one too.
+#[no_mangle]
+pub extern "C" fn rigcactus_totals_add(
+    table: &mut [u64; 103],
+    desk: u64,
+    record: &[u8],
+    offset: i64,
+) -> u64
+    ensures { λ r. ⌜ r ≡ services .add-says desk offset (now («record» .entry)) (now (table .entry)) ⌝ }
+    ensures { λ r. ⌜ now (table .exit) ≡ services .add-leaves desk offset (now («record» .entry)) (now (table .entry)) ⌝ }
+{
+    if !is_desk(desk) {
+        return refusal::number(Refusal::NoDesk);
+    }
+    lent(*table);
+    if is_faulty(table) {
+        return refusal::number(Refusal::Damaged);
+    }
+    let t = part(table, desk);
     if is_full(t) {
         return refusal::number(Refusal::DayFull);
     }
     let posted = post(t, read_money(record, offset));
-    *table = numbers::write(posted.table, before);
+    share(table, desk, posted.table);
     posted.answer
 }
 
-// Reports a day's totals. Bits 0 to 7 of the answer are the refusal's number, 0 if the table is not damaged; the other bits are how many rows
-// it holds. The report then begins with the counts of records added, null and refused, and currency and total of each row.
+// Reports a desk's totals. Bits 0 to 7 of the answer are the refusal's number, 0 if there is such a desk and the table is not damaged; the other
+// bits are how many rows it holds. The report then begins with the counts of records added, null and refused, and currency and total of each row.
 #[no_mangle]
-pub extern "C" fn rigcactus_totals_report(table: &[u64; 36], report: &mut [u64; 35]) -> u64
-    ensures { λ r. ⌜ r ≡ services .report-says (now (table .entry)) ⌝ }
-    ensures { λ r. ⌜ now (report .exit) ≡ services .report-leaves (now (table .entry)) (now (report .entry)) ⌝ }
+pub extern "C" fn rigcactus_totals_report(
+    table: &[u64; 103],
+    desk: u64,
+    report: &mut [u64; 35],
+) -> u64
+    ensures { λ r. ⌜ r ≡ services .report-says desk (now (table .entry)) ⌝ }
+    ensures { λ r. ⌜ now (report .exit) ≡ services .report-leaves desk (now (table .entry)) (now (report .entry)) ⌝ }
 {
-    let t = numbers::taken(*table);
-    if is_damaged(t) {
+    if !is_desk(desk) {
+        return refusal::number(Refusal::NoDesk);
+    }
+    lent(*table);
+    if is_faulty(table) {
         return refusal::number(Refusal::Damaged);
     }
-    *report = numbers::report(t, *report);
+    let t = part(table, desk);
+    *report = report::report(t, *report);
     (t.held as u64) * 256
 }
