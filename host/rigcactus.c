@@ -20,8 +20,8 @@ struct options {
     bool raw;                 /* --raw */
 };
 
-/* The options that a command takes, as a sum of these. */
-enum { NO_OPTION = 0, TAKES_OFFSET = 1, TAKES_WIDTH = 2, TAKES_RAW = 4 };
+/* The options that a command takes, as a sum of these. --desk stands among the arguments, and not after them. */
+enum { NO_OPTION = 0, TAKES_OFFSET = 1, TAKES_WIDTH = 2, TAKES_RAW = 4, TAKES_DESKS = 8 };
 
 struct command {
     const char *name;
@@ -29,7 +29,7 @@ struct command {
     const char *summary;      /* one line of the usage text */
     int argument_count;
     bool takes_more;          /* whether there may be more arguments than that */
-    int taken_options;        /* which options may follow the arguments */
+    int taken_options;        /* which options it takes */
     int (*run)(int argument_count, char **arguments, const struct options *options);
 };
 
@@ -68,6 +68,54 @@ static const char *unit_name(int precision)
     case 17: return "thousandth of a second";
     default: return "ten-thousandth of a second";
     }
+}
+
+/* ---- Desks -------------------------------------------------------------------------------------------------------- */
+
+/* The desks that the words of a command name, in the order in which they are first named. */
+struct desks {
+    uint64_t numbers[RIGCACTUS_DESKS];
+    size_t count;             /* 0 if none is named: then all files are of desk 1 */
+};
+
+static bool is_desk_option(const char *word)
+{
+    return strcmp(word, "--desk") == 0;
+}
+
+static int read_desk(const char *word, uint64_t *desk)
+{
+    if (!read_number(word, desk) || *desk < 1 || *desk > RIGCACTUS_DESKS)
+        return say(BAD_USAGE, "DESK is 1 or 2, and not '%s'", word);
+    return ACCEPTED;
+}
+
+/* Puts a desk after those that are named, if it is none of them. */
+static void name_desk(struct desks *desks, uint64_t desk)
+{
+    for (size_t i = 0; i < desks->count; i++)
+        if (desks->numbers[i] == desk)
+            return;
+    desks->numbers[desks->count++] = desk;
+}
+
+/* Reads which desks words name. If there are any, the first word does, so that no file is left without one. */
+static int read_desks(int word_count, char **words, struct desks *desks)
+{
+    desks->count = 0;
+    for (int i = 0; i < word_count; i++) {
+        if (!is_desk_option(words[i]))
+            continue;
+        if (i > 0 && desks->count == 0)
+            return say(BAD_USAGE, "it is not said which desk '%s' is of: name one before the first file too, or none at all", words[0]);
+        i++;
+        uint64_t desk;
+        int status = read_desk(i < word_count ? words[i] : "", &desk);
+        if (status != ACCEPTED)
+            return status;
+        name_desk(desks, desk);
+    }
+    return ACCEPTED;
 }
 
 /* ---- Commands ----------------------------------------------------------------------------------------------------- */
@@ -247,8 +295,8 @@ static int run_compare(int argument_count, char **arguments, const struct option
     return finish_output();
 }
 
-/* Adds the record of a file to a table, and writes a line that says what came of it. */
-static int add_file(const char *name, int64_t offset, uint64_t table[RIGCACTUS_TABLE_NUMBERS])
+/* Adds the record of a file to a table, and writes a line that says what came of it, with the desk before it if desks are named. */
+static int add_file(const char *name, int64_t offset, uint64_t table[RIGCACTUS_TABLE_NUMBERS], uint64_t desk, bool is_named)
 {
     struct input input;
     int status = read_file(name, &input);
@@ -256,20 +304,44 @@ static int add_file(const char *name, int64_t offset, uint64_t table[RIGCACTUS_T
         return status;
 
     struct slice record = {input.bytes, input.length};
-    return print_added(table, name, record, offset) == RIGCACTUS_ACCEPTED ? ACCEPTED : REFUSED;
+    if (is_named)
+        printf("desk %" PRIu64 ": ", desk);
+    return print_added(table, desk, name, record, offset) == RIGCACTUS_ACCEPTED ? ACCEPTED : REFUSED;
 }
 
-/* Goes through all files as run_check does, and then writes the totals. A file that cannot be read is in no count. */
+/* Writes the totals of every desk that is named, with its number before them; where none is, those of desk 1 alone. */
+static void print_reports(const uint64_t table[RIGCACTUS_TABLE_NUMBERS], const struct desks *desks)
+{
+    if (desks->count == 0)
+        print_totals(table, 1);
+    for (size_t i = 0; i < desks->count; i++) {
+        printf("desk       %" PRIu64 "\n", desks->numbers[i]);
+        print_totals(table, desks->numbers[i]);
+    }
+}
+
+/*
+ * Goes through all files as run_check does, each of the desk that is named last before it, and then writes the totals. A file that cannot be
+ * read is in no count.
+ */
 static int run_totals(int argument_count, char **arguments, const struct options *options)
 {
-    uint64_t table[RIGCACTUS_TABLE_NUMBERS];
+    struct desks desks;
+    int worst = read_desks(argument_count, arguments, &desks);
+    if (worst != ACCEPTED)
+        return worst;
+
+    uint64_t table[RIGCACTUS_TABLE_NUMBERS], desk = 1;
     rigcactus_totals_open(table);
-    int worst = ACCEPTED;
     for (int i = 0; i < argument_count; i++) {
-        int status = add_file(arguments[i], options->offset, table);
+        if (is_desk_option(arguments[i])) {
+            read_desk(arguments[++i], &desk);
+            continue;
+        }
+        int status = add_file(arguments[i], options->offset, table, desk, desks.count > 0);
         worst = status > worst ? status : worst;
     }
-    print_totals(table);
+    print_reports(table, &desks);
     int status = finish_output();
     return status > worst ? status : worst;
 }
@@ -306,8 +378,9 @@ static const struct command commands[] = {
      run_print},
     {"compare", "FILE FILE [--offset MINUTES]", "print whether the records in both FILEs have the same value: yes, no or unknown", 2, false,
      TAKES_OFFSET, run_compare},
-    {"totals", "FILE.. [--offset MINUTES]", "add up the records in all FILEs, of type MO, and print a line for each and the total of each currency", 1,
-     true, TAKES_OFFSET, run_totals},
+    {"totals", "[--desk DESK] FILE.. [--desk DESK FILE..].. [--offset MINUTES]",
+     "add up the records in all FILEs, of type MO, by desk, and print a line for each and the total of each currency", 1, true,
+     TAKES_DESKS | TAKES_OFFSET, run_totals},
 };
 
 static const size_t command_count = sizeof commands / sizeof commands[0];
@@ -332,6 +405,8 @@ static void write_usage(FILE *to)
             "tick. Kinds are 0 unbounded, 1 not included, 2 included.\n"
             "print writes times in UTC, as one line: a set of type QSU_TS, with a term for each stretch. list reads the same times in it.\n"
             "totals reads FILEs in their order. It counts a record that is null or refused, and adds it to no total. Totals are exact.\n"
+            "DESK is 1 or 2, and is named before FILEs of its own: each desk that is named, also with no FILE, has counts and totals of its\n"
+            "own, in the order in which they are first named. With no --desk all FILEs are of desk 1, and no line says so.\n"
             "What is refused is named, with its number: by check and totals in the line of its FILE, by receipt in its place, else on\n"
             "standard error. All of yes, no and unknown count as accepted, and so does a null record.\n"
             "\n"
@@ -347,13 +422,14 @@ static const struct command *find_command(const char *name)
     return NULL;
 }
 
-/* Whether so many words can be a command's arguments. Where there may be many, none of them looks like an option. */
+/* Whether so many words can be a command's arguments. Where there may be many, none looks like an option, but --desk where it is taken. */
 static bool fits(const struct command *command, int word_count, char **words)
 {
+    bool takes_desks = (command->taken_options & TAKES_DESKS) != 0;
     if (!command->takes_more)
         return word_count == command->argument_count;
     for (int i = 0; i < word_count; i++)
-        if (strncmp(words[i], "--", 2) == 0)
+        if (strncmp(words[i], "--", 2) == 0 && !(takes_desks && is_desk_option(words[i])))
             return false;
     return word_count >= command->argument_count;
 }
@@ -401,7 +477,7 @@ static const struct option *last_option(const struct command *command, int bits,
     return NULL;
 }
 
-/* Runs a command on the words that follow its name. Options come last, in any order, each once. */
+/* Runs a command on the words that follow its name. Options but --desk come last, in any order, each once. */
 static int run(const struct command *command, int word_count, char **words)
 {
     struct options options = {.width = USUAL_WIDTH};

@@ -11,19 +11,19 @@ static void print_amount(struct rigcactus_total row)
     printf("%s%" PRIu64 ".%04" PRIu64 " %s\n", row.total < 0 ? "-" : "", distance / per_unit, distance % per_unit, row.currency);
 }
 
-/* Prints the amount of a record that was added: the total of a table with this record alone. */
+/* Prints the amount of a record that was added, at whichever desk: the total of a table with this record alone. */
 static void print_record_amount(struct slice record, int64_t offset)
 {
     uint64_t table[RIGCACTUS_TABLE_NUMBERS], report[RIGCACTUS_REPORT_NUMBERS] = {0};
     rigcactus_totals_open(table);
-    rigcactus_totals_add(table, record.bytes, record.length, offset);
-    rigcactus_totals_report(table, report);
+    rigcactus_totals_add(table, 1, record.bytes, record.length, offset);
+    rigcactus_totals_report(table, 1, report);
     print_amount(rigcactus_total_at(report, 0));
 }
 
-int print_added(uint64_t table[RIGCACTUS_TABLE_NUMBERS], const char *name, struct slice record, int64_t offset)
+int print_added(uint64_t table[RIGCACTUS_TABLE_NUMBERS], uint64_t desk, const char *name, struct slice record, int64_t offset)
 {
-    uint64_t answer = rigcactus_totals_add(table, record.bytes, record.length, offset);
+    uint64_t answer = rigcactus_totals_add(table, desk, record.bytes, record.length, offset);
     int refusal = rigcactus_refusal(answer);
     printf("%s: ", name);
     if (refusal != RIGCACTUS_ACCEPTED) {
@@ -37,10 +37,10 @@ int print_added(uint64_t table[RIGCACTUS_TABLE_NUMBERS], const char *name, struc
     return refusal;
 }
 
-void print_totals(const uint64_t table[RIGCACTUS_TABLE_NUMBERS])
+void print_totals(const uint64_t table[RIGCACTUS_TABLE_NUMBERS], uint64_t desk)
 {
     uint64_t report[RIGCACTUS_REPORT_NUMBERS] = {0};
-    size_t count = rigcactus_count(rigcactus_totals_report(table, report));
+    size_t count = rigcactus_count(rigcactus_totals_report(table, desk, report));
     printf("added      %" PRIu64 "\n", report[0]);
     printf("null       %" PRIu64 "\n", report[1]);
     printf("refused    %" PRIu64 "\n", report[2]);

@@ -35,10 +35,12 @@ const char *null_flavor_words(struct slice flavor)
 static const char *totals_advice(int refusal)
 {
     switch (refusal) {
+    case RIGCACTUS_NO_DESK:
+        return "nothing. The number that this desk was set to is neither 1 nor 2. Set it right and read the record again.";
     case RIGCACTUS_DAMAGED:
-        return "nothing. The table of this desk's totals is damaged. Open a new one, and read the records of the day again.";
+        return "nothing. The table that both desks share is damaged. Open a new one, and read the records of the day again, those of both desks.";
     case RIGCACTUS_DAY_FULL:
-        return "nothing. This desk has counted 1,000,000 records today. Open a new table, and read the record again.";
+        return "nothing. This desk has counted 1,000,000 records today. Report its totals, start its day anew, and read the record again.";
     case RIGCACTUS_NO_ROW:
         return "nothing. This desk has totals in 16 currencies today, and has no row for another. Add the record to another table.";
     case RIGCACTUS_TOTAL:

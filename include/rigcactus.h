@@ -24,9 +24,10 @@
  * - Writing. What is lent through a pointer to const is never written. Memory that a service may write must overlap no other
  *   memory that is lent to the same call; const memory may overlap const. It is written only where the input is accepted, but
  *   for one count of a table: rigcactus_totals_add raises it for a refused record too, save one that is refused as
- *   RIGCACTUS_DAMAGED or RIGCACTUS_DAY_FULL.
+ *   RIGCACTUS_NO_DESK, RIGCACTUS_DAMAGED or RIGCACTUS_DAY_FULL.
  * - Threads. There is no state but in a table, which the caller keeps, no allocation, no lock and no errno: any number of
  *   threads may call at the same time, and the same arguments, with the same numbers in a table, always give the same answer.
+ *   A table is lent as a whole, whichever desk a call is for: calls with one table are the caller's to put one after another.
  * - Lengths. A length is a size_t of 64 bits and at most PTRDIFF_MAX, as of any memory. A longer input than
  *   RIGCACTUS_MOST_BYTES is refused unread, and a longer list than RIGCACTUS_MOST_LIST_BYTES is refused by rigcactus_print. For
  *   what a service writes, RIGCACTUS_MOST_LIST_BYTES or RIGCACTUS_MOST_PRINTED_BYTES is enough, and more is no use.
@@ -66,14 +67,20 @@ extern "C" {
 /* The length of a record, in bytes, that no list needs more of to be printed: 32 stretches, open on both sides, need them all. */
 #define RIGCACTUS_MOST_PRINTED_BYTES 4735
 
-/* How many numbers of type uint64_t a table of a day's totals has, and how many the report of one. */
-#define RIGCACTUS_TABLE_NUMBERS 36
+/* How many numbers of type uint64_t a table of a day's totals has, and how many the report of a desk. */
+#define RIGCACTUS_TABLE_NUMBERS 103
 #define RIGCACTUS_REPORT_NUMBERS 35
 
-/* The most currencies that a table holds. A record in one more is refused, as RIGCACTUS_NO_ROW. */
+/* How many desks share a table. They are numbered from 1 on, and another number is refused, as RIGCACTUS_NO_DESK. */
+#define RIGCACTUS_DESKS 2
+
+/* The most currencies that a desk holds, each in a row. A record of that desk in one more is refused, as RIGCACTUS_NO_ROW. */
 #define RIGCACTUS_MOST_CURRENCIES 16
 
-/* The most records that a table counts: those added, null and refused together. One more is refused, as RIGCACTUS_DAY_FULL. */
+/*
+ * The most records of a desk that are counted: those added, null and refused together. One more is refused, as
+ * RIGCACTUS_DAY_FULL.
+ */
 #define RIGCACTUS_MOST_COUNTED 1000000
 
 /*
@@ -98,13 +105,14 @@ extern "C" {
 
 /*
  * The refusals of all services, and their numbers. Where several apply, a service gives the one that comes first in this
- * list. The list is the order, and the numbers are only names: 21 stands before 1 and 12 before 11, and a refusal that is added
+ * list. The list is the order, and the numbers are only names: 23 stands before 1 and 12 before 11, and a refusal that is added
  * later may stand anywhere. So ask whether a number equals one of these, and not whether it is smaller.
  */
 enum rigcactus_refusals {
     RIGCACTUS_ACCEPTED = 0,       /* no refusal */
+    RIGCACTUS_NO_DESK = 23,       /* a desk's number is not from 1 to RIGCACTUS_DESKS */
     RIGCACTUS_DAMAGED = 21,       /* a table is damaged; rigcactus_totals_add says exactly when */
-    RIGCACTUS_DAY_FULL = 25,      /* a table has counted RIGCACTUS_MOST_COUNTED records */
+    RIGCACTUS_DAY_FULL = 25,      /* a desk has counted RIGCACTUS_MOST_COUNTED records */
     RIGCACTUS_OFFSET = 1,         /* the agreed offset is not from -840 to 840 minutes */
     RIGCACTUS_TOO_LONG = 2,       /* the input is over RIGCACTUS_MOST_BYTES */
     RIGCACTUS_NOT_UTF8 = 3,       /* the bytes are not UTF-8 by RFC 3629 */
@@ -117,7 +125,7 @@ enum rigcactus_refusals {
     RIGCACTUS_TOO_MANY = 10,      /* a listed set has over 32 intervals */
     RIGCACTUS_NOT_WRITABLE = 12,  /* a list to print is improper, or has a tick outside years 0001 to 9999 */
     RIGCACTUS_NO_ROOM = 11,       /* the lent list is too short for the stretches, or the lent record for the bytes */
-    RIGCACTUS_NO_ROW = 16,        /* a record to add is in a new currency, and the table holds RIGCACTUS_MOST_CURRENCIES */
+    RIGCACTUS_NO_ROW = 16,        /* a record to add is in a currency new to its desk, which holds RIGCACTUS_MOST_CURRENCIES */
     RIGCACTUS_TOTAL = 17          /* a record to add would lead a total beyond RIGCACTUS_MOST_TOTAL or its negative */
 };
 
@@ -129,6 +137,7 @@ static inline const char *rigcactus_refusal_name(int refusal)
 {
     switch (refusal) {
     case RIGCACTUS_ACCEPTED: return "ACCEPTED";
+    case RIGCACTUS_NO_DESK: return "NO DESK";
     case RIGCACTUS_DAMAGED: return "DAMAGED";
     case RIGCACTUS_DAY_FULL: return "DAY FULL";
     case RIGCACTUS_OFFSET: return "OFFSET";
@@ -414,77 +423,109 @@ uint64_t rigcactus_compare(const uint8_t *first, size_t first_len, const uint8_t
 /* ---- A day's totals ----------------------------------------------------------------------------------------------- */
 
 /*
- * Opens a table for a day: an empty one. A table adds up records of money by currency, exactly, and counts them. It is memory of
- * the caller, who opens it, hands it to rigcactus_totals_add with one record after another, and to rigcactus_totals_report at
- * any time.
+ * Opens a table: an empty one, for both desks. A table adds up records of money by desk and currency, exactly, and counts them. It
+ * is memory of the caller, who opens it, hands it to rigcactus_totals_add with one record of a desk after another, to
+ * rigcactus_totals_report at any time, and to rigcactus_totals_start where one of the desks begins another day.
  *
  * table    RIGCACTUS_TABLE_NUMBERS numbers of type uint64_t, aligned as the type asks, not null. What they are before does not
  *          count. All of them become 0.
  *
  * The answer is always 0: there is no refusal.
  *
+ * The desks are 1 and 2. They share the table and nothing else: in a table that was opened, and that only these services have
+ * changed since, whatever records one desk sends, and however the calls of both are mixed, the other desk's answers, counts,
+ * totals and reports are those that it would get with a table to itself. Each has its own rows, its own counts and its own limits.
+ *
  * A table is these numbers:
  *
- *     0          how many rows are held: one for each currency, 0 to RIGCACTUS_MOST_CURRENCIES
- *     1, 2, 3    how many records were added, null, and refused; together at most RIGCACTUS_MOST_COUNTED
- *     4 to 35    the rows, two numbers each: currency and total. Those past the rows held say nothing
+ *     0           how many rows are held: one for each currency of each desk, 0 to RIGCACTUS_MOST_CURRENCIES of either
+ *     1, 2, 3     how many records of desk 1 were added, null, and refused; together at most RIGCACTUS_MOST_COUNTED
+ *     4, 5, 6     the same of desk 2
+ *     7 to 102    32 rows, three numbers each: desk, currency and total. The rows held are the first ones, those of both desks
+ *                 mixed; those past them say nothing
  *
  * A currency is its three letters, A to Z, in the three lowest bytes, the first letter lowest; the other bytes are 0: EUR is
- * 0x525545. A total is in ten-thousandths of the currency's unit, RIGCACTUS_PER_UNIT of them to one, from -RIGCACTUS_MOST_TOTAL
- * to RIGCACTUS_MOST_TOTAL, in two's complement. A table may be copied, stored and handed in again. One that no calls could have
- * made is treated like any other, if it is not damaged.
+ * 0x525545. A total is in ten-thousandths of the currency's unit, RIGCACTUS_PER_UNIT of them to one, from -RIGCACTUS_MOST_TOTAL to
+ * RIGCACTUS_MOST_TOTAL, in two's complement. A table may be copied, stored and handed in again. One that no calls could have made
+ * is treated like any other, if it is not damaged.
  */
 uint64_t rigcactus_totals_open(uint64_t table[RIGCACTUS_TABLE_NUMBERS]);
 
 /*
- * Adds a record to a table: the amount of a record of type MO to the total of its currency. rigcactus_entry of the answer is
- * RIGCACTUS_ADDED, or RIGCACTUS_NULL for a null value. Where nothing else has changed the table since it was opened, each total
- * is the sum of the amounts in that currency among the records that were added. A currency gets its row with the first record
+ * Starts a new day for one desk: its rows are given up, to be used again by either desk, and its three counts become 0. Of the
+ * other desk nothing changes but where its rows stand: they move up, in the order in which they are, so that the rows held are the
+ * first ones again. The numbers past the rows that are then held are left as they are.
+ *
+ * table    a table, as rigcactus_totals_open says.
+ * desk     the desk, from 1 to RIGCACTUS_DESKS.
+ *
+ * The answer has a refusal and nothing else: it is 0 if the day is started.
+ *
+ * Refusals: RIGCACTUS_NO_DESK; RIGCACTUS_DAMAGED, for the tables for which rigcactus_totals_add gives it. Then nothing changes, so
+ * that a damaged table is made good by rigcactus_totals_open alone.
+ */
+uint64_t rigcactus_totals_start(uint64_t table[RIGCACTUS_TABLE_NUMBERS], uint64_t desk);
+
+/*
+ * Adds a record of a desk to a table: the amount of a record of type MO to the desk's total of its currency. rigcactus_entry of
+ * the answer is RIGCACTUS_ADDED, or RIGCACTUS_NULL for a null value. Where only these services have changed the table since it was
+ * opened, each total is the sum of the amounts in that currency among the records of that desk that were added since its day
+ * started: by rigcactus_totals_start, or else when the table was opened. A currency gets its row with the first record of the desk
  * that is added in it, also with the amount 0 or -0, and keeps it at total 0.
  *
  * table                 a table, as rigcactus_totals_open says, that overlaps no part of the record.
+ * desk                  the desk that the record is of, from 1 to RIGCACTUS_DESKS.
  * record, record_len    the record, as for rigcactus_check.
  * offset                the agreed offset, as for rigcactus_check. Money has no timestamp, but another one is refused all the same.
  *
  * What changes in the table:
  *
- * - RIGCACTUS_ADDED: the count of records added, by one, and the total. For a new currency also the row after those held, and their
- *   number.
- * - RIGCACTUS_NULL: the count of null records, by one, and nothing else.
- * - A refusal, save the two that follow: the count of refused records, by one, and nothing else.
- * - RIGCACTUS_DAMAGED and RIGCACTUS_DAY_FULL: nothing at all.
+ * - RIGCACTUS_ADDED: the desk's count of records added, by one, and the total. For a currency that is new to the desk also the row
+ *   after those held, and their number.
+ * - RIGCACTUS_NULL: the desk's count of null records, by one, and nothing else.
+ * - A refusal, save the three that follow: the desk's count of refused records, by one, and nothing else.
+ * - RIGCACTUS_NO_DESK, RIGCACTUS_DAMAGED and RIGCACTUS_DAY_FULL: nothing at all.
  *
- * So the three counts together are how many records were given, but for those that were refused as RIGCACTUS_DAMAGED or
- * RIGCACTUS_DAY_FULL. Numbers past the rows that are then held are left as they are.
+ * So a desk's three counts together are how many records of it were given since its day started, but for those that were refused
+ * as RIGCACTUS_DAMAGED or RIGCACTUS_DAY_FULL. Numbers past the rows that are then held are left as they are.
  *
- * Refusals: RIGCACTUS_DAMAGED exactly if the table has over RIGCACTUS_MOST_CURRENCIES rows, in one of its rows a currency that
- * is not three letters A to Z or stands in another row too, or a total out of range, or counts whose sum is over
- * RIGCACTUS_MOST_COUNTED; RIGCACTUS_DAY_FULL exactly if that sum is RIGCACTUS_MOST_COUNTED; then those of rigcactus_check, with
- * RIGCACTUS_TYPE also for a record of another type, null or not; then RIGCACTUS_NO_ROW for a new currency where
- * RIGCACTUS_MOST_CURRENCIES are held; RIGCACTUS_TOTAL if the new total would be out of range. No calls of these services damage a
- * table that was opened.
+ * Refusals: RIGCACTUS_NO_DESK exactly if the desk's number is not from 1 to RIGCACTUS_DESKS; RIGCACTUS_DAMAGED exactly if the
+ * table has over 32 rows or one of neither desk, or if either desk, whichever is given, has over RIGCACTUS_MOST_CURRENCIES rows,
+ * in one of them a currency that is not three letters A to Z or stands in another of them too, or a total out of range, or counts
+ * whose sum is over RIGCACTUS_MOST_COUNTED; RIGCACTUS_DAY_FULL exactly if that sum is RIGCACTUS_MOST_COUNTED for the desk given;
+ * then those of rigcactus_check, with RIGCACTUS_TYPE also for a record of another type, null or not; then RIGCACTUS_NO_ROW for a
+ * currency that is new to the desk where it holds RIGCACTUS_MOST_CURRENCIES; RIGCACTUS_TOTAL if the new total would be out of
+ * range. No calls of these services damage a table that was opened.
  *
- * A day of five records of type MO: value="12.50" currency="EUR", value="3" currency="USD", nullFlavor="NASK", value="12,50"
- * currency="EUR", value="-12.5" currency="EUR". They are added, added, null, refused as RIGCACTUS_VALUE, and added. The table is
- * then 2, 3, 1, 1, 0x525545, 0, 0x445355, 30000, and 28 times 0: two rows; three added, one null, one refused; EUR 0, USD 3.
+ * A day of desk 1 of five records of type MO: value="12.50" currency="EUR", value="3" currency="USD", nullFlavor="NASK",
+ * value="12,50" currency="EUR", value="-12.5" currency="EUR". They are added, added, null, refused as RIGCACTUS_VALUE, and added.
+ * Between the first and the second comes one of desk 2, value="7.25" currency="EUR", which is added. The table is then 3, 3, 1, 1,
+ * 1, 0, 0, 1, 0x525545, 0, 2, 0x525545, 72500, 1, 0x445355, 30000, and 87 times 0: three rows; at desk 1 three added, one null,
+ * one refused, at desk 2 one added; EUR 0 of desk 1, EUR 7.25 of desk 2, USD 3 of desk 1. With rigcactus_totals_start for desk 1
+ * it becomes 1, 0, 0, 0, 1, 0, 0, 2, 0x525545, 72500, and what stood there from the eleventh number on.
  */
-uint64_t rigcactus_totals_add(uint64_t table[RIGCACTUS_TABLE_NUMBERS], const uint8_t *record, size_t record_len, int64_t offset);
+uint64_t rigcactus_totals_add(uint64_t table[RIGCACTUS_TABLE_NUMBERS], uint64_t desk, const uint8_t *record, size_t record_len,
+                              int64_t offset);
 
 /*
- * Reports a table: writes its counts, and a row for each currency, in the order in which they were first added. rigcactus_count
- * of the answer is how many rows there are: 0 to RIGCACTUS_MOST_CURRENCIES. The table is left as it is.
+ * Reports a desk's day: writes its counts, and a row for each of its currencies, in the order in which they were first added at
+ * that desk since its day started. rigcactus_count of the answer is how many rows there are: 0 to RIGCACTUS_MOST_CURRENCIES. The
+ * table is left as it is.
  *
  * table     a table, as rigcactus_totals_open says.
+ * desk      the desk, from 1 to RIGCACTUS_DESKS.
  * report    where the report goes: RIGCACTUS_REPORT_NUMBERS numbers of type uint64_t, aligned as the type asks, not null, that do
  *           not overlap the table. The first three are the counts of records added, null and refused. Then each row has two, its
  *           currency and its total, as in a table; rigcactus_total_at reads them. What lies beyond the rows is unchanged and says
  *           nothing, and after a refusal the whole report is unchanged.
  *
- * Refusals: RIGCACTUS_DAMAGED alone, for the tables for which rigcactus_totals_add gives it.
+ * Refusals: RIGCACTUS_NO_DESK; RIGCACTUS_DAMAGED, for the tables for which rigcactus_totals_add gives it.
  *
- * For the day above the count is 2, and the report begins with 3, 1, 1, 0x525545, 0, 0x445355, 30000.
+ * For the day above, before it is started anew, the count of desk 1 is 2, and its report begins with 3, 1, 1, 0x525545, 0,
+ * 0x445355, 30000. That of desk 2 has the count 1, and begins with 1, 0, 0, 0x525545, 72500.
  */
-uint64_t rigcactus_totals_report(const uint64_t table[RIGCACTUS_TABLE_NUMBERS], uint64_t report[RIGCACTUS_REPORT_NUMBERS]);
+uint64_t rigcactus_totals_report(const uint64_t table[RIGCACTUS_TABLE_NUMBERS], uint64_t desk,
+                                 uint64_t report[RIGCACTUS_REPORT_NUMBERS]);
 
 #ifdef __cplusplus
 }

@@ -356,15 +356,20 @@ expect 3 '' 'rigcactus: cannot read none: No such file or directory' compare non
 expect 3 '' 'rigcactus: cannot read none: No such file or directory' compare pass.xml none
 
 # A day's totals: a line for each file, then the counts, then a line for each currency, in the order in which they came.
-# sum NAME VALUE CURRENCY: a record of money. expect_totals STATUS LINES 'ADDED NULL REFUSED' TOTALS ERR ARGUMENT..: the lines of files, as printf takes them,
-# and the totals, each on a line.
+# sum NAME VALUE CURRENCY: a record of money. report 'ADDED NULL REFUSED' TOTALS: counts, and totals, each given on a line, as printf takes them.
+# expect_totals STATUS LINES 'ADDED NULL REFUSED' TOTALS ERR ARGUMENT..: the lines of files, as printf takes them, and the report.
 sum() { printf '<s xsi:type="MO" value="%s" currency="%s"/>' "$2" "$3" > "$1"; }
+report() {
+  local counts total
+  read -ra counts <<< "$1"
+  printf 'added      %s\\nnull       %s\\nrefused    %s\\n' "${counts[@]}"
+  while read -r total; do [ -z "$total" ] || printf 'total      %s\\n' "$total"; done <<< "$2"
+}
 expect_totals() {
-  local status=$1 lines=$2 counts total totals='' err=$5
-  read -ra counts <<< "$3"
-  while read -r total; do [ -z "$total" ] || totals+="total      $total\\n"; done <<< "$4"
+  local status=$1 lines=$2 err=$5 report
+  report=$(report "$3" "$4")
   shift 5
-  expect "$status" "${lines}added      ${counts[0]}\\nnull       ${counts[1]}\\nrefused    ${counts[2]}\\n$totals" "$err" totals "$@"
+  expect "$status" "$lines$report" "$err" totals "$@"
 }
 printf '<s xsi:type="MO" nullFlavor="UNK"/>' > null
 sum refund -12.5 EUR
@@ -437,6 +442,91 @@ expect_totals 3 '' '0 0 0' '' 'rigcactus: cannot read none: No such file or dire
 expect_totals 3 'value: VALUE (7)\ndeposit.xml: added 12.5000 EUR\n' '1 0 1' '12.5000 EUR' 'rigcactus: cannot read none: No such file or directory' value none deposit.xml
 expect_totals 3 '' '0 0 0' '' 'rigcactus: cannot read .: Is a directory' .
 
+# Two desks: the line of a file has its desk before it, and each desk that is named has its number, its counts and its totals, in the order in which desks are first named.
+# desk NUMBER 'ADDED NULL REFUSED' TOTALS: the report of a desk.
+desk() { printf 'desk       %s\\n%s' "$1" "$(report "$2" "$3")"; }
+for number in 1 2 02; do
+  expect 0 "desk ${number#0}: deposit.xml: added 12.5000 EUR\\n$(desk "${number#0}" '1 0 0' '12.5000 EUR')" '' totals --desk $number deposit.xml
+done
+expect 0 "desk 1: deposit.xml: added 12.5000 EUR\\ndesk 2: less: added -0.5000 GBP\\n$(desk 1 '1 0 0' '12.5000 EUR')$(desk 2 '1 0 0' '-0.5000 GBP')" '' \
+  totals --desk 1 deposit.xml --desk 2 less
+expect 0 "desk 2: deposit.xml: added 12.5000 EUR\\ndesk 1: less: added -0.5000 GBP\\n$(desk 2 '1 0 0' '12.5000 EUR')$(desk 1 '1 0 0' '-0.5000 GBP')" '' \
+  totals --desk 2 deposit.xml --desk 1 less --offset 120
+
+# Both have euros, each its own; a file may be of both; desks may take turns, and a desk may be named again before its own files.
+expect 0 "desk 1: deposit.xml: added 12.5000 EUR\\ndesk 2: deposit.xml: added 12.5000 EUR\\ndesk 1: dollars: added 1234.5678 USD\\ndesk 2: refund: added -12.5000 EUR
+desk 2: less: added -0.5000 GBP\\ndesk 2: least: added 0.0001 USD\\ndesk 1: deposit.xml: added 12.5000 EUR\\n$(desk 1 '3 0 0' $'25.0000 EUR\n1234.5678 USD')$(desk 2 '4 0 0' $'0.0000 EUR\n-0.5000 GBP\n0.0001 USD')" '' \
+  totals --desk 1 deposit.xml --desk 2 deposit.xml --desk 1 dollars --desk 2 refund less --desk 2 least --desk 1 deposit.xml
+
+# What is refused or null at one desk is in its counts alone, and decides how the program ends.
+expect 1 "desk 1: deposit.xml: added 12.5000 EUR\\ndesk 2: value: VALUE (7)\\ndesk 2: null: null\\ndesk 1: refund: added -12.5000 EUR\\n$(desk 1 '2 0 0' '0.0000 EUR')$(desk 2 '0 1 1' '')" '' \
+  totals --desk 1 deposit.xml --desk 2 value null --desk 1 refund
+expect 1 "desk 2: deposit.xml: OFFSET (1)\\ndesk 1: null: OFFSET (1)\\n$(desk 2 '0 0 1' '')$(desk 1 '0 0 1' '')" '' totals --desk 2 deposit.xml --desk 1 null --offset 841
+
+# A desk that is named has a report, also with no file.
+expect 0 "desk 1: deposit.xml: added 12.5000 EUR\\n$(desk 1 '1 0 0' '12.5000 EUR')$(desk 2 '0 0 0' '')" '' totals --desk 1 deposit.xml --desk 2
+expect 0 "desk 1: deposit.xml: added 12.5000 EUR\\n$(desk 2 '0 0 0' '')$(desk 1 '1 0 0' '12.5000 EUR')" '' totals --desk 2 --desk 1 deposit.xml --offset 0
+expect 0 "$(desk 2 '0 0 0' '')" '' totals --desk 2
+expect 0 "$(desk 1 '0 0 0' '')$(desk 2 '0 0 0' '')" '' totals --desk 1 --desk 2 --desk 1 --offset 0
+
+# A file of one desk that cannot be read is in no count, and the others are added all the same.
+expect 3 "desk 1: deposit.xml: added 12.5000 EUR\\ndesk 2: value: VALUE (7)\\n$(desk 2 '0 0 1' '')$(desk 1 '1 0 0' '12.5000 EUR')" 'rigcactus: cannot read none: No such file or directory' \
+  totals --desk 2 none --desk 1 deposit.xml --desk 2 value
+
+# Two desks of the examples, whose sums are 12.50 + 7.25 - 12.5, and 64.80 and 31.5. docs/HOST.md shows them.
+desks=$repository/tests/totals/desks.txt
+expect 1 "$(sed 's/$/\\n/' "$desks" | tr -d '\n')" '' totals --desk 1 deposit.xml --desk 2 dinner.xml comma.xml --desk 1 parking.xml refund.xml --desk 2 taxi.xml
+awk '/^```text$/ { n++; inside = n == 3; next } /^```$/ { inside = 0 } inside' "$repository/docs/HOST.md" | cmp -s - "$desks" || fail "totals: docs/HOST.md shows other desks"
+
+# Sixteen currencies at each desk, in turns and in two orders; one more is refused at either, also where the other desk has it.
+lines='' totals='' turned='' words=()
+for i in {0..15}; do
+  here=${currencies[i]} there=${currencies[15 - i]}
+  words+=(--desk 1 "$here" --desk 2 "$there")
+  lines+="desk 1: $here: added 1.0000 ${here#in-}AA\\ndesk 2: $there: added 1.0000 ${there#in-}AA\\n"
+  totals+="1.0000 ${here#in-}AA"$'\n'
+  turned+="1.0000 ${there#in-}AA"$'\n'
+done
+expect 0 "$lines$(desk 1 '16 0 0' "$totals")$(desk 2 '16 0 0' "$turned")" '' totals "${words[@]}"
+expect 1 "${lines}desk 1: in-Q: NO ROW (16)\\ndesk 1: in-A: added 1.0000 AAA\\ndesk 2: in-Q: NO ROW (16)\\ndesk 2: in-B: added 1.0000 BAA
+$(desk 1 '17 0 1' "${totals/1.0000 AAA/2.0000 AAA}")$(desk 2 '17 0 1' "${turned/1.0000 BAA/2.0000 BAA}")" '' totals "${words[@]}" --desk 1 in-Q in-A --desk 2 in-Q in-B
+lines=''
+for name in "${currencies[@]}"; do lines+="desk 1: $name: added 1.0000 ${name#in-}AA\\n"; done
+expect 1 "${lines}desk 2: in-Q: added 1.0000 QAA\\ndesk 1: in-Q: NO ROW (16)\\ndesk 2: in-A: added 1.0000 AAA\\n$(desk 1 '16 0 1' "$totals")$(desk 2 '2 0 0' $'1.0000 QAA\n1.0000 AAA')" '' \
+  totals --desk 1 "${currencies[@]}" --desk 2 in-Q --desk 1 in-Q --desk 2 in-A
+
+# One desk's total in euros is as large as can be, and the other's is not.
+lines=''
+for ((i = 0; i < 900; i++)); do lines+='desk 1: most-money: added 999999999999.9999 EUR\n'; done
+expect 1 "${lines}desk 1: rest: added 0.0900 EUR\\ndesk 2: one-more: added 0.0001 EUR\\ndesk 1: one-more: TOTAL (17)\\n$(desk 1 '901 0 1' '900000000000000.0000 EUR')$(desk 2 '1 0 0' '0.0001 EUR')" '' \
+  totals --desk 1 "${files[@]}" rest --desk 2 one-more --desk 1 one-more
+
+# Three files of each desk, in every order in which they can come: a desk gets what it gets alone.
+# part DESK: the lines of a desk, without its number.
+part() { sed -n "s/^desk $1: //p" out; awk -v desk="$1" '/^desk  / { inside = $2 == desk; next } inside && !/^desk /' out; }
+own=('' 'deposit.xml value zero' 'refund null deposit.xml')
+for number in 1 2; do
+  # shellcheck disable=SC2086
+  "$program" totals ${own[number]} > "alone-$number"
+done
+orders=0
+for order in {1,2}{1,2}{1,2}{1,2}{1,2}{1,2}; do
+  ones=${order//2/}
+  [ ${#ones} -eq 3 ] || continue
+  orders=$((orders + 1)) words=() next=(0 0 0)
+  for ((i = 0; i < 6; i++)); do
+    number=${order:i:1}
+    read -ra files <<< "${own[number]}"
+    words+=(--desk "$number" "${files[next[number]]}")
+    next[number]=$((next[number] + 1))
+  done
+  "$program" totals "${words[@]}" > out
+  for number in 1 2; do
+    part $number | cmp -s - "alone-$number" || fail "totals ${words[*]}: desk $number gets another answer than alone"
+  done
+done
+[ $orders -eq 20 ] || fail "totals: $orders orders of three files and three, and not 20"
+
 # Bad usage.
 printf 'abc' > in
 expect 2 '' '*'
@@ -503,6 +593,28 @@ expect 2 '' '*' totals deposit.xml --width 32
 expect 2 '' '*' totals deposit.xml --offset 0 null
 expect 2 '' '*' totals deposit.xml --offset 0 --offset 0
 
+# A desk that is none, or is not said, is found before any file is read.
+expect 2 '' "rigcactus: DESK is 1 or 2, and not '3'" totals --desk 3 deposit.xml
+expect 2 '' "rigcactus: DESK is 1 or 2, and not '3'" totals --desk 1 deposit.xml --desk 3 deposit.xml
+for number in 0 3 '' ' 1' '1 ' +1 -1 0x1 1x one deposit.xml 18446744073709551617 340282366920938463463374607431768211457; do
+  expect 2 '' "rigcactus: DESK is 1 or 2, and not '$number'" totals --desk "$number" deposit.xml
+  expect 2 '' "rigcactus: DESK is 1 or 2, and not '$number'" totals --desk 2 none --desk "$number"
+done
+expect 2 '' "rigcactus: DESK is 1 or 2, and not ''" totals --desk
+expect 2 '' "rigcactus: DESK is 1 or 2, and not ''" totals --desk 1 deposit.xml --desk
+expect 2 '' "rigcactus: DESK is 1 or 2, and not ''" totals --desk --offset 0
+expect 2 '' "rigcactus: it is not said which desk 'deposit.xml' is of: name one before the first file too, or none at all" totals deposit.xml --desk 2 null
+expect 2 '' '*' totals deposit.xml null --desk 1
+expect 2 '' '*' totals --desk 1 --offset 0 deposit.xml
+expect 2 '' '*' totals --offset 0 --desk 1 deposit.xml
+expect 2 '' '*' totals --desk 1 deposit.xml --offset 0 --desk 2 null
+expect 2 '' '*' totals --desk=1 deposit.xml
+expect 2 '' '*' totals --desks 1 deposit.xml
+expect 2 '' '*' totals --desk --desk 1 deposit.xml
+expect 2 '' '*' totals --desk 1 deposit.xml --raw
+expect 2 '' '*' check --desk 1 deposit.xml
+expect 2 '' '*' check deposit.xml --desk 1
+
 # Help, which is not an error.
 "$program" --help > out 2> err || fail '--help ended with an error'
 grep -q '^  receipt NAME SUM PASS IDENTIFIER \[--width BYTES\] \[--offset MINUTES\]$' out || fail '--help does not name the command receipt'
@@ -512,7 +624,7 @@ grep -q '^  check FILE.. \[--offset MINUTES\]$' out || fail '--help does not nam
 grep -q '^  list FILE \[--offset MINUTES\] \[--raw\]$' out || fail '--help does not name the command list'
 grep -q '^  print FILE \[--offset MINUTES\]$' out || fail '--help does not name the command print'
 grep -q '^  compare FILE FILE \[--offset MINUTES\]$' out || fail '--help does not name the command compare'
-grep -q '^  totals FILE.. \[--offset MINUTES\]$' out || fail '--help does not name the command totals'
+grep -q '^  totals \[--desk DESK\] FILE.. \[--desk DESK FILE..\].. \[--offset MINUTES\]$' out || fail '--help does not name the command totals'
 [ ! -s err ] || fail '--help wrote to standard error'
 
 # Reading and writing that fail.
@@ -532,5 +644,7 @@ printf 'abc' | "$program" cut 3 > /dev/full 2> err
 [ $? -eq 3 ] || fail 'compare pass.xml pass.xml to a full device did not end with 3'
 "$program" totals deposit.xml > /dev/full 2> err
 [ $? -eq 3 ] || fail 'totals deposit.xml to a full device did not end with 3'
+"$program" totals --desk 1 deposit.xml --desk 2 > /dev/full 2> err
+[ $? -eq 3 ] || fail 'totals --desk 1 deposit.xml --desk 2 to a full device did not end with 3'
 
 [ "$failures" -eq 0 ]

@@ -224,7 +224,7 @@ expect_pass "$(union "${moments[@]}")" "${due}Clock: UTC"
 awk '/^```text$/ { n++; inside = n == 1; next } /^```$/ { inside = 0 } inside' "$repository/docs/HOST.md" | cmp -s - "$receipts/french.txt" ||
   fail 'docs/HOST.md shows another receipt'
 
-# Refusals, from 1 to 10, with what to tell the clinic. 12 is for `rigcactus print` alone, and 16, 17, 21 and 25 are for totals. The program lends a list that is
+# Refusals, from 1 to 10, with what to tell the clinic. 12 is for `rigcactus print` alone, and 16, 17, 21, 23 and 25 are for totals. The program lends a list that is
 # long enough for every set, so 11 does not occur.
 offset='nothing. The offset that this desk was set to is not from -840 to 840 minutes. Set it right and read the record again.'
 too_long='the record is longer than 16,384 bytes. Please send a shorter one.'

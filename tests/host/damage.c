@@ -25,8 +25,9 @@ static const char *const good[RECEIPT_RECORDS] = {
 
 static unsigned long receipts = 0, refusals = 0, failures = 0;
 
-/* One table for all records: what is damaged are records, and never the table. */
+/* One table for all records, which come from the two desks in turn: what is damaged are records, and never the table. */
 static uint64_t table[RIGCACTUS_TABLE_NUMBERS];
+static uint64_t turn = 1;
 
 /* Memory of exactly this length: reading past it is seen. */
 static uint8_t *lend(size_t length)
@@ -69,19 +70,38 @@ static void print_at(struct slice record, size_t place)
     failures += place == 2 && rigcactus_refusal(due) == RIGCACTUS_ACCEPTED && refused == 1;
 }
 
-static uint64_t counted(void)
+/* The counts of a desk: of records added, null and refused. */
+static const uint64_t *counts(uint64_t desk)
 {
-    return table[1] + table[2] + table[3];
+    return table + 1 + 3 * (desk - 1);
 }
 
-/* Adds the record to the totals. One count rises; it is refused if the services say so, and else only for its type. */
+static uint64_t counted(uint64_t desk)
+{
+    return counts(desk)[0] + counts(desk)[1] + counts(desk)[2];
+}
+
+/* A report, and zeros beyond it. */
+static uint64_t report_of(uint64_t desk, uint64_t report[RIGCACTUS_REPORT_NUMBERS])
+{
+    memset(report, 0, RIGCACTUS_REPORT_NUMBERS * sizeof *report);
+    return rigcactus_totals_report(table, desk, report);
+}
+
+/*
+ * Adds the record to the totals of the desk whose turn it is. One of its counts rises; it is refused if the services say so, and else only for
+ * its type. The other desk's report stays.
+ */
 static void add_to_totals(struct slice record)
 {
-    uint64_t before = counted(), refused_before = table[3];
-    int refusal = print_added(table, "record", record, 0);
+    uint64_t desk = turn, other = RIGCACTUS_DESKS + 1 - turn, kept[RIGCACTUS_REPORT_NUMBERS], report[RIGCACTUS_REPORT_NUMBERS];
+    uint64_t before = counted(desk), refused_before = counts(desk)[2], answer = report_of(other, kept);
+    int refusal = print_added(table, desk, "record", record, 0);
     int due = rigcactus_refusal(rigcactus_check(record.bytes, record.length, 0));
-    print_totals(table);
-    failures += counted() != before + 1 || table[3] - refused_before != (refusal != RIGCACTUS_ACCEPTED);
+    print_totals(table, desk);
+    failures += counted(desk) != before + 1 || counts(desk)[2] - refused_before != (refusal != RIGCACTUS_ACCEPTED);
+    failures += report_of(other, report) != answer || memcmp(report, kept, sizeof kept) != 0;
+    turn = other;
     failures += due != RIGCACTUS_ACCEPTED && refusal != due && refusal != RIGCACTUS_TYPE;
     failures += due == RIGCACTUS_ACCEPTED && refusal != RIGCACTUS_ACCEPTED && refusal != RIGCACTUS_TYPE;
 }
@@ -142,7 +162,11 @@ int main(int argc, char **argv)
     rigcactus_totals_open(table);
     for (int i = 2; i < argc; i++)
         try_file(argv[i], (size_t)step);
+    for (uint64_t desk = 1; desk <= RIGCACTUS_DESKS; desk++) {
+        const uint64_t *of = counts(desk);
+        fprintf(stderr, "totals of desk %" PRIu64 ": %" PRIu64 " added, %" PRIu64 " null, %" PRIu64 " refused\n", desk, of[0], of[1], of[2]);
+        failures += of[0] == 0 || of[1] == 0 || of[2] == 0;
+    }
     fprintf(stderr, "%lu receipts, %lu refused, %lu failures\n", receipts, refusals, failures);
-    fprintf(stderr, "totals: %" PRIu64 " added, %" PRIu64 " null, %" PRIu64 " refused\n", table[1], table[2], table[3]);
-    return failures > 0 || refusals == 0 || refusals == receipts || table[1] == 0 || table[2] == 0 || table[3] == 0;
+    return failures > 0 || refusals == 0 || refusals == receipts;
 }
