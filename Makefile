@@ -2,7 +2,7 @@
 #
 #     make          the library (proved first) and the program, target/host/rigcactus
 #     make run      prints receipts, cuts names in several scripts, reads timestamps, checks and compares records, lists the times of passes
-#                   and prints them back as records, and adds up a day's money, for a reader to look at
+#                   and prints them back as records, and adds up a day's money, of one desk and of two, for a reader to look at
 #     make install PREFIX=..    installs the archive, the header, a file for pkg-config, the program and manual pages; DESTDIR=.. goes before
 #                   PREFIX where they are only to be put, and make uninstall takes them away
 #     make test     tries the library, the header and the program
@@ -35,13 +35,13 @@ PREFIX = /usr/local
 DESTDIR =
 INSTALL = install
 prefix = $(abspath $(PREFIX))
-version = 0.1.0
+version = 0.2.0
 records = $(wildcard tests/records/*.txt)
 proved = $(shell find crates \( -name '*.rt' -o -name '*.antt' \) -not -path '*/must-fail/*') crates.txt
 # The services that the archive has. Adding one here has tests/services.rs try it.
-services = rigcactus_cut rigcactus_tick rigcactus_check rigcactus_list rigcactus_compare rigcactus_print \
+services = rigcactus_cut rigcactus_tick rigcactus_check rigcactus_list rigcactus_compare rigcactus_print rigcactus_totals_start \
 	rigcactus_totals_open rigcactus_totals_add rigcactus_totals_report
-c_api = $(patsubst %,target/tests/c_api_%,1 2 3 4 5 6 7)
+c_api = $(patsubst %,target/tests/c_api_%,1 2 3 4 5 6 7 8)
 tests = target/tests/header_c $(c_api) target/tests/documents target/tests/services target/tests/stack target/tests/replay target/tests/planted target/tests/seeds \
 	target/tests/markup_stack target/tests/markup_reader target/tests/moment target/tests/damage
 places = 0 16 32 48

@@ -155,6 +155,7 @@ function glances() {
   glance("totals", "1 currency", "day-1", "expat", "expat, strtod")
   glance("totals", "4 currencies", "day-4", "expat", "expat, strtod")
   glance("totals", "16 currencies", "day-16", "expat", "expat, strtod")
+  glance("totals", "2 desks, 16 each", "day-16+16", "expat", "expat, strtod")
 }
 
 function growths(  lengths) {
@@ -202,8 +203,8 @@ function compares(  records) {
 }
 
 function totals(  days) {
-  days = "day-1 first-1 last-1 day-4 first-4 last-4 day-16 first-16 last-16"
-  title("Beside expat, `strtod` and an array of sums, for each record:")
+  days = "day-1 first-1 last-1 day-4 first-4 last-4 day-16 first-16 last-16 day-16+16 first-16+16 last-16+16"
+  title("Beside expat, `strtod` and an array of sums for each desk, for each record:")
   by_set("totals", "expat", days)
   title("Beside `rigcactus_check` of the same record:")
   by_set("totals", "check", days)

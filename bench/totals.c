@@ -1,26 +1,27 @@
 /*
- * A day's totals: rigcactus_totals_add beside an expat parse of each record with `strtod` and an array of sums by currency, and beside
- * rigcactus_check, which is what judging the records costs. A day has 10,000 amounts in 1, 4 or 16 currencies, one after another from an
- * empty table on; its first and its last thousand are also run by themselves, the last from where the day has come to. sides.h says how it
- * is run.
+ * A day's totals: rigcactus_totals_add beside an expat parse of each record with `strtod` and an array of sums by currency for each desk, and
+ * beside rigcactus_check, which is what judging the records costs. A day has 10,000 amounts in 1, 4 or 16 currencies of one desk, or in 16 of
+ * each of two, one after another from an empty table on; its first and its last thousand are also run by themselves, the last from where the
+ * day has come to. sides.h says how it is run.
  */
 #define _POSIX_C_SOURCE 199309L
 #include "rigcactus.h"
 #include "sides.h"
 #include "totals_expat.h"
 
-enum { DAY = 10000, PART = 1000, MOST_LENGTH = 96 };
+enum { DAY = 10000, PART = 1000, MOST_LENGTH = 96, DESKS = 2 };
 
 struct set {
     const char *name;
-    int currencies;
+    int desks, currencies;
     size_t first, count;
 };
 
 static const struct set sets[] = {
-    {"day-1", 1, 0, DAY},     {"first-1", 1, 0, PART},   {"last-1", 1, DAY - PART, PART},
-    {"day-4", 4, 0, DAY},     {"first-4", 4, 0, PART},   {"last-4", 4, DAY - PART, PART},
-    {"day-16", 16, 0, DAY},   {"first-16", 16, 0, PART}, {"last-16", 16, DAY - PART, PART},
+    {"day-1", 1, 1, 0, DAY},      {"first-1", 1, 1, 0, PART},      {"last-1", 1, 1, DAY - PART, PART},
+    {"day-4", 1, 4, 0, DAY},      {"first-4", 1, 4, 0, PART},      {"last-4", 1, 4, DAY - PART, PART},
+    {"day-16", 1, 16, 0, DAY},    {"first-16", 1, 16, 0, PART},    {"last-16", 1, 16, DAY - PART, PART},
+    {"day-16+16", 2, 16, 0, DAY}, {"first-16+16", 2, 16, 0, PART}, {"last-16+16", 2, 16, DAY - PART, PART},
 };
 
 static const char currencies[MOST_SUMS][4] = {
@@ -30,14 +31,20 @@ static const char currencies[MOST_SUMS][4] = {
 static const struct set *chosen;
 static char records[DAY][MOST_LENGTH];
 static size_t lengths[DAY];
+static uint64_t desks[DAY];
 
-/* The day of each side, and what it was when the first record of the set came. */
+/* The days of each side, and what they were when the first record of the set came. */
 static uint64_t table[RIGCACTUS_TABLE_NUMBERS], table_before[RIGCACTUS_TABLE_NUMBERS];
-static struct expat_day day, day_before;
+static struct expat_day days[DESKS], days_before[DESKS];
 
 static uint64_t add(size_t i)
 {
-    return rigcactus_totals_add(table, (const uint8_t *)records[i], lengths[i], 0);
+    return rigcactus_totals_add(table, desks[i], (const uint8_t *)records[i], lengths[i], 0);
+}
+
+static bool add_by_expat(size_t i)
+{
+    return expat_add(&days[desks[i] - 1], records[i], lengths[i]);
 }
 
 /* Each side gives 1 for a record that is added. The first one of a round begins anew. */
@@ -51,8 +58,8 @@ static int64_t rigcactus(size_t i)
 static int64_t expat(size_t i)
 {
     if (i == 0)
-        day = day_before;
-    return expat_add(&day, records[chosen->first + i], lengths[chosen->first + i]);
+        memcpy(days, days_before, sizeof days);
+    return add_by_expat(chosen->first + i);
 }
 
 static int64_t check(size_t i)
@@ -66,26 +73,28 @@ static const char *set_name(size_t set)
     return sets[set].name;
 }
 
-/* An amount of up to 999.99, one of eight a refund. */
+/* An amount of up to 999.99, one of eight a refund, of one of the desks. */
 static void make_record(size_t i)
 {
     const char *currency = currencies[below(chosen->currencies)], *sign = below(8) == 0 ? "-" : "";
+    desks[i] = chosen->desks == 1 ? 1 : 1 + (uint64_t)below(DESKS);
     lengths[i] = (size_t)snprintf(records[i], MOST_LENGTH, "<deposit xsi:type=\"MO\" value=\"%s%d.%02d\" currency=\"%s\"/>", sign,
                                   below(1000), below(100), currency);
 }
 
-/* Whether both sides have the same currencies in the same order, and sums that are the same when they are rounded to cents. */
-static bool is_agreed(void)
+/* Whether both sides have the same currencies of a desk in the same order, and sums that are the same when they are rounded to cents. */
+static bool is_agreed(uint64_t desk)
 {
     uint64_t report[RIGCACTUS_REPORT_NUMBERS];
-    uint64_t answer = rigcactus_totals_report(table, report);
+    uint64_t answer = rigcactus_totals_report(table, desk, report);
+    const struct expat_day *day = &days[desk - 1];
 
-    if (rigcactus_refusal(answer) != RIGCACTUS_ACCEPTED || rigcactus_count(answer) != day.count || report[0] != day.added)
+    if (rigcactus_refusal(answer) != RIGCACTUS_ACCEPTED || rigcactus_count(answer) != day->count || report[0] != day->added)
         return false;
-    for (size_t i = 0; i < day.count; i++) {
+    for (size_t i = 0; i < day->count; i++) {
         struct rigcactus_total row = rigcactus_total_at(report, i);
-        double off = (double)row.total / (double)RIGCACTUS_PER_UNIT - day.sums[i].sum;
-        if (strcmp(row.currency, day.sums[i].currency) != 0 || off < -0.005 || off > 0.005)
+        double off = (double)row.total / (double)RIGCACTUS_PER_UNIT - day->sums[i].sum;
+        if (strcmp(row.currency, day->sums[i].currency) != 0 || off < -0.005 || off > 0.005)
             return false;
     }
     return true;
@@ -96,17 +105,17 @@ static size_t prepare(size_t set)
 {
     chosen = &sets[set];
     rigcactus_totals_open(table);
-    day = (struct expat_day){0};
+    memset(days, 0, sizeof days);
     for (size_t i = 0; i < chosen->first + chosen->count; i++) {
         make_record(i);
         if (i == chosen->first) {
             memcpy(table_before, table, sizeof table);
-            day_before = day;
+            memcpy(days_before, days, sizeof days);
         }
-        if (rigcactus_entry(add(i)) != RIGCACTUS_ADDED || !expat_add(&day, records[i], lengths[i]))
+        if (rigcactus_entry(add(i)) != RIGCACTUS_ADDED || !add_by_expat(i))
             return 0;
     }
-    return is_agreed() ? chosen->count : 0;
+    return is_agreed(1) && is_agreed(2) ? chosen->count : 0;
 }
 
 static size_t bytes(void)

@@ -1,6 +1,6 @@
 /*
  * A day's totals as a C programmer would keep them without Rigcactus: an expat parse of each record, whose handler finds value and
- * currency, `strtod` for the value, and an array of sums by currency. Nothing is judged but the markup and that both are there.
+ * currency, `strtod` for the value, and an array of sums by currency for each desk. Nothing is judged but the markup and that both are there.
  */
 #ifndef TOTALS_EXPAT_H
 #define TOTALS_EXPAT_H
@@ -10,7 +10,7 @@
 
 enum { MOST_SUMS = 16 };
 
-/* What a day comes to: the records added, and sums by currency. */
+/* What a desk's day comes to: the records added, and sums by currency. */
 struct expat_day {
     size_t added, count;
     struct {

@@ -44,8 +44,9 @@ static void check_refusals(void)
     CHECK(RIGCACTUS_NO_ROW == 16 && is_name(16, "NO ROW"));
     CHECK(RIGCACTUS_TOTAL == 17 && is_name(17, "TOTAL"));
     CHECK(RIGCACTUS_DAMAGED == 21 && is_name(21, "DAMAGED"));
+    CHECK(RIGCACTUS_NO_DESK == 23 && is_name(23, "NO DESK"));
     CHECK(RIGCACTUS_DAY_FULL == 25 && is_name(25, "DAY FULL"));
-    static const int unlisted[] = {13, 14, 15, 18, 19, 20, 22, 23, 24, 26, 255, -1};
+    static const int unlisted[] = {13, 14, 15, 18, 19, 20, 22, 24, 26, 255, -1};
     for (size_t i = 0; i < sizeof unlisted / sizeof unlisted[0]; i++)
         CHECK(is_name(unlisted[i], "UNLISTED"));
 }
@@ -566,8 +567,9 @@ static void check_total_helpers(void)
     CHECK(is_total(report, 2, "GBP", INT64_MIN) && is_total(report, 3, "EUR", INT64_MAX) && is_total(report, 4, "USD", 0));
     CHECK(is_total(report, 5, "GBP", -RIGCACTUS_MOST_TOTAL) && is_total(report, 6, "EUR", RIGCACTUS_MOST_TOTAL));
     CHECK(sizeof rigcactus_total_at(report, 0).currency == 4);
-    CHECK(RIGCACTUS_TABLE_NUMBERS == 36 && RIGCACTUS_REPORT_NUMBERS == 35 && RIGCACTUS_MOST_CURRENCIES == 16);
-    CHECK(RIGCACTUS_TABLE_NUMBERS == 4 + 2 * RIGCACTUS_MOST_CURRENCIES && RIGCACTUS_REPORT_NUMBERS == 3 + 2 * RIGCACTUS_MOST_CURRENCIES);
+    CHECK(RIGCACTUS_TABLE_NUMBERS == 103 && RIGCACTUS_REPORT_NUMBERS == 35 && RIGCACTUS_MOST_CURRENCIES == 16 && RIGCACTUS_DESKS == 2);
+    CHECK(RIGCACTUS_TABLE_NUMBERS == 1 + RIGCACTUS_DESKS * (3 + 3 * RIGCACTUS_MOST_CURRENCIES));
+    CHECK(RIGCACTUS_REPORT_NUMBERS == 3 + 2 * RIGCACTUS_MOST_CURRENCIES);
     CHECK(RIGCACTUS_MOST_COUNTED == 1000000 && RIGCACTUS_PER_UNIT == 10000 && sizeof RIGCACTUS_PER_UNIT == 8);
     CHECK(RIGCACTUS_MOST_TOTAL == INT64_C(9000000000000000000) && sizeof RIGCACTUS_MOST_TOTAL == 8);
 }
@@ -609,13 +611,13 @@ static int is_table(const uint64_t *due, size_t due_count)
     return begin_with(lent_table, sizeof lent_table / sizeof lent_table[0], RIGCACTUS_TABLE_NUMBERS, due, due_count);
 }
 
-/* Whether a report gives this answer, and writes these numbers alone. The table stays. */
-static int is_reported(uint64_t answer, const uint64_t *due, size_t due_count)
+/* Whether a desk's report gives this answer, and writes these numbers alone. The table stays. */
+static int is_reported(uint64_t desk, uint64_t answer, const uint64_t *due, size_t due_count)
 {
     uint64_t kept[sizeof lent_table / sizeof lent_table[0]];
     memcpy(kept, lent_table, sizeof kept);
     fill(lent_report, sizeof lent_report / sizeof lent_report[0]);
-    return rigcactus_totals_report(table, report) == answer && memcmp(kept, lent_table, sizeof kept) == 0
+    return rigcactus_totals_report(table, desk, report) == answer && memcmp(kept, lent_table, sizeof kept) == 0
         && begin_with(lent_report, sizeof lent_report / sizeof lent_report[0], due_count, due, due_count);
 }
 
@@ -623,38 +625,83 @@ static int is_reported(uint64_t answer, const uint64_t *due, size_t due_count)
 #define SUM(value, currency) "<t xsi:type=\"MO\" value=\"" value "\" currency=\"" currency "\"/>"
 #define NO_SUM "<t xsi:type=\"MO\" nullFlavor=\"NASK\"/>"
 
-static uint64_t add(const char *record)
+static uint64_t add(uint64_t desk, const char *record)
 {
-    return rigcactus_totals_add(table, (const uint8_t *)record, strlen(record), 0);
+    return rigcactus_totals_add(table, desk, (const uint8_t *)record, strlen(record), 0);
 }
 
 /* Whether adding a record gives this answer and changes one number of the table alone, which goes up by one. */
-static int is_counted(const char *record, size_t record_len, int64_t offset, uint64_t answer, size_t number)
+static int is_counted(uint64_t desk, const char *record, size_t record_len, int64_t offset, uint64_t answer, size_t number)
 {
     uint64_t due[sizeof lent_table / sizeof lent_table[0]];
     memcpy(due, lent_table, sizeof due);
     due[1 + number]++;
-    return rigcactus_totals_add(table, (const uint8_t *)record, record_len, offset) == answer && memcmp(due, lent_table, sizeof due) == 0;
+    return rigcactus_totals_add(table, desk, (const uint8_t *)record, record_len, offset) == answer
+        && memcmp(due, lent_table, sizeof due) == 0;
 }
 
-/* An empty table; the day that the header shows, step by step; 0 and -0, which make a row and change none. */
+/* An empty table; a day of desk 1, step by step; 0 and -0, which make a row and change none. Desk 2 has nothing all the while. */
 static void check_totals(void)
 {
-    static const uint64_t none[] = {0, 0, 0}, one[] = {1, 1, 0, 0, EUR, 125000}, two[] = {2, 2, 0, 0, EUR, 125000, USD, 30000};
-    static const uint64_t day[] = {2, 3, 1, 1, EUR, 0, USD, 30000}, below[] = {2, 4, 1, 1, EUR, (uint64_t)-1, USD, 30000};
-    static const uint64_t more[] = {3, 6, 1, 1, EUR, (uint64_t)-1, USD, 30000, GBP, 0};
+    static const uint64_t none[] = {0, 0, 0}, one[] = {1, 1, 0, 0, 0, 0, 0, 1, EUR, 125000}, one_report[] = {1, 0, 0, EUR, 125000};
+    static const uint64_t two[] = {2, 2, 0, 0, 0, 0, 0, 1, EUR, 125000, 1, USD, 30000}, two_report[] = {2, 0, 0, EUR, 125000, USD, 30000};
+    static const uint64_t day[] = {2, 3, 1, 1, 0, 0, 0, 1, EUR, 0, 1, USD, 30000}, day_report[] = {3, 1, 1, EUR, 0, USD, 30000};
+    static const uint64_t more[] = {3, 6, 1, 1, 0, 0, 0, 1, EUR, (uint64_t)-1, 1, USD, 30000, 1, GBP, 0};
+    static const uint64_t more_report[] = {6, 1, 1, EUR, (uint64_t)-1, USD, 30000, GBP, 0};
     open_table();
-    CHECK(is_table(none, 0) && is_reported(0, NUMBERS(none)));
-    CHECK(add(SUM("12.50", "EUR")) == 0x100 && is_table(NUMBERS(one)) && is_reported(0x100, one + 1, 5));
-    CHECK(add(SUM("3", "USD")) == 0x100 && is_table(NUMBERS(two)) && is_reported(0x200, two + 1, 7));
-    CHECK(is_counted(NO_SUM, strlen(NO_SUM), 0, 0x200, 2));
-    CHECK(is_counted(SUM("12,50", "EUR"), strlen(SUM("12,50", "EUR")), 0, RIGCACTUS_VALUE, 3));
-    CHECK(add(SUM("-12.5", "EUR")) == 0x100 && is_table(NUMBERS(day)) && is_reported(0x200, day + 1, 7));
-    CHECK(rigcactus_count(rigcactus_totals_report(table, report)) == 2 && is_total(report, 0, "EUR", 0) && is_total(report, 1, "USD", 30000));
-    CHECK(add(SUM("-0.0001", "EUR")) == 0x100 && is_table(NUMBERS(below)) && is_reported(0x200, below + 1, 7) && is_total(report, 0, "EUR", -1));
-    CHECK(add(SUM("-0", "GBP")) == 0x100 && add(SUM("0.0", "EUR")) == 0x100 && is_table(NUMBERS(more)) && is_reported(0x300, more + 1, 9));
+    CHECK(is_table(none, 0) && is_reported(1, 0, NUMBERS(none)) && is_reported(2, 0, NUMBERS(none)));
+    CHECK(add(1, SUM("12.50", "EUR")) == 0x100 && is_table(NUMBERS(one)) && is_reported(1, 0x100, NUMBERS(one_report)));
+    CHECK(add(1, SUM("3", "USD")) == 0x100 && is_table(NUMBERS(two)) && is_reported(1, 0x200, NUMBERS(two_report)));
+    CHECK(is_counted(1, NO_SUM, strlen(NO_SUM), 0, 0x200, 2));
+    CHECK(is_counted(1, SUM("12,50", "EUR"), strlen(SUM("12,50", "EUR")), 0, RIGCACTUS_VALUE, 3));
+    CHECK(add(1, SUM("-12.5", "EUR")) == 0x100 && is_table(NUMBERS(day)) && is_reported(1, 0x200, NUMBERS(day_report)));
+    CHECK(rigcactus_count(rigcactus_totals_report(table, 1, report)) == 2 && is_total(report, 0, "EUR", 0) && is_total(report, 1, "USD", 30000));
+    CHECK(add(1, SUM("-0.0001", "EUR")) == 0x100 && add(1, SUM("-0", "GBP")) == 0x100 && add(1, SUM("0.0", "EUR")) == 0x100);
+    CHECK(is_table(NUMBERS(more)) && is_reported(1, 0x300, NUMBERS(more_report)) && is_total(report, 0, "EUR", -1));
+    CHECK(is_reported(2, 0, NUMBERS(none)));
     open_table();
     CHECK(is_table(none, 0));
+}
+
+/* Two desks: the same currency for both, rows in the order in which they came, and what a start of each does to the table. */
+static void check_desks(void)
+{
+    static const uint64_t both[] = {4, 2, 1, 0, 2, 0, 1, 1, EUR, 125000, 2, EUR, 72500, 2, USD, 10000, 1, USD, 30000};
+    static const uint64_t one[] = {2, 1, 0, EUR, 125000, USD, 30000}, two[] = {2, 0, 1, EUR, 72500, USD, 10000}, none[] = {0, 0, 0};
+    static const uint64_t without_one[] = {2, 0, 0, 0, 2, 0, 1, 2, EUR, 72500, 2, USD, 10000, 2, USD, 10000, 1, USD, 30000};
+    static const uint64_t again[] = {3, 1, 0, 0, 2, 0, 1, 2, EUR, 72500, 2, USD, 10000, 1, GBP, 10000, 1, USD, 30000};
+    static const uint64_t without_two[] = {1, 1, 0, 0, 0, 0, 0, 1, GBP, 10000, 2, USD, 10000, 1, GBP, 10000, 1, USD, 30000};
+    static const uint64_t one_again[] = {1, 0, 0, GBP, 10000};
+    open_table();
+    CHECK(add(1, SUM("12.50", "EUR")) == 0x100 && add(2, SUM("7.25", "EUR")) == 0x100 && add(2, SUM("1", "USD")) == 0x100);
+    CHECK(add(1, NO_SUM) == 0x200 && add(2, SUM("1", "usd")) == RIGCACTUS_VALUE && add(1, SUM("3", "USD")) == 0x100);
+    CHECK(is_table(NUMBERS(both)) && is_reported(1, 0x200, NUMBERS(one)) && is_reported(2, 0x200, NUMBERS(two)));
+    CHECK(rigcactus_totals_start(table, 1) == 0 && is_table(NUMBERS(without_one)));
+    CHECK(is_reported(1, 0, NUMBERS(none)) && is_reported(2, 0x200, NUMBERS(two)));
+    CHECK(add(1, SUM("1", "GBP")) == 0x100 && is_table(NUMBERS(again)) && is_reported(2, 0x200, NUMBERS(two)));
+    CHECK(rigcactus_totals_start(table, 2) == 0 && is_table(NUMBERS(without_two)));
+    CHECK(is_reported(2, 0, NUMBERS(none)) && is_reported(1, 0x100, NUMBERS(one_again)));
+}
+
+/* Numbers that are no desk: nothing changes, with a damaged table, a full day and a bad offset too. */
+static void check_no_desk(void)
+{
+    static const uint64_t desks[] = {0, 3, 257, (UINT64_C(1) << 32) + 1, UINT64_C(1) << 63, UINT64_MAX};
+    static const uint64_t good[] = {1, 1, 0, 0, 0, 0, 0, 1, EUR, 0}, full[] = {0, 1000000, 0, 0, 0, 0, 1000000};
+    static const uint64_t damaged[] = {1, 1, 0, 0, 0, 0, 0, 3, EUR, 0};
+    static const struct {
+        const uint64_t *numbers;
+        size_t count;
+    } tables[] = {{NUMBERS(good)}, {NUMBERS(full)}, {NUMBERS(damaged)}};
+    for (size_t i = 0; i < sizeof desks / sizeof desks[0]; i++)
+        for (size_t j = 0; j < sizeof tables / sizeof tables[0]; j++) {
+            open_table();
+            memcpy(table, tables[j].numbers, 8 * tables[j].count);
+            CHECK(add(desks[i], SUM("1", "EUR")) == RIGCACTUS_NO_DESK && add(desks[i], "") == RIGCACTUS_NO_DESK);
+            CHECK(rigcactus_totals_add(table, desks[i], NULL, 0, 841) == RIGCACTUS_NO_DESK);
+            CHECK(rigcactus_totals_start(table, desks[i]) == RIGCACTUS_NO_DESK);
+            CHECK(is_reported(desks[i], RIGCACTUS_NO_DESK, NULL, 0) && is_table(tables[j].numbers, tables[j].count));
+        }
 }
 
 /* One record for each number that checking can give, and records of other types: each is counted, and changes nothing else. */
@@ -680,97 +727,121 @@ static void check_totals_refusals(void)
     };
     static char padded[RIGCACTUS_MOST_BYTES + 1];
     open_table();
-    CHECK(add(SUM("1", "EUR")) == 0x100);
+    CHECK(add(1, SUM("1", "EUR")) == 0x100);
     for (size_t i = 0; i < sizeof refused / sizeof refused[0]; i++)
-        CHECK(is_counted(refused[i].record, strlen(refused[i].record), 0, (uint64_t)refused[i].refusal, 3));
-    CHECK(is_counted(NULL, 0, 0, RIGCACTUS_MARKUP, 3));
-    CHECK(is_counted(NO_SUM, strlen(NO_SUM), 841, RIGCACTUS_OFFSET, 3) && is_counted(NULL, 0, INT64_MIN, RIGCACTUS_OFFSET, 3));
+        CHECK(is_counted(1, refused[i].record, strlen(refused[i].record), 0, (uint64_t)refused[i].refusal, 3)
+              && is_counted(2, refused[i].record, strlen(refused[i].record), 0, (uint64_t)refused[i].refusal, 6));
+    CHECK(is_counted(1, NULL, 0, 0, RIGCACTUS_MARKUP, 3));
+    CHECK(is_counted(1, NO_SUM, strlen(NO_SUM), 841, RIGCACTUS_OFFSET, 3) && is_counted(1, NULL, 0, INT64_MIN, RIGCACTUS_OFFSET, 3));
     memset(padded, ' ', sizeof padded);
     memcpy(padded, NO_SUM, strlen(NO_SUM));
-    CHECK(is_counted(padded, 16384, -840, 0x200, 2));
-    CHECK(is_counted(padded, 16385, 840, RIGCACTUS_TOO_LONG, 3) && is_counted(padded, 16385, -841, RIGCACTUS_OFFSET, 3));
-    CHECK(table[0] == 1 && table[1] == 1 && table[2] == 1 && table[3] == 18 && table[5] == 10000);
+    CHECK(is_counted(1, padded, 16384, -840, 0x200, 2));
+    CHECK(is_counted(1, padded, 16385, 840, RIGCACTUS_TOO_LONG, 3) && is_counted(1, padded, 16385, -841, RIGCACTUS_OFFSET, 3));
+    CHECK(table[0] == 1 && table[1] == 1 && table[2] == 1 && table[3] == 18 && table[9] == 10000);
 }
 
-/* Sixteen rows, in the order in which they came, and a currency more; what stands past the rows held is left as it is. */
+/* Sixteen rows of each desk, in the order in which they came, and a currency more; what stands past the rows held is left as it is. */
 static void check_totals_rows(void)
 {
     char record[] = SUM("1", "AAA");
     char *letter = strstr(record, "AAA");
     open_table();
-    for (char c = 'P'; c >= 'A'; c--) {
-        fill(table + 4 + 2 * table[0], RIGCACTUS_TABLE_NUMBERS - 4 - 2 * table[0]);
-        *letter = c;
-        CHECK(add(record) == 0x100 && table[0] == (uint64_t)('P' - c + 1));
-        for (size_t i = 4 + 2 * table[0]; i < RIGCACTUS_TABLE_NUMBERS; i++)
-            CHECK(table[i] == FILLED);
+    for (int i = 0; i < 32; i++) {
+        fill(table + 7 + 3 * table[0], RIGCACTUS_TABLE_NUMBERS - 7 - 3 * table[0]);
+        *letter = (char)('P' - i / 2);
+        CHECK(add(1 + i % 2, record) == 0x100 && table[0] == (uint64_t)i + 1);
+        for (size_t j = 7 + 3 * table[0]; j < RIGCACTUS_TABLE_NUMBERS; j++)
+            CHECK(table[j] == FILLED);
     }
     *letter = 'Q';
-    CHECK(is_counted(record, strlen(record), 0, RIGCACTUS_NO_ROW, 3));
+    CHECK(is_counted(1, record, strlen(record), 0, RIGCACTUS_NO_ROW, 3) && is_counted(2, record, strlen(record), 0, RIGCACTUS_NO_ROW, 6));
     *letter = 'A';
-    CHECK(add(record) == 0x100 && rigcactus_totals_report(table, report) == 0x1000);
+    CHECK(add(1, record) == 0x100 && rigcactus_totals_report(table, 1, report) == 0x1000);
     CHECK(report[0] == 17 && report[1] == 0 && report[2] == 1 && is_total(report, 0, "PAA", 10000) && is_total(report, 15, "AAA", 20000));
-    lent_table[1 + RIGCACTUS_TABLE_NUMBERS] = EUR; /* as a row after the last would be */
-    lent_table[1 + RIGCACTUS_TABLE_NUMBERS + 1] = 0;
-    table[0] = RIGCACTUS_MOST_CURRENCIES + 1;
-    CHECK(add(record) == RIGCACTUS_DAMAGED && is_reported(RIGCACTUS_DAMAGED, NULL, 0));
+    CHECK(rigcactus_totals_report(table, 2, report) == 0x1000 && is_total(report, 0, "PAA", 10000) && is_total(report, 15, "AAA", 10000));
+    lent_table[1 + RIGCACTUS_TABLE_NUMBERS] = 1; /* as a row after the last would be */
+    lent_table[1 + RIGCACTUS_TABLE_NUMBERS + 1] = EUR;
+    table[0] = 33;
+    CHECK(add(1, record) == RIGCACTUS_DAMAGED && is_reported(1, RIGCACTUS_DAMAGED, NULL, 0) && rigcactus_totals_start(table, 2) == RIGCACTUS_DAMAGED);
+    table[0] = 32;
+    CHECK(rigcactus_totals_start(table, 1) == 0 && table[0] == 16 && rigcactus_totals_report(table, 2, report) == 0x1000);
+    *letter = 'Q';
+    CHECK(add(1, record) == 0x100 && is_counted(2, record, strlen(record), 0, RIGCACTUS_NO_ROW, 6));
 }
 
-/* Both ends of a total, and of a day. */
+/* Both ends of a total, and of a day: those of one desk are not the other's. */
 static void check_totals_limits(void)
 {
-    static const uint64_t full[] = {1, 999998, 1, 1, EUR, 0};
+    static const uint64_t full[] = {1, 999998, 1, 1, 0, 0, 0, 1, EUR, 0}, full_report[] = {999998, 1, 1, EUR, 0};
     open_table();
-    CHECK(add(SUM("999999999999.9999", "EUR")) == 0x100 && table[5] == UINT64_C(9999999999999999));
-    table[5] = (uint64_t)RIGCACTUS_MOST_TOTAL - 1;
-    CHECK(add(SUM("0.0001", "EUR")) == 0x100 && is_counted(SUM("0.0001", "EUR"), strlen(SUM("0.0001", "EUR")), 0, RIGCACTUS_TOTAL, 3));
-    CHECK(rigcactus_totals_report(table, report) == 0x100 && is_total(report, 0, "EUR", RIGCACTUS_MOST_TOTAL));
-    CHECK(add(SUM("0", "EUR")) == 0x100 && add(SUM("-999999999999.9999", "EUR")) == 0x100 && table[5] == UINT64_C(8990000000000000001));
-    table[5] = 1 - (uint64_t)RIGCACTUS_MOST_TOTAL;
-    CHECK(add(SUM("-0.0001", "EUR")) == 0x100 && is_counted(SUM("-0.0001", "EUR"), strlen(SUM("-0.0001", "EUR")), 0, RIGCACTUS_TOTAL, 3));
-    CHECK(rigcactus_totals_report(table, report) == 0x100 && is_total(report, 0, "EUR", -RIGCACTUS_MOST_TOTAL));
+    CHECK(add(1, SUM("999999999999.9999", "EUR")) == 0x100 && table[9] == UINT64_C(9999999999999999));
+    table[9] = (uint64_t)RIGCACTUS_MOST_TOTAL - 1;
+    CHECK(add(1, SUM("0.0001", "EUR")) == 0x100 && is_counted(1, SUM("0.0001", "EUR"), strlen(SUM("0.0001", "EUR")), 0, RIGCACTUS_TOTAL, 3));
+    CHECK(rigcactus_totals_report(table, 1, report) == 0x100 && is_total(report, 0, "EUR", RIGCACTUS_MOST_TOTAL));
+    CHECK(add(1, SUM("0", "EUR")) == 0x100 && add(1, SUM("-999999999999.9999", "EUR")) == 0x100 && table[9] == UINT64_C(8990000000000000001));
+    table[9] = 1 - (uint64_t)RIGCACTUS_MOST_TOTAL;
+    CHECK(add(1, SUM("-0.0001", "EUR")) == 0x100 && is_counted(1, SUM("-0.0001", "EUR"), strlen(SUM("-0.0001", "EUR")), 0, RIGCACTUS_TOTAL, 3));
+    CHECK(rigcactus_totals_report(table, 1, report) == 0x100 && is_total(report, 0, "EUR", -RIGCACTUS_MOST_TOTAL));
+    CHECK(add(2, SUM("-0.0001", "EUR")) == 0x100 && rigcactus_totals_report(table, 2, report) == 0x100 && is_total(report, 0, "EUR", -1));
 
     open_table();
     memcpy(table, full, sizeof full);
     table[1] = 999997;
-    CHECK(add(SUM("0", "EUR")) == 0x100 && is_table(NUMBERS(full)));
-    CHECK(add(SUM("1", "EUR")) == RIGCACTUS_DAY_FULL && add(NO_SUM) == RIGCACTUS_DAY_FULL && add("") == RIGCACTUS_DAY_FULL);
-    CHECK(rigcactus_totals_add(table, NULL, 0, 841) == RIGCACTUS_DAY_FULL && is_table(NUMBERS(full)) && is_reported(0x100, full + 1, 5));
+    CHECK(add(1, SUM("0", "EUR")) == 0x100 && is_table(NUMBERS(full)));
+    CHECK(add(1, SUM("1", "EUR")) == RIGCACTUS_DAY_FULL && add(1, NO_SUM) == RIGCACTUS_DAY_FULL && add(1, "") == RIGCACTUS_DAY_FULL);
+    CHECK(rigcactus_totals_add(table, 1, NULL, 0, 841) == RIGCACTUS_DAY_FULL && is_table(NUMBERS(full)));
+    CHECK(is_reported(1, 0x100, NUMBERS(full_report)) && is_counted(2, NO_SUM, strlen(NO_SUM), 0, 0x200, 5));
+    CHECK(rigcactus_totals_start(table, 1) == 0 && add(1, NO_SUM) == 0x200);
 }
 
 /*
- * What adding is refused for, with a table of two rows, EUR and USD, and counts 1, 1, 1, of which one number is changed; -1 if reporting
- * does not agree, or the table changes where it must not or stays where it must change.
+ * What adding is refused for, with a table of two rows for each desk, EUR and USD, and counts 1, 1, 1, of which one number is changed; -1 if
+ * reporting or starting does not agree, for either desk, or the table changes where it must not or stays where it must change.
  */
 static int with(size_t index, uint64_t number)
 {
-    static const uint64_t good[] = {2, 1, 1, 1, EUR, 0, USD, 0};
+    static const uint64_t good[] = {4, 1, 1, 1, 1, 1, 1, 1, EUR, 0, 2, EUR, 0, 1, USD, 0, 2, USD, 0};
     uint64_t kept[sizeof lent_table / sizeof lent_table[0]];
     open_table();
     memcpy(table, good, sizeof good);
     table[index] = number;
     memcpy(kept, lent_table, sizeof kept);
-    int damaged = is_reported(RIGCACTUS_DAMAGED, NULL, 0);
-    int refusal = rigcactus_refusal(rigcactus_totals_add(table, NULL, 0, 841));
+    int damaged = is_reported(1, RIGCACTUS_DAMAGED, NULL, 0);
+    int refusal = rigcactus_refusal(rigcactus_totals_add(table, index < 4 ? 1 : 2, NULL, 0, 841));
     int stays = memcmp(kept, lent_table, sizeof kept) == 0;
     int agrees = damaged == (refusal == RIGCACTUS_DAMAGED) && stays == (damaged || refusal == RIGCACTUS_DAY_FULL);
+    memcpy(lent_table, kept, sizeof kept);
+    agrees = agrees && damaged == is_reported(2, RIGCACTUS_DAMAGED, NULL, 0);
+    for (uint64_t desk = 1; desk <= 2; desk++) {
+        memcpy(lent_table, kept, sizeof kept);
+        uint64_t started = rigcactus_totals_start(table, desk);
+        agrees = agrees && started == (damaged ? (uint64_t)RIGCACTUS_DAMAGED : 0) && (memcmp(kept, lent_table, sizeof kept) == 0) == damaged;
+    }
     return agrees ? refusal : -1;
 }
 
-/* Clause by clause, with what is just not damaged beside what is. The agreed offset is out of range, for which 21 does not wait. */
+/*
+ * Clause by clause, with what is just not damaged beside what is, in the part of each desk. The agreed offset is out of range, for which 21 does
+ * not wait.
+ */
 static void check_damaged(void)
 {
     enum { GOOD = RIGCACTUS_OFFSET, BAD = RIGCACTUS_DAMAGED };
-    CHECK(with(0, 2) == GOOD && with(0, 0) == GOOD && with(0, 1) == GOOD && with(0, 3) == BAD && with(0, 16) == BAD);
-    CHECK(with(0, 17) == BAD && with(0, UINT64_MAX) == BAD && with(0, (UINT64_C(1) << 32) + 1) == BAD && with(0, (UINT64_C(1) << 63) + 1) == BAD);
-    CHECK(with(4, GBP) == GOOD && with(4, 0x5A4141) == GOOD && with(4, 0x5B4141) == BAD && with(4, 0x404141) == BAD && with(4, 0x415B41) == BAD);
-    CHECK(with(4, 0x525565) == BAD && with(4, 0x5545) == BAD && with(4, 0) == BAD && with(4, 0x455552) == GOOD);
-    CHECK(with(4, EUR + (UINT64_C(1) << 24)) == BAD && with(4, EUR + (UINT64_C(1) << 63)) == BAD && with(4, EUR + (UINT64_C(0x41) << 24)) == BAD);
-    CHECK(with(4, USD) == BAD && with(6, EUR) == BAD && with(8, EUR) == GOOD && with(8, 1) == GOOD && with(9, UINT64_C(1) << 63) == GOOD);
-    CHECK(with(5, (uint64_t)RIGCACTUS_MOST_TOTAL) == GOOD && with(5, (uint64_t)RIGCACTUS_MOST_TOTAL + 1) == BAD && with(7, INT64_MAX) == BAD);
-    CHECK(with(5, 0 - (uint64_t)RIGCACTUS_MOST_TOTAL) == GOOD && with(5, 0 - (uint64_t)RIGCACTUS_MOST_TOTAL - 1) == BAD);
-    CHECK(with(7, UINT64_C(1) << 63) == BAD && with(7, UINT64_MAX) == GOOD);
-    for (size_t count = 1; count <= 3; count++) {
+    CHECK(with(0, 4) == GOOD && with(0, 0) == GOOD && with(0, 3) == GOOD && with(0, 5) == BAD && with(0, 32) == BAD && with(0, 33) == BAD);
+    CHECK(with(0, UINT64_MAX) == BAD && with(0, (UINT64_C(1) << 32) + 1) == BAD && with(0, (UINT64_C(1) << 63) + 1) == BAD);
+    for (size_t row = 7; row <= 10; row += 3) {
+        CHECK(with(row, 0) == BAD && with(row, 3) == BAD && with(row, 257) == BAD && with(row, UINT64_C(1) << 63) == BAD && with(row, UINT64_MAX) == BAD);
+        CHECK(with(row + 1, GBP) == GOOD && with(row + 1, 0x5A4141) == GOOD && with(row + 1, 0x5B4141) == BAD && with(row + 1, 0x404141) == BAD);
+        CHECK(with(row + 1, 0x415B41) == BAD && with(row + 1, 0x525565) == BAD && with(row + 1, 0x5545) == BAD && with(row + 1, 0) == BAD);
+        CHECK(with(row + 1, 0x455552) == GOOD && with(row + 1, EUR + (UINT64_C(1) << 24)) == BAD && with(row + 1, EUR + (UINT64_C(1) << 63)) == BAD);
+        CHECK(with(row + 1, USD) == BAD && with(row + 7, EUR) == BAD && with(row + 7, GBP) == GOOD);
+        CHECK(with(row + 2, (uint64_t)RIGCACTUS_MOST_TOTAL) == GOOD && with(row + 2, (uint64_t)RIGCACTUS_MOST_TOTAL + 1) == BAD);
+        CHECK(with(row + 2, 0 - (uint64_t)RIGCACTUS_MOST_TOTAL) == GOOD && with(row + 2, 0 - (uint64_t)RIGCACTUS_MOST_TOTAL - 1) == BAD);
+        CHECK(with(row + 2, UINT64_C(1) << 63) == BAD && with(row + 2, INT64_MAX) == BAD && with(row + 2, UINT64_MAX) == GOOD);
+    }
+    CHECK(with(7, 2) == BAD && with(10, 1) == BAD); /* EUR twice at one desk */
+    CHECK(with(19, 3) == GOOD && with(20, EUR) == GOOD && with(20, 1) == GOOD && with(21, UINT64_C(1) << 63) == GOOD);
+    for (size_t count = 1; count <= 6; count++) {
         CHECK(with(count, 999997) == GOOD && with(count, 999998) == RIGCACTUS_DAY_FULL && with(count, 999999) == BAD);
         CHECK(with(count, UINT64_MAX) == BAD && with(count, UINT64_MAX - 1) == BAD && with(count, UINT64_C(1) << 63) == BAD);
         CHECK(with(count, UINT64_C(1) << 32) == BAD);
@@ -801,6 +872,8 @@ int main(void)
     check_compare_limits();
     check_total_helpers();
     check_totals();
+    check_desks();
+    check_no_desk();
     check_totals_refusals();
     check_totals_rows();
     check_totals_limits();

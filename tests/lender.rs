@@ -1,6 +1,7 @@
 //! The functions of daily totals as a host links them, each called with memory that is lent so that a read or a write beside it shows.
 
 use crate::lent::{Fenced, Guarded};
+use crate::money::Given;
 use crate::random::Random;
 use crate::records::LONGEST;
 
@@ -18,47 +19,63 @@ pub struct Outcome {
 #[cfg(rigcactus_totals_add)]
 extern "C" {
     fn rigcactus_totals_open(table: *mut u64) -> u64;
-    fn rigcactus_totals_add(table: *mut u64, record: *const u8, record_len: usize, offset: i64) -> u64;
-    fn rigcactus_totals_report(table: *const u64, report: *mut u64) -> u64;
+    fn rigcactus_totals_start(table: *mut u64, desk: u64) -> u64;
+    fn rigcactus_totals_add(table: *mut u64, desk: u64, record: *const u8, record_len: usize, offset: i64) -> u64;
+    fn rigcactus_totals_report(table: *const u64, desk: u64, report: *mut u64) -> u64;
 }
 
 #[cfg(rigcactus_totals_add)]
 fn open(table: &mut [u64], _: &Outcome) -> u64 {
-    assert!(table.len() == 36);
-    // SAFETY: the pointer leads to 36 numbers that can be written.
+    assert!(table.len() == 103);
+    // SAFETY: the pointer leads to 103 numbers that can be written.
     unsafe { rigcactus_totals_open(table.as_mut_ptr()) }
 }
 
 #[cfg(rigcactus_totals_add)]
-fn add(table: &mut [u64], record: &[u8], offset: i64, _: &Outcome) -> u64 {
-    assert!(table.len() == 36);
-    // SAFETY: the pointers lead to 36 numbers that can be written, and to so many bytes that are no part of them.
-    unsafe { rigcactus_totals_add(table.as_mut_ptr(), record.as_ptr(), record.len(), offset) }
+fn start(table: &mut [u64], desk: u64, _: &Outcome) -> u64 {
+    assert!(table.len() == 103);
+    // SAFETY: the pointer leads to 103 numbers that can be written.
+    unsafe { rigcactus_totals_start(table.as_mut_ptr(), desk) }
 }
 
 #[cfg(rigcactus_totals_add)]
-fn report(table: &[u8], report: &mut [u64], _: &Outcome) -> u64 {
-    assert!(table.len() == 8 * 36 && table.as_ptr().cast::<u64>().is_aligned() && report.len() == 35);
-    // SAFETY: the pointers lead to 36 numbers, and to 35 that can be written and are no part of them.
-    unsafe { rigcactus_totals_report(table.as_ptr().cast(), report.as_mut_ptr()) }
+fn add(table: &mut [u64], desk: u64, record: &[u8], offset: i64, _: &Outcome) -> u64 {
+    assert!(table.len() == 103);
+    // SAFETY: the pointers lead to 103 numbers that can be written, and to so many bytes that are no part of them.
+    unsafe { rigcactus_totals_add(table.as_mut_ptr(), desk, record.as_ptr(), record.len(), offset) }
+}
+
+#[cfg(rigcactus_totals_add)]
+fn report(table: &[u8], desk: u64, report: &mut [u64], _: &Outcome) -> u64 {
+    assert!(table.len() == 8 * 103 && table.as_ptr().cast::<u64>().is_aligned() && report.len() == 35);
+    // SAFETY: the pointers lead to 103 numbers, and to 35 that can be written and are no part of them.
+    unsafe { rigcactus_totals_report(table.as_ptr().cast(), desk, report.as_mut_ptr()) }
+}
+
+#[cfg(not(rigcactus_totals_add))]
+fn due_written(numbers: &mut [u64], due: &Outcome) -> u64 {
+    numbers.copy_from_slice(&due.numbers);
+    due.answer
 }
 
 #[cfg(not(rigcactus_totals_add))]
 fn open(table: &mut [u64], due: &Outcome) -> u64 {
-    table.copy_from_slice(&due.numbers);
-    due.answer
+    due_written(table, due)
 }
 
 #[cfg(not(rigcactus_totals_add))]
-fn add(table: &mut [u64], _: &[u8], _: i64, due: &Outcome) -> u64 {
-    table.copy_from_slice(&due.numbers);
-    due.answer
+fn start(table: &mut [u64], _: u64, due: &Outcome) -> u64 {
+    due_written(table, due)
 }
 
 #[cfg(not(rigcactus_totals_add))]
-fn report(_: &[u8], report: &mut [u64], due: &Outcome) -> u64 {
-    report.copy_from_slice(&due.numbers);
-    due.answer
+fn add(table: &mut [u64], _: u64, _: &[u8], _: i64, due: &Outcome) -> u64 {
+    due_written(table, due)
+}
+
+#[cfg(not(rigcactus_totals_add))]
+fn report(_: &[u8], _: u64, report: &mut [u64], due: &Outcome) -> u64 {
+    due_written(report, due)
 }
 
 /// What guards are made of: bytes that would go on with a record, letters, and bytes of numbers.
@@ -87,9 +104,9 @@ pub struct Lender {
 impl Lender {
     pub fn new() -> Lender {
         Lender {
-            guarded_numbers: Guarded::new(8 * 36),
+            guarded_numbers: Guarded::new(8 * 103),
             guarded_bytes: Guarded::new(LONGEST),
-            fenced_numbers: Fenced::new(8 * 36),
+            fenced_numbers: Fenced::new(8 * 103),
             fenced_bytes: Fenced::new(LONGEST),
         }
     }
@@ -99,16 +116,21 @@ impl Lender {
         self.lend(table, &[], 0, random, &|table, _| open(table, due))
     }
 
-    /// Adds a record to a table. None also where the record was changed.
-    pub fn add(&mut self, table: &[u64], record: &[u8], offset: i64, due: &Outcome, random: &mut Random) -> Option<Outcome> {
-        let shift = random.below(64);
-        self.lend(table, record, shift, random, &|table, record| add(table, record, offset, due))
+    /// Starts a desk's day.
+    pub fn start(&mut self, table: &[u64], desk: u64, due: &Outcome, random: &mut Random) -> Option<Outcome> {
+        self.lend(table, &[], 0, random, &|table, _| start(table, desk, due))
     }
 
-    /// Has a table reported. None also where the table was changed.
-    pub fn report(&mut self, table: &[u64], before: &[u64], due: &Outcome, random: &mut Random) -> Option<Outcome> {
+    /// Adds a record of a desk to a table. None also where the record was changed.
+    pub fn add(&mut self, table: &[u64], desk: u64, given: &Given, due: &Outcome, random: &mut Random) -> Option<Outcome> {
+        let shift = random.below(64);
+        self.lend(table, &given.0, shift, random, &|table, record| add(table, desk, record, given.1, due))
+    }
+
+    /// Has a desk's part of a table reported. None also where the table was changed.
+    pub fn report(&mut self, table: &[u64], desk: u64, before: &[u64], due: &Outcome, random: &mut Random) -> Option<Outcome> {
         let shift = 8 * random.below(8);
-        self.lend(before, &bytes_of(table), shift, random, &|numbers, table| report(table, numbers, due))
+        self.lend(before, &bytes_of(table), shift, random, &|numbers, table| report(table, desk, numbers, due))
     }
 
     /// Lends numbers to be written and bytes to be read, between guards, or at fences, or in memory of just their sizes, where a memory

@@ -1,19 +1,23 @@
 //! Series of tables of daily totals and of records, each tried one and all: both sides of every limit, every kind of damage at every row,
 //! and every two reasons for a refusal at once.
 
-use crate::day::{number, Currency, Table, MOST_ROWS, MOST_TOTAL};
+use crate::day::{counts_at, number, row_at, Currency, Row, Table, ALL_ROWS, DESKS, MOST_ROWS, MOST_TOTAL};
 use crate::faults::MOST_BYTES;
 use crate::money::{Given, MOST_AMOUNT};
-use crate::rows::{with_rows, END_TOTALS, TOO_MANY_ROWS};
+use crate::rows::{with_rows, END_TOTALS, NO_DESKS, TOO_MANY_ROWS};
 
 const EUR: Currency = *b"EUR";
 
 /// A currency that no table of these series holds.
 const NEW: &str = "XYZ";
 
-/// Sixteen currencies, the first EUR. Each but the first is a letter away from another one.
-fn currency(row: usize) -> Currency {
-    if row == 0 { EUR } else { [b'E', b'U', b'A' + row as u8] }
+/// Currencies, the first EUR. Each but the first is a letter away from another one.
+fn currency(number: usize) -> Currency {
+    match number {
+        0 => EUR,
+        1..16 => [b'E', b'U', b'A' + number as u8],
+        _ => [b'F', b'U', b'A' + number as u8 - 16],
+    }
 }
 
 pub fn amount(value: &str, currency: &str) -> Given {
@@ -26,10 +30,29 @@ fn written(amount: i128) -> String {
     format!("{sign}{}.{:04}", amount.abs() / 10_000, amount.abs() % 10_000)
 }
 
-/// A table of so many rows, their totals as said, and past them numbers that are no row.
+/// How the rows of two desks lie: in turn, or one desk's before the other's.
+const ORDERS: [fn(usize) -> (u64, usize); 3] = [
+    |row| (1 + row as u64 % 2, row / 2),
+    |row| (1 + row as u64 / 16, row % 16),
+    |row| (2 - row as u64 / 16, row % 16),
+];
+
+/// Numbers that are no row.
+const PAST: Table = [0xA5A5_A5A5_A5A5_A5A5; 103];
+
+/// A table of so many rows in an order, their totals as said, and past them numbers that are no row. Both desks have the same currencies.
+fn ordered(order: usize, rows: usize, total: impl Fn(usize) -> i128) -> Table {
+    let row = |row: usize| {
+        let (desk, number) = ORDERS[order](row);
+        (desk, currency(number), total(row))
+    };
+    let rows: Vec<Row> = (0..rows).map(row).collect();
+    with_rows(&PAST, [[7, 5, 3], [2, 4, 6]], &rows)
+}
+
+/// The same with the rows in turn.
 fn table(rows: usize, total: impl Fn(usize) -> i128) -> Table {
-    let rows: Vec<(Currency, i128)> = (0..rows).map(|row| (currency(row), total(row))).collect();
-    with_rows(&[0xA5A5_A5A5_A5A5_A5A5; 36], [7, 5, 3], &rows)
+    ordered(0, rows, total)
 }
 
 fn small(row: usize) -> i128 {
@@ -46,21 +69,25 @@ pub fn few_records() -> Vec<Given> {
 
 /// Every byte of the currency of every row replaced by every other.
 pub fn every_byte(mut each: impl FnMut(&Table)) {
-    for (row, place, byte) in (0..MOST_ROWS).flat_map(|row| (0..8).flat_map(move |place| (0..=255).map(move |byte| (row, place, byte)))) {
-        let mut table = table(MOST_ROWS, small);
-        let mut bytes = table[4 + 2 * row].to_le_bytes();
+    for (row, place, byte) in (0..ALL_ROWS).flat_map(|row| (0..8).flat_map(move |place| (0..=255).map(move |byte| (row, place, byte)))) {
+        let mut table = table(ALL_ROWS, small);
+        let mut bytes = table[row_at(row) + 1].to_le_bytes();
         bytes[place] = byte;
-        table[4 + 2 * row] = u64::from_le_bytes(bytes);
+        table[row_at(row) + 1] = u64::from_le_bytes(bytes);
         each(&table);
     }
 }
 
-/// Every two rows of one currency, in tables of every length that has them, and of some that no longer hold the second.
+/// Every two rows of one currency, of one desk and of two, in tables of every length that has them, and of some that no longer hold the
+/// second.
 pub fn every_two_rows(mut each: impl FnMut(&Table)) {
-    for held in 1..=MOST_ROWS {
-        for (first, second) in (0..MOST_ROWS).flat_map(|second| (0..second).map(move |first| (first, second))) {
+    for held in 1..=ALL_ROWS {
+        for (first, second) in (0..ALL_ROWS).flat_map(|second| (0..second).map(move |first| (first, second))) {
             let mut table = table(held, small);
-            table[4 + 2 * second] = number(currency(first));
+            let (desk, number) = (1 + first as u64 % 2, number(currency(first / 2)));
+            table[row_at(second) + 1] = number;
+            each(&table);
+            table[row_at(second)] = desk;
             each(&table);
         }
     }
@@ -68,46 +95,79 @@ pub fn every_two_rows(mut each: impl FnMut(&Table)) {
 
 /// Every row with a total at an end of the range, at an end of all numbers, or beside one.
 pub fn every_total(mut each: impl FnMut(&Table)) {
-    for held in 1..=MOST_ROWS {
-        for (row, total) in (0..MOST_ROWS).flat_map(|row| END_TOTALS.map(|total| (row, total))) {
+    for held in 1..=ALL_ROWS {
+        for (row, total) in (0..ALL_ROWS).flat_map(|row| END_TOTALS.map(|total| (row, total))) {
             let mut table = table(held, small);
-            table[5 + 2 * row] = total as u64;
+            table[row_at(row) + 2] = total as u64;
             each(&table);
         }
     }
 }
 
-/// Every three counts of some about a million, and of some whose sum in 64 bits is small.
+/// Every three counts of each desk of some about a million, and of some whose sum in 64 bits is small; beside few of the other desk, and
+/// beside a million.
 pub fn every_count(mut each: impl FnMut(&Table)) {
     const HALF: u64 = 1 << 63;
     const COUNTS: [u64; 18] = [
         0, 1, 2, 333_333, 333_334, 499_999, 500_000, 500_001, 999_998, 999_999, 1_000_000, 1_000_001, 1 << 32, HALF - 1, HALF, HALF + 1,
         u64::MAX - 999_999, u64::MAX,
     ];
-    for choice in 0..COUNTS.len().pow(3) {
+    for (choice, desk) in (0..COUNTS.len().pow(3)).flat_map(|choice| DESKS.map(|desk| (choice, desk))) {
         let mut table = table(2, small);
         let digits = [choice, choice / COUNTS.len(), choice / COUNTS.len().pow(2)];
-        table[1..4].copy_from_slice(&digits.map(|digit| COUNTS[digit % COUNTS.len()]));
+        table[counts_at(desk)..][..3].copy_from_slice(&digits.map(|digit| COUNTS[digit % COUNTS.len()]));
+        each(&table);
+        table[counts_at(3 - desk)..][..3].copy_from_slice(&[1, 999_999, 0]);
         each(&table);
     }
 }
 
-/// Every count of rows up to 300, and some far greater ones, over 16 good rows.
+/// Every count of rows up to 300, and some far greater ones, over 32 good rows in every order.
 pub fn every_row_count(mut each: impl FnMut(&Table)) {
-    for held in (0..=300).chain(TOO_MANY_ROWS) {
-        let mut table = table(MOST_ROWS, small);
+    for (held, order) in (0..=300).chain(TOO_MANY_ROWS).flat_map(|held| [(held, 0), (held, 1), (held, 2)]) {
+        let mut table = ordered(order, ALL_ROWS, small);
         table[0] = held;
         each(&table);
     }
 }
 
+/// Every two counts of rows that the desks can have in one table, those of one before the other's, and in turn.
+pub fn every_share(mut each: impl FnMut(&Table)) {
+    for (first, second) in (0..=ALL_ROWS).flat_map(|first| (0..=ALL_ROWS - first).map(move |second| (first, second))) {
+        let of_desk = |desk: u64, count: usize| (0..count).map(move |row| (desk, currency(row), small(row)));
+        let mut rows: Vec<Row> = of_desk(1, first).chain(of_desk(2, second)).collect();
+        each(&with_rows(&PAST, [[7, 5, 3], [2, 4, 6]], &rows));
+        rows.sort_by_key(|row| (row.2, row.0));
+        each(&with_rows(&PAST, [[7, 5, 3], [2, 4, 6]], &rows));
+    }
+}
+
+/// Every row with a desk that is none, in tables of every length, those that do not hold the row too.
+pub fn every_desk(mut each: impl FnMut(&Table)) {
+    for held in 1..=ALL_ROWS {
+        for (row, desk) in (0..ALL_ROWS).flat_map(|row| NO_DESKS.map(|desk| (row, desk))) {
+            let mut table = table(held, small);
+            table[row_at(row)] = desk;
+            each(&table);
+        }
+    }
+}
+
 /// Every count of rows, with all past them such as would be damage if they were held.
 pub fn every_past(mut each: impl FnMut(&Table)) {
-    let pasts = [[0, 0], [number(EUR), 5], [number(*b"XYZ"), 70_000], [u64::MAX, u64::MAX], [number(*b"xyz"), 1 << 63]];
-    for (held, past) in (0..=MOST_ROWS).flat_map(|held| pasts.map(|past| (held, past))) {
+    let pasts = [
+        [0, 0, 0],
+        [1, number(EUR), 5],
+        [2, number(EUR), 5],
+        [1, number(*b"XYZ"), 70_000],
+        [u64::MAX, u64::MAX, u64::MAX],
+        [2, number(*b"xyz"), 1 << 63],
+        [3, number(*b"XYZ"), 70_000],
+    ];
+    for (held, past) in (0..=ALL_ROWS).flat_map(|held| pasts.map(|past| (held, past))) {
         let mut table = table(held, small);
-        for row in held..MOST_ROWS {
-            table[4 + 2 * row..6 + 2 * row].copy_from_slice(&past);
+        for row in held..ALL_ROWS {
+            table[row_at(row)..row_at(row + 1)].copy_from_slice(&past);
         }
         each(&table);
     }
@@ -116,17 +176,17 @@ pub fn every_past(mut each: impl FnMut(&Table)) {
 // ---- The ends of the range -----------------------------------------------------------------------------------------
 
 /// A total that is so far from an end of the range, and amounts that just fit, and a ten-thousandth less and more; in every row of tables
-/// of every length.
-pub fn every_end(mut each: impl FnMut(&Table, &Given)) {
+/// of some lengths. The desk is the row's.
+pub fn every_end(mut each: impl FnMut(&Table, u64, &Given)) {
     const FAR: [i128; 10] = [0, 1, 2, 9_999, 10_000, 10_001, MOST_AMOUNT - 1, MOST_AMOUNT, MOST_AMOUNT + 1, 2 * MOST_AMOUNT];
-    for (held, row) in (1..=MOST_ROWS).flat_map(|held| (0..held).map(move |row| (held, row))) {
+    for (held, row) in [1, 2, 3, 16, 17, 31, 32].into_iter().flat_map(|held| (0..held).map(move |row| (held, row))) {
         for (far, sign) in FAR.into_iter().flat_map(|far| [(far, 1), (far, -1)]) {
-            // The other rows are at the other end, or at the same, where nothing more fits.
-            let table = table(held, |at| if at == row { sign * (MOST_TOTAL - far) } else { [MOST_TOTAL, -MOST_TOTAL][at % 2] });
-            let currency = String::from_utf8(currency(row).to_vec()).unwrap();
+            // The other rows are at the other end, or at the same, where nothing more fits; so is the other desk's of the same currency.
+            let table = table(held, |at| if at == row { sign * (MOST_TOTAL - far) } else { [MOST_TOTAL, -MOST_TOTAL][at / 2 % 2] });
+            let currency = String::from_utf8(currency(row / 2).to_vec()).unwrap();
             for amount in [far - 1, far, far + 1, 0, 1, -1, MOST_AMOUNT, -MOST_AMOUNT].map(|amount| sign * amount) {
                 if amount.abs() <= MOST_AMOUNT {
-                    each(&table, &self::amount(&written(amount), &currency));
+                    each(&table, 1 + row as u64 % 2, &self::amount(&written(amount), &currency));
                 }
             }
         }
@@ -206,28 +266,48 @@ const NO_MARKUP: [&str; 4] = [
     "<t xsi:type=\"TS\" value='2024'/>",
 ];
 
-/// Tables with and without a row for EUR, and with room for another currency or none; with totals inside the range, and all at one end.
-fn good_tables() -> Vec<Table> {
+/// Rows of desk 1 with and without one for EUR, and with room for another currency or none; with totals inside the range, and all at one end.
+fn good_rows() -> Vec<Vec<Row>> {
     let mut tables = Vec::new();
     for (held, end) in [0, 1, 15, 16].into_iter().flat_map(|held| [(held, None), (held, Some(MOST_TOTAL)), (held, Some(-MOST_TOTAL))]) {
-        tables.push(table(held, |row| end.unwrap_or_else(|| small(row))));
-        let mut without = *tables.last().unwrap();
-        without[4] = number(*b"EUZ");
-        tables.push(without);
+        let rows = |first: usize| (first..first + held).map(|row| (1, currency(row), end.unwrap_or_else(|| small(row)))).collect();
+        tables.extend([rows(0), rows(1)]);
     }
     tables
 }
 
-/// The same, each as it is, with counts of 999,999, of a million and of one more, and with every damage, beside such counts too.
+/// Damage in one place: in desk 1's part, in desk 2's, or in neither's. A table has rows of desk 2 first, and of desk 1 after them.
+fn damages(first: usize) -> [(usize, u64); 12] {
+    let out = (MOST_TOTAL + 1) as u64;
+    [
+        (0, 33),
+        (0, u64::MAX),
+        (row_at(first) + 1, number(*b"EUr")),
+        (row_at(first) + 2, out),
+        (2, u64::MAX),
+        (3, 1_000_001),
+        (row_at(0), 3),
+        (row_at(0), 0),
+        (row_at(0) + 1, 0),
+        (row_at(1) + 1, number(EUR)),
+        (row_at(0) + 2, out),
+        (4, 1_000_001),
+    ]
+}
+
+/// Tables for calls of desk 1: each as it is, with counts of 999,999, of a million and of one more, and with every damage, beside such counts
+/// too. Desk 2 holds two rows or sixteen, and has a few records counted or a million.
 pub fn many_tables() -> Vec<Table> {
     let mut tables = Vec::new();
-    for good in good_tables() {
+    for (i, good) in good_rows().into_iter().enumerate() {
+        let others = if i / 2 % 2 == 0 { 2 } else { MOST_ROWS };
+        let mut rows: Vec<Row> = (0..others).map(|row| (2, currency(row), small(row))).collect();
+        rows.extend(good);
         for counts in [[7, 5, 3], [999_999, 0, 0], [0, 999_000, 1_000], [0, 0, 1_000_001]] {
-            let mut table = good;
-            table[1..4].copy_from_slice(&counts);
+            let other = if i / 4 % 2 == 0 { [2, 4, 6] } else { [1, 0, 999_999] };
+            let table = with_rows(&PAST, [counts, other], &rows);
             tables.push(table);
-            let damages = [(0, 17), (4, number(*b"EUr")), (6, table[4]), (5, (MOST_TOTAL + 1) as u64), (2, u64::MAX)];
-            tables.extend(damages.map(|(at, number)| {
+            tables.extend(damages(others).map(|(at, number)| {
                 let mut damaged = table;
                 damaged[at] = number;
                 damaged

@@ -1,7 +1,7 @@
 //! Makes records for daily totals: amounts that bring a total to zero or to an end of its range, nulls, other types, and records that are
 //! refused for every reason.
 
-use crate::day::{self, Currency, Table, MOST_TOTAL};
+use crate::day::{self, row_at, Currency, Table, ALL_ROWS, MOST_TOTAL};
 use crate::faults::TYPES;
 use crate::markup::{write, Element, Spelling};
 use crate::random::Random;
@@ -14,7 +14,7 @@ pub const MOST_AMOUNT: i128 = 9_999_999_999_999_999;
 /// A record and the agreed offset.
 pub type Given = (Vec<u8>, i64);
 
-/// What a day is like.
+/// What a desk's day is like.
 pub struct Style {
     pub currencies: Vec<Currency>,
     /// Whether nearly all amounts are as large as can be, and of this sign, so that some 900 of them bring a total to the end of its range.
@@ -50,13 +50,23 @@ impl Style {
     }
 }
 
+/// What the days of both desks are like: each has currencies of its own, or both have the same.
+pub fn styles(random: &mut Random) -> [Style; 2] {
+    let mut styles = [Style::any(random), Style::any(random)];
+    if random.once_in(2) {
+        let count = if styles[1].huge.is_some() { 1 } else { styles[0].currencies.len() };
+        styles[1].currencies = styles[0].currencies[..count].to_vec();
+    }
+    styles
+}
+
 // ---- Amounts -------------------------------------------------------------------------------------------------------
 
-/// The total of a currency in a table, 0 where it is not held.
-fn total_of(table: &Table, currency: Currency) -> i128 {
-    let rows = &table[4..4 + 2 * table[0].min(16) as usize];
-    let row = rows.chunks(2).find(|row| row[0] == day::number(currency));
-    row.map_or(0, |row| i128::from(row[1] as i64))
+/// The total of a desk's currency in a table, 0 where it is not held.
+fn total_of(table: &Table, desk: u64, currency: Currency) -> i128 {
+    let held = table[0].min(ALL_ROWS as u64) as usize;
+    let row = table[7..row_at(held)].chunks(3).find(|row| row[..2] == [desk, day::number(currency)]);
+    row.map_or(0, |row| i128::from(row[2] as i64))
 }
 
 /// An amount for a currency of this total: it comes to zero, or to an end of the range, or just beyond; or any other.
@@ -109,8 +119,8 @@ const NO_CURRENCIES: [&str; 16] = [
 ];
 
 impl Maker<'_> {
-    /// A record for a day with this table: about two of three are added where there is a row.
-    pub fn record_to_add(&mut self, style: &Style, table: &Table) -> Given {
+    /// A record for a desk's day with this table: about two of three are added where there is a row.
+    pub fn record_to_add(&mut self, style: &Style, table: &Table, desk: u64) -> Given {
         let offset = match self.random.below(20) {
             0 => self.random.one_of(&[i64::MIN, -841, -840, 840, 841, i64::MAX]),
             1 | 2 => agreed_offset(self.random),
@@ -118,7 +128,7 @@ impl Maker<'_> {
         };
         self.offset = offset;
         let currency = self.random.one_of(&style.currencies);
-        let value = amount(self.random, total_of(table, currency), style.huge);
+        let value = amount(self.random, total_of(table, desk, currency), style.huge);
         let value = written(self.random, value);
         let tree = money(&value, currency);
         let mut record = match self.random.below(1000) {

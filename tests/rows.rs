@@ -1,7 +1,8 @@
-//! Makes tables of daily totals: with rows that a day can come to, with others that are not damaged, and damaged in every way. Rows past
-//! those held have rubbish in them.
+//! Makes tables of daily totals of two desks: with rows that their days can come to, with others that are not damaged, and damaged in every
+//! way, in either desk's part. Rows past those held have rubbish in them.
 
-use crate::day::{number, Currency, Table, MOST_ROWS, MOST_TOTAL};
+use crate::day::{counts_at, number, row_at, Currency, Row, Table, ALL_ROWS, DESKS, MOST_ROWS, MOST_TOTAL};
+use crate::money::Style;
 use crate::random::Random;
 
 /// The number that a total is in a table. It takes more than the range, up to what fits into 64 bits.
@@ -23,28 +24,33 @@ pub const END_TOTALS: [i128; 8] = [
 
 /// Counts of rows that are too many: just so, and such as look small in their lowest bytes.
 pub const TOO_MANY_ROWS: [u64; 14] = [
-    17, 18, 31, 32, 255, 256, 272, 65_536, 1 << 32, (1 << 32) + 1, 1 << 63, (1 << 63) + 16, u64::MAX - 15, u64::MAX,
+    33, 34, 63, 64, 255, 256, 288, 65_536, 1 << 32, (1 << 32) + 1, 1 << 63, (1 << 63) + 32, u64::MAX - 31, u64::MAX,
 ];
 
-/// A table with these rows, and the numbers of another one past them.
-pub fn with_rows(past: &Table, counts: [u64; 3], rows: &[(Currency, i128)]) -> Table {
+/// Numbers that are no desk: those beside 1 and 2, and such as look like one in their lowest bytes.
+pub const NO_DESKS: [u64; 12] = [
+    0, 3, 4, 255, 256, 257, 258, (1 << 32) + 1, 1 << 63, (1 << 63) + 2, u64::MAX - 1, u64::MAX,
+];
+
+/// A table with these counts and rows, and the numbers of another one past them.
+pub fn with_rows(past: &Table, counts: [[u64; 3]; 2], rows: &[Row]) -> Table {
     let mut table = *past;
     table[0] = rows.len() as u64;
-    table[1..4].copy_from_slice(&counts);
+    table[1..7].copy_from_slice(counts.as_flattened());
     for (i, row) in rows.iter().enumerate() {
-        table[4 + 2 * i] = number(row.0);
-        table[5 + 2 * i] = total(row.1);
+        table[row_at(i)..row_at(i + 1)].copy_from_slice(&[row.0, number(row.1), total(row.2)]);
     }
     table
 }
 
 /// Numbers without a plan, or such as stand in rows.
-pub fn rubbish(random: &mut Random, currencies: &[Currency]) -> Table {
+pub fn rubbish(random: &mut Random, styles: &[Style; 2]) -> Table {
     let kind = random.below(4);
-    std::array::from_fn(|i| match kind {
-        0 => 0,
-        1 => u64::MAX,
-        2 if i % 2 == 0 => number(random.one_of(currencies)),
+    std::array::from_fn(|i| match (kind, i % 3) {
+        (0, _) => 0,
+        (1, _) => u64::MAX,
+        (2, 1) => random.one_of(&DESKS),
+        (2, 2) => number(random.one_of(&styles[i % 2].currencies)),
         _ => random.next(),
     })
 }
@@ -78,8 +84,8 @@ fn any_total(random: &mut Random) -> i128 {
     }
 }
 
-/// A table that is not damaged, its currencies of those given, and of others where they are not enough.
-pub fn proper(random: &mut Random, currencies: &[Currency]) -> Table {
+/// The rows of a desk, their currencies of its own, and of others where they are not enough.
+fn rows_of(random: &mut Random, desk: u64, currencies: &[Currency]) -> Vec<Row> {
     let count = match random.below(8) {
         0 => 0,
         1 | 2 => MOST_ROWS - 1,
@@ -97,9 +103,29 @@ pub fn proper(random: &mut Random, currencies: &[Currency]) -> Table {
     }
     // All at an end of the range once in a while: then there is no row that could take an amount of a new currency.
     let all = random.once_in(4).then(|| random.one_of(&[MOST_TOTAL, -MOST_TOTAL]));
-    let rows: Vec<(Currency, i128)> = chosen[..count].iter().map(|c| (*c, all.unwrap_or_else(|| any_total(random)))).collect();
-    let past = rubbish(random, currencies);
-    with_rows(&past, counts(random), &rows)
+    chosen[..count].iter().map(|c| (desk, *c, all.unwrap_or_else(|| any_total(random)))).collect()
+}
+
+/// The rows of both desks in one order, in which each desk's keep theirs.
+fn mingled(random: &mut Random, parts: [Vec<Row>; 2]) -> Vec<Row> {
+    let count = parts[0].len() + parts[1].len();
+    let mut parts = parts.map(Vec::into_iter);
+    let apart = random.once_in(4);
+    let mut rows = Vec::with_capacity(count);
+    while rows.len() < count {
+        let turn = if apart { 0 } else { random.below(2) };
+        rows.extend(parts[turn].next().or_else(|| parts[1 - turn].next()));
+    }
+    rows
+}
+
+/// A table that is not damaged, with rows of both desks.
+pub fn proper(random: &mut Random, styles: &[Style; 2]) -> Table {
+    let parts = DESKS.map(|desk| rows_of(random, desk, &styles[desk as usize - 1].currencies));
+    let rows = mingled(random, parts);
+    let past = rubbish(random, styles);
+    let counts = [counts(random), counts(random)];
+    with_rows(&past, counts, &rows)
 }
 
 // ---- Damage --------------------------------------------------------------------------------------------------------
@@ -149,25 +175,55 @@ fn out_of_range(random: &mut Random) -> u64 {
     })
 }
 
+/// Gives a desk more rows than it may hold, each of a currency of its own, among rows of the other.
+fn crowd(random: &mut Random, table: &mut Table) {
+    let (desk, count) = (random.one_of(&DESKS), random.from(MOST_ROWS + 1, ALL_ROWS));
+    let least = random.from(MOST_ROWS + 1, count);
+    let rows: Vec<Row> = (0..count)
+        .map(|i| (if i < least { desk } else { 3 - desk }, [b'C', b'A' + i as u8 % 26, b'A' + i as u8 / 26], any_total(random)))
+        .collect();
+    *table = with_rows(table, [counts(random), counts(random)], &rows);
+}
+
+/// Says that more rows are held than there are, over 32 good rows or over what there is.
+fn overfill(random: &mut Random, table: &mut Table) {
+    if random.once_in(2) {
+        let rows: Vec<Row> = (0..ALL_ROWS).map(|i| (1 + i as u64 % 2, [b'C', b'A', b'A' + i as u8 / 2], any_total(random))).collect();
+        *table = with_rows(table, [counts(random), counts(random)], &rows);
+    }
+    table[0] = random.one_of(&TOO_MANY_ROWS);
+}
+
+/// Gives a desk a currency twice, if it has two rows.
+fn hold_twice(random: &mut Random, table: &mut Table, rows: usize) {
+    let row = random.below(rows);
+    let others: Vec<usize> = (0..rows).filter(|other| *other != row && table[row_at(*other)] == table[row_at(row)]).collect();
+    if !others.is_empty() {
+        table[row_at(row) + 1] = table[row_at(random.one_of(&others)) + 1];
+    }
+}
+
 /// Damages a table in one way, if it has rows enough for it.
 fn damage_once(random: &mut Random, table: &mut Table) {
-    let rows = table[0].min(MOST_ROWS as u64) as usize;
-    let row = random.below(rows.max(1));
-    match random.below(5) {
-        0 => table[0] = random.one_of(&TOO_MANY_ROWS),
-        1 if rows > 0 => table[4 + 2 * row] = wrong_form(random, table[4 + 2 * row]),
-        2 if rows > 1 => {
-            let step = if random.once_in(2) { 1 } else { random.from(1, rows - 1) };
-            table[4 + 2 * ((row + step) % rows)] = table[4 + 2 * row];
+    let rows = table[0].min(ALL_ROWS as u64) as usize;
+    let at = row_at(random.below(rows.max(1)));
+    match random.below(7) {
+        0 => overfill(random, table),
+        1 => crowd(random, table),
+        2 if rows > 0 => table[at + 1] = wrong_form(random, table[at + 1]),
+        3 if rows > 0 => hold_twice(random, table, rows),
+        4 if rows > 0 => table[at + 2] = out_of_range(random),
+        5 if rows > 0 => table[at] = random.one_of(&NO_DESKS),
+        _ => {
+            let from = counts_at(random.one_of(&DESKS));
+            table[from..from + 3].copy_from_slice(&too_many_counted(random));
         }
-        3 if rows > 0 => table[5 + 2 * row] = out_of_range(random),
-        _ => table[1..4].copy_from_slice(&too_many_counted(random)),
     }
 }
 
 /// A table that is damaged in one way, or in several.
-pub fn damaged(random: &mut Random, currencies: &[Currency]) -> Table {
-    let mut table = proper(random, currencies);
+pub fn damaged(random: &mut Random, styles: &[Style; 2]) -> Table {
+    let mut table = proper(random, styles);
     damage_once(random, &mut table);
     while random.once_in(3) {
         damage_once(random, &mut table);

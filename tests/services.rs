@@ -21,6 +21,7 @@ mod limits;
 mod list;
 mod lists;
 mod markup;
+mod mixed;
 mod money;
 mod options;
 mod pairs;
@@ -37,6 +38,7 @@ mod table;
 mod tally;
 mod tick;
 mod totals;
+mod trial;
 
 use std::process::ExitCode;
 

@@ -21,6 +21,7 @@ mod limits;
 mod list;
 mod lists;
 mod markup;
+mod mixed;
 mod money;
 mod options;
 mod pairs;
@@ -37,12 +38,12 @@ mod table;
 mod tally;
 mod tick;
 mod totals;
+mod trial;
 
 use std::ffi::c_void;
 use std::process::ExitCode;
 
-use day::Table;
-use money::Style;
+use day::{Table, DESKS};
 use options::Options;
 use random::Random;
 use records::Maker;
@@ -56,8 +57,9 @@ extern "C" {
     fn rigcactus_compare(first: *const u8, first_len: usize, second: *const u8, second_len: usize, offset: i64) -> u64;
     fn rigcactus_print(list: *const u8, list_len: usize, record: *mut u8, record_len: usize) -> u64;
     fn rigcactus_totals_open(table: *mut u64) -> u64;
-    fn rigcactus_totals_add(table: *mut u64, record: *const u8, record_len: usize, offset: i64) -> u64;
-    fn rigcactus_totals_report(table: *const u64, report: *mut u64) -> u64;
+    fn rigcactus_totals_start(table: *mut u64, desk: u64) -> u64;
+    fn rigcactus_totals_add(table: *mut u64, desk: u64, record: *const u8, record_len: usize, offset: i64) -> u64;
+    fn rigcactus_totals_report(table: *const u64, desk: u64, report: *mut u64) -> u64;
 
     /// Calls a service with five words on the stack that ends at `top`.
     fn call_on_stack(top: *mut u64, service: *const c_void, words: *const u64) -> u64;
@@ -93,13 +95,14 @@ enum Service {
     Compare,
     Print,
     TotalsOpen,
+    TotalsStart,
     TotalsAdd,
     TotalsReport,
 }
 use Service::*;
 
 /// The services, and the most bytes of stack that each is said to take.
-const SERVICES: [(Service, &str, usize); 9] = [
+const SERVICES: [(Service, &str, usize); 10] = [
     (Cut, "cut", 256),
     (Tick, "tick", 1024),
     (Check, "check", 8192),
@@ -107,8 +110,9 @@ const SERVICES: [(Service, &str, usize); 9] = [
     (Compare, "compare", 8192),
     (Print, "print", 1024),
     (TotalsOpen, "totals_open", 256),
+    (TotalsStart, "totals_start", 4096),
     (TotalsAdd, "totals_add", 12288),
-    (TotalsReport, "totals_report", 2048),
+    (TotalsReport, "totals_report", 4096),
 ];
 
 // ---- The stack -----------------------------------------------------------------------------------------------------
@@ -145,6 +149,7 @@ impl Stack {
         let mut record = [0_u8; 8192];
         let (mut table, mut report) = (input.table, [0_u64; 35]);
         let (at, length, number) = (first.as_ptr() as u64, first.len() as u64, input.number as u64);
+        let (table, desk) = (table.as_mut_ptr() as u64, input.desk);
         let (function, words): (*const c_void, [u64; 5]) = match service {
             Cut => (rigcactus_cut as *const c_void, [at, length, number, 0, 0]),
             Tick => (rigcactus_tick as *const c_void, [at, length, number, &raw mut tick as u64, 0]),
@@ -152,9 +157,10 @@ impl Stack {
             List => (rigcactus_list as *const c_void, [at, length, number, list.as_mut_ptr() as u64, 1024]),
             Compare => (rigcactus_compare as *const c_void, [at, length, second.as_ptr() as u64, second.len() as u64, number]),
             Print => (rigcactus_print as *const c_void, [at, length, record.as_mut_ptr() as u64, 8192, 0]),
-            TotalsOpen => (rigcactus_totals_open as *const c_void, [table.as_mut_ptr() as u64, 0, 0, 0, 0]),
-            TotalsAdd => (rigcactus_totals_add as *const c_void, [table.as_mut_ptr() as u64, at, length, number, 0]),
-            TotalsReport => (rigcactus_totals_report as *const c_void, [table.as_ptr() as u64, report.as_mut_ptr() as u64, 0, 0, 0]),
+            TotalsOpen => (rigcactus_totals_open as *const c_void, [table, 0, 0, 0, 0]),
+            TotalsStart => (rigcactus_totals_start as *const c_void, [table, desk, 0, 0, 0]),
+            TotalsAdd => (rigcactus_totals_add as *const c_void, [table, desk, at, length, number]),
+            TotalsReport => (rigcactus_totals_report as *const c_void, [table, desk, report.as_mut_ptr() as u64, 0, 0]),
         };
         // SAFETY: the words are the service's arguments, with pointers to memory of the lengths beside them, and the stack is free.
         unsafe { call_on_stack(self.words.as_mut_ptr().add(WORDS), function, words.as_ptr()) };
@@ -166,20 +172,22 @@ impl Stack {
 
 // ---- Inputs --------------------------------------------------------------------------------------------------------
 
-/// A text, a list, a record or two; the room or the agreed offset; and the table that a record is added to.
+/// A text, a list, a record or two; the room or the agreed offset; the table that a record is added to, and the desk that adds it.
 struct Input {
     what: String,
     first: Vec<u8>,
     second: Vec<u8>,
     number: i64,
     table: Table,
+    desk: u64,
 }
 
-/// An input with a table of sixteen rows, which has an amount in EUR go to the last one.
+/// An input with a table of all rows, which has an amount of desk 2 in EUR go to the last one, and the rows of desk 2 move up over those of
+/// desk 1.
 fn input(what: &str, first: impl Into<Vec<u8>>) -> Input {
     let first = first.into();
-    let table = table::totals("16:16,0,0:AAA-AAO=0,EUR=0", &[0; 36]);
-    Input { what: what.to_string(), second: first.clone(), first, number: 0, table }
+    let table = table::totals("32:16,0,0/16,0,0:1.AAA-AAO=0,1.EUR=0,2.AAA-AAO=0,2.EUR=0", &[0; 103]);
+    Input { what: what.to_string(), second: first.clone(), first, number: 0, table, desk: 2 }
 }
 
 /// An interval, its bounds at a place of a line, so that those of different places lie apart; at place 0 it has no bounds.
@@ -332,9 +340,10 @@ fn stored() -> Vec<Input> {
         inputs.push(input(&format!("a stored list, line {number}"), table::list(line.split(' ').nth(2).unwrap())));
     }
     for (number, line) in table::lines(include_str!("records/totals.txt")) {
-        let words: Vec<&str> = line.splitn(5, ' ').collect();
-        let mut input = input(&format!("a stored table, line {number}"), table::bytes(words[4]));
-        (input.number, input.table) = (words[1].parse().unwrap(), table::totals(words[2], &[u64::MAX; 36]));
+        let words: Vec<&str> = line.splitn(7, ' ').collect();
+        let mut input = input(&format!("a stored table, line {number}"), table::bytes(words.get(6).unwrap_or(&"")));
+        (input.desk, input.table) = (words[1].parse().unwrap(), table::totals(words[3], &[u64::MAX; 103]));
+        input.number = words.get(5).map_or(0, |offset| offset.parse().unwrap());
         inputs.push(input);
     }
     inputs
@@ -343,8 +352,9 @@ fn stored() -> Vec<Input> {
 /// An input that is made from random numbers, as tests/services.rs makes it.
 fn made(service: Service, random: &mut Random, calendar: &Calendar) -> Input {
     let offset = random.from(0, 1680) as i64 - 840;
-    let style = Style::any(random);
-    let table = if random.once_in(4) { rows::damaged(random, &style.currencies) } else { rows::proper(random, &style.currencies) };
+    let styles = money::styles(random);
+    let table = if random.once_in(4) { rows::damaged(random, &styles) } else { rows::proper(random, &styles) };
+    let desk = random.one_of(&DESKS);
     let mut maker = Maker { random, offset, calendar };
     let (first, second) = match service {
         Cut => (cut::text(maker.random), Vec::new()),
@@ -353,10 +363,10 @@ fn made(service: Service, random: &mut Random, calendar: &Calendar) -> Input {
         List => (maker.record_to_list(), Vec::new()),
         Compare => maker.pair(),
         Print => (lists::list(maker.random), Vec::new()),
-        TotalsAdd => (maker.record_to_add(&style, &table).0, Vec::new()),
-        TotalsOpen | TotalsReport => (Vec::new(), Vec::new()),
+        TotalsAdd => (maker.record_to_add(&styles[desk as usize - 1], &table, desk).0, Vec::new()),
+        TotalsOpen | TotalsStart | TotalsReport => (Vec::new(), Vec::new()),
     };
-    Input { what: "a made input".to_string(), first, second, number: offset, table }
+    Input { what: "a made input".to_string(), first, second, number: offset, table, desk }
 }
 
 // ---- The measurement -----------------------------------------------------------------------------------------------

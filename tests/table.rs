@@ -51,18 +51,42 @@ pub fn list(text: &str) -> Vec<u8> {
 }
 
 /// The table of daily totals that a text of totals.txt writes, with the numbers of another one where it says nothing.
-pub fn totals(text: &str, other: &[u64; 36]) -> [u64; 36] {
+pub fn totals(text: &str, other: &[u64; 103]) -> [u64; 103] {
     let mut parts = text.split(':');
     let mut numbers: Vec<u64> = vec![parts.next().unwrap().parse().unwrap()];
-    numbers.extend(parts.next().unwrap().split(',').map(|count| count.parse::<u64>().unwrap()));
+    numbers.extend(parts.next().unwrap().split('/').flat_map(counts));
     for row in parts.next().unwrap().split(',').filter(|row| *row != "-") {
-        let (currencies, total) = row.split_once('=').unwrap();
-        let total: i64 = total.parse().unwrap();
-        numbers.extend(self::currencies(currencies).flat_map(|currency| [currency, total as u64]));
+        let (desk, row) = row.split_once('.').unwrap();
+        let desk: u64 = desk.parse().unwrap();
+        numbers.extend(rows(row).flat_map(|[currency, total]| [desk, currency, total]));
     }
     let mut table = *other;
     table[..numbers.len()].copy_from_slice(&numbers);
     table
+}
+
+/// The report that a text of totals.txt writes, with the numbers of another one where it says nothing.
+pub fn report(text: &str, other: &[u64; 35]) -> [u64; 35] {
+    let (three, all) = text.split_once(':').unwrap();
+    let mut numbers = counts(three).to_vec();
+    numbers.extend(all.split(',').filter(|row| *row != "-").flat_map(rows).flatten());
+    let mut report = *other;
+    report[..numbers.len()].copy_from_slice(&numbers);
+    report
+}
+
+/// The three counts of a desk that `3,1,0` writes, or `-` for none.
+fn counts(text: &str) -> [u64; 3] {
+    let text = if text == "-" { "0,0,0" } else { text };
+    let counts: Vec<u64> = text.split(',').map(|count| count.parse().unwrap()).collect();
+    counts.try_into().unwrap()
+}
+
+/// The currencies and totals that `EUR=5` or `AAA-AAP=5` writes.
+fn rows(text: &str) -> impl Iterator<Item = [u64; 2]> {
+    let (currencies, total) = text.split_once('=').unwrap();
+    let total: i64 = total.parse().unwrap();
+    self::currencies(currencies).map(move |currency| [currency, total as u64])
 }
 
 /// The currencies that `EUR`, `0x525545` or `AAA-AAP` writes, as numbers.

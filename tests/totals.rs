@@ -1,180 +1,136 @@
-//! `rigcactus_totals_open`, `rigcactus_totals_add` and `rigcactus_totals_report` against a second keeper of daily totals (day.rs).
+//! `rigcactus_totals_open`, `rigcactus_totals_start`, `rigcactus_totals_add` and `rigcactus_totals_report` against a second keeper of the
+//! daily totals of two desks (day.rs).
 
-use crate::day::{self, Day, Record, Report, Table};
-use crate::lender::{Lender, Outcome, HAS_SERVICE};
+use crate::day::{self, Days, Record, Report, Table, ADDED, DAY_FULL, DESKS, NO_ROW, NULL, TOTAL};
+use crate::lender::HAS_SERVICE;
 use crate::limits;
-use crate::money::{Given, Style};
+use crate::mixed;
+use crate::money::{self, Given};
 use crate::random::Random;
 use crate::records::Maker;
-use crate::rows;
+use crate::rows::{self, NO_DESKS};
 use crate::shares::Counts;
 use crate::table;
-use crate::tick::Calendar;
+use crate::trial::Trial;
 use crate::Options;
 
-/// Differences that are printed, at most.
-const PRINTED: u64 = 10;
+// ---- Stored tables -------------------------------------------------------------------------------------------------
 
-// ---- Comparing -----------------------------------------------------------------------------------------------------
-
-/// Where tables and records are tried, and what came of it.
-struct Trial {
-    calendar: Calendar,
-    lender: Lender,
-    counts: Counts,
-    random: Random,
+/// What a line of tests/records/totals.txt says: a call of a desk with a table, the answer, and the numbers afterwards.
+struct Stored {
+    call: String,
+    desk: u64,
+    answer: u64,
+    before: Table,
+    /// The table afterwards, or the report.
+    after: Vec<u64>,
+    given: Given,
 }
 
-impl Trial {
-    fn new(seed: u64) -> Trial {
-        Trial { calendar: Calendar::new(), lender: Lender::new(), counts: Counts::default(), random: Random::new(seed) }
-    }
-
-    /// Holds what came of a call against what is due.
-    fn compare(&mut self, came: Option<Outcome>, due: &Outcome, what: impl Fn() -> String) {
-        if came.as_ref() == Some(due) {
-            return;
-        }
-        self.counts.differences += 1;
-        if self.counts.differences <= PRINTED {
-            match came {
-                None => eprintln!("totals: {}: what may not be written was changed", what()),
-                Some(came) => eprintln!("totals: {}: came to {came:?}, due is {due:?}", what()),
-            }
-        }
-    }
-
-    /// Opens a table, whatever it was before.
-    fn open(&mut self, before: &Table) -> (Day, Table) {
-        self.counts.opened += 1;
-        let day = Day::open();
-        let due = Outcome { answer: 0, numbers: vec![0; 36] };
-        let came = self.lender.open(before, &due, &mut self.random);
-        self.compare(came, &due, || format!("opening {before:?}"));
-        let table = day.table();
-        (day, table)
-    }
-
-    /// Gives a record to a day and to its table. The table becomes what is due, so that one difference does not bring others.
-    fn add(&mut self, day: &mut Day, table: &mut Table, given: &Given) {
-        let read = day::read(&given.0, given.1, &self.calendar);
-        self.add_read(day, table, given, read);
-    }
-
-    /// The same with a record that was read before.
-    fn add_read(&mut self, day: &mut Day, table: &mut Table, given: &Given, read: Record) {
-        let before = *table;
-        let answer = day.due(read);
-        self.counts.add(day, read, answer);
-        day.take(read, answer);
-        *table = day.table();
-        let due = Outcome { answer, numbers: table.to_vec() };
-        let came = self.lender.add(&before, &given.0, given.1, &due, &mut self.random);
-        self.compare(came, &due, || {
-            let shown = given.0[..given.0.len().min(2000)].escape_ascii();
-            format!("adding {} bytes [{shown}], offset {}, to {before:?}", given.0.len(), given.1)
-        });
-    }
-
-    /// Has a day's table reported, into memory that has other numbers before.
-    fn report(&mut self, day: &Day, table: &Table) {
-        let fill = self.random.next();
-        let before: Report = std::array::from_fn(|i| fill.wrapping_mul(2 * i as u64 + 1));
-        let (answer, report) = day.report(&before);
-        let due = Outcome { answer, numbers: report.to_vec() };
-        let came = self.lender.report(table, &before, &due, &mut self.random);
-        self.counts.add_report(day, answer);
-        self.compare(came, &due, || format!("reporting {table:?}"));
-    }
-
-    /// Adds a record to a table that is handed in, and has the table reported before and afterwards.
-    fn attempt(&mut self, handed: &Table, given: &Given) {
-        let mut day = Day::go_on(handed);
-        let mut table = *handed;
-        self.report(&day, &table);
-        self.add(&mut day, &mut table, given);
-        self.report(&day, &table);
-    }
-}
-
-// ---- The trials ----------------------------------------------------------------------------------------------------
-
-/// What a line of tests/records/totals.txt says: the answer, the tables before and after, and the record with its offset.
-fn stored(line: &str, past: &Table) -> (u64, Table, Table, Given) {
-    let words: Vec<&str> = line.splitn(5, ' ').collect();
-    let answer = match words[0] {
-        "added" => day::ADDED,
-        "null" => day::NULL,
+/// Reads a line. Where it says nothing of a number, that is one of those past.
+fn stored(line: &str, past: &Table) -> Stored {
+    let words: Vec<&str> = line.splitn(7, ' ').collect();
+    let before = table::totals(words[3], past);
+    let untouched: Report = past[..35].try_into().unwrap();
+    let after = match (words[0], words[4]) {
+        ("report", "=") => untouched.to_vec(),
+        ("report", report) => table::report(report, &untouched).to_vec(),
+        (_, "=") => before.to_vec(),
+        (_, after) => table::totals(after, past).to_vec(),
+    };
+    let answer = match words[2] {
+        "added" => ADDED,
+        "null" => NULL,
+        rows if rows.starts_with('+') => rows[1..].parse::<u64>().unwrap() << 8,
         refusal => refusal.parse().unwrap(),
     };
-    let before = table::totals(words[2], past);
-    let after = if words[3] == "=" { before } else { table::totals(words[3], past) };
-    (answer, before, after, (table::bytes(words[4]), words[1].parse().unwrap()))
+    let given = match words.get(6) {
+        Some(record) => (table::bytes(record), words[5].parse().unwrap()),
+        None => (Vec::new(), 0),
+    };
+    Stored { call: words[0].to_string(), desk: words[1].parse().unwrap(), answer, before, after, given }
 }
 
-/// The tables of tests/records/totals.txt: the second keeper and the functions are to come to what stands there.
+/// The same with the desks exchanged: what is due for one is due for the other.
+fn exchanged(stored: &Stored) -> Stored {
+    let other = |desk: u64| if DESKS.contains(&desk) { 3 - desk } else { desk };
+    let exchange = |table: &[u64]| -> Table {
+        let mut numbers: Table = table.try_into().unwrap();
+        numbers[1..7].rotate_left(3);
+        (0..day::ALL_ROWS).for_each(|row| numbers[day::row_at(row)] = other(numbers[day::row_at(row)]));
+        numbers
+    };
+    let after = if stored.call == "report" { stored.after.clone() } else { exchange(&stored.after).to_vec() };
+    Stored { call: stored.call.clone(), desk: other(stored.desk), before: exchange(&stored.before), after, given: stored.given.clone(), ..*stored }
+}
+
+/// What the second keeper says to a line.
+fn second(trial: &Trial, stored: &Stored, past: &Table) -> (u64, Vec<u64>) {
+    let mut days = Days::go_on(&stored.before);
+    match stored.call.as_str() {
+        "add" => {
+            let read = day::read(&stored.given.0, stored.given.1, &trial.calendar);
+            let answer = days.due(stored.desk, read);
+            days.take(stored.desk, read, answer);
+            (answer, days.table().to_vec())
+        }
+        "start" => (days.start(stored.desk), days.table().to_vec()),
+        "report" => {
+            let (answer, report) = days.report(stored.desk, past[..35].try_into().unwrap());
+            (answer, report.to_vec())
+        }
+        call => panic!("no call: {call}"),
+    }
+}
+
+/// The tables of tests/records/totals.txt: the second keeper and the functions are to come to what stands there, and for the other desk to
+/// the same.
 fn stored_tables() -> bool {
     let mut trial = Trial::new(1);
     let (mut count, mut alike) = (0, true);
     for (number, line) in table::lines(include_str!("records/totals.txt")) {
         let past = std::array::from_fn(|_| trial.random.next());
-        let (answer, before, after, given) = stored(line, &past);
-        let mut day = Day::go_on(&before);
-        let read = day::read(&given.0, given.1, &trial.calendar);
-        let due = day.due(read);
-        day.take(read, due);
-        if (due, day.table()) != (answer, after) {
-            eprintln!("tests/records/totals.txt:{number}: due is {answer}, the second keeper says {due}, {:?}", day.table());
-            alike = false;
+        let read = stored(line, &past);
+        for stored in [exchanged(&read), read] {
+            let (answer, after) = second(&trial, &stored, &past);
+            if (answer, &after) != (stored.answer, &stored.after) {
+                eprintln!("tests/records/totals.txt:{number}: due is {}, the second keeper says {answer}, {after:?}", stored.answer);
+                alike = false;
+            }
+            for _ in 0..8 {
+                trial.attempt(&stored.before, stored.desk, &stored.given);
+                trial.report(&Days::go_on(&stored.before), stored.desk);
+            }
         }
-        (0..16).for_each(|_| trial.attempt(&before, &given));
         count += 1;
     }
     println!("totals: {count} stored tables");
     alike && trial.counts.differences == 0
 }
 
-/// Days made from a seed, up to so many records, each from the opening of its table on; the table is reported now and then, and in the
-/// end.
-fn made_days(trial: &mut Trial, records: u64) {
-    let mut random = Random::new(trial.random.next());
-    while trial.counts.records < records {
-        let style = Style::any(&mut random);
-        let length = match random.below(8) {
-            _ if style.huge.is_some() => random.from(1500, 2200),
-            0 => random.from(1000, 3000),
-            1..=3 => random.from(200, 1000),
-            _ => random.from(0, 200),
-        };
-        let before = rows::rubbish(&mut random, &style.currencies);
-        let (mut day, mut table) = trial.open(&before);
-        for _ in 0..length {
-            let given = Maker { random: &mut random, offset: 0, calendar: &trial.calendar }.record_to_add(&style, &table);
-            trial.add(&mut day, &mut table, &given);
-            if random.once_in(16) {
-                trial.report(&day, &table);
-            }
-        }
-        trial.report(&day, &table);
-    }
-}
+// ---- Tables that are handed in -------------------------------------------------------------------------------------
 
-/// Tables made from a seed and handed in, damaged and not, up to so many records: one is added to each, or two or three.
+/// Tables made from a seed and handed in, damaged and not, up to so many records: one is added to each, or two or three, and a day is started
+/// now and then.
 fn made_tables(trial: &mut Trial, records: u64) {
     let mut random = Random::new(trial.random.next());
     while trial.counts.records < records {
-        let mut style = Style::any(&mut random);
-        style.huge = style.huge.filter(|_| random.once_in(4));
-        let damaged = random.once_in(3);
-        let make = if damaged { rows::damaged } else { rows::proper };
-        let mut table = make(&mut random, &style.currencies);
-        let mut day = Day::go_on(&table);
-        trial.report(&day, &table);
+        let mut styles = money::styles(&mut random);
+        styles.iter_mut().for_each(|style| style.huge = style.huge.filter(|_| random.once_in(4)));
+        let make = if random.once_in(3) { rows::damaged } else { rows::proper };
+        let mut days = Days::go_on(&make(&mut random, &styles));
+        trial.report_both(&days);
         for _ in 0..random.from(1, 3) {
-            let given = Maker { random: &mut random, offset: 0, calendar: &trial.calendar }.record_to_add(&style, &table);
-            trial.add(&mut day, &mut table, &given);
+            let desk = if random.once_in(40) { random.one_of(&NO_DESKS) } else { random.one_of(&DESKS) };
+            if random.once_in(4) {
+                trial.start(&mut days, desk);
+                continue;
+            }
+            let mut maker = Maker { random: &mut random, offset: 0, calendar: &trial.calendar };
+            let given = maker.record_to_add(&styles[usize::from(desk == 2)], &days.table(), desk);
+            trial.add(&mut days, desk, &given);
         }
-        trial.report(&day, &table);
+        trial.report_both(&days);
     }
 }
 
@@ -185,14 +141,20 @@ fn every_damage() -> Counts {
     let mut count = 0;
     let mut one = |table: &Table| {
         count += 1;
-        trial.attempt(table, &records[count % records.len()]);
+        trial.attempt(table, DESKS[count % 2], &records[count / 2 % records.len()]);
     };
     limits::every_byte(&mut one);
     limits::every_two_rows(&mut one);
     limits::every_total(&mut one);
     limits::every_count(&mut one);
-    let mut all = |table: &Table| records.iter().for_each(|given| trial.attempt(table, given));
+    limits::every_desk(&mut one);
+    let mut all = |table: &Table| {
+        for (given, desk) in records.iter().flat_map(|given| DESKS.map(|desk| (given, desk))) {
+            trial.attempt(table, desk, given);
+        }
+    };
     limits::every_row_count(&mut all);
+    limits::every_share(&mut all);
     limits::every_past(&mut all);
     trial.counts
 }
@@ -200,51 +162,98 @@ fn every_damage() -> Counts {
 /// Totals at both ends of the range, in every row.
 fn every_end() -> Counts {
     let mut trial = Trial::new(3);
-    limits::every_end(|table, given| trial.attempt(table, given));
+    limits::every_end(|table, desk, given| trial.attempt(table, desk, given));
     trial.counts
 }
 
-/// Every two reasons for a refusal at once: tables of every kind with records of every kind.
+/// Every two reasons for a refusal at once: tables of every kind with records of every kind; and a desk that is none with each of them.
 fn every_order() -> Counts {
     let mut trial = Trial::new(4);
     let tables = limits::many_tables();
-    for given in limits::many_records() {
+    for (i, given) in limits::many_records().iter().enumerate() {
         let read = day::read(&given.0, given.1, &trial.calendar);
         for table in &tables {
-            trial.add_read(&mut Day::go_on(table), &mut table.clone(), &given, read);
+            trial.add_read(&mut Days::go_on(table), 1, given, read);
+        }
+        for (j, table) in tables.iter().enumerate().skip(i % 8).step_by(8) {
+            let desk = NO_DESKS[(i + j / 8) % NO_DESKS.len()];
+            trial.add_read(&mut Days::go_on(table), desk, given, read);
         }
     }
-    trial.counts
-}
-
-/// A day that is opened and comes to a total at each end of the range, by 900 of the largest amounts and one that just fits.
-fn full_totals() -> Counts {
-    let mut trial = Trial::new(5);
-    for (sign, other) in [("", "-"), ("-", "")] {
-        let (mut day, mut table) = trial.open(&[7; 36]);
-        let mut add = |value: String| trial.add(&mut day, &mut table, &limits::amount(&value, "EUR"));
-        (0..902).for_each(|_| add(format!("{sign}999999999999.9999")));
-        ["0.0901", "0.0900", "0.0001", "0"].iter().for_each(|value| add(format!("{sign}{value}")));
-        (0..1802).for_each(|_| add(format!("{other}999999999999.9999")));
-        ["0.0901", "0.0900", "0.0001", "0"].iter().for_each(|value| add(format!("{other}{value}")));
-        trial.report(&day, &table);
+    for (table, desk) in tables.iter().flat_map(|table| NO_DESKS.map(|desk| (table, desk))) {
+        trial.start(&mut Days::go_on(table), desk);
+        trial.report(&Days::go_on(table), desk);
     }
     trial.counts
 }
 
-/// A day that is opened and given a million records, and then some more.
+// ---- Days from the opening on --------------------------------------------------------------------------------------
+
+/// Two desks whose tables are opened and come to a total at each end of the range, by 900 of the largest amounts and one that just fits; one
+/// desk goes to one end, and the other to the other, in turn.
+fn full_totals() -> Counts {
+    let mut trial = Trial::new(5);
+    for signs in [["", "-"], ["-", ""]] {
+        let mut days = trial.open(&[7; 103]);
+        for value in ["999999999999.9999"; 902].iter().chain(&["0.0901", "0.0900", "0.0001", "0"]) {
+            trial.add(&mut days, 1, &limits::amount(&format!("{}{value}", signs[0]), "EUR"));
+            trial.add(&mut days, 2, &limits::amount(&format!("{}{value}", signs[1]), "EUR"));
+        }
+        trial.report_both(&days);
+        // Desk 1 goes to the other end, and desk 2 begins anew.
+        trial.start(&mut days, 2);
+        for value in ["999999999999.9999"; 1802].iter().chain(&["0.0901", "0.0900", "0.0001", "0"]) {
+            trial.add(&mut days, 1, &limits::amount(&format!("{}{value}", signs[1]), "EUR"));
+        }
+        trial.report_both(&days);
+    }
+    trial.counts
+}
+
+/// A desk that is given a million records, and then some more, while the other adds now and then; its day is started anew in the end.
 fn full_day() -> Counts {
     let mut trial = Trial::new(6);
     let given: Vec<Given> = limits::few_records();
     let read: Vec<Record> = given.iter().map(|(record, offset)| day::read(record, *offset, &trial.calendar)).collect();
-    let (mut day, mut table) = trial.open(&[u64::MAX; 36]);
+    let mut days = trial.open(&[u64::MAX; 103]);
     for i in 0..1_000_008 {
         // Few are added, so that the list that is summed each time stays short.
         let kind = if i % 20_000 < 2 { i % 20_000 } else { 2 + i % 2 };
-        trial.add_read(&mut day, &mut table, &given[kind], read[kind]);
+        trial.add_read(&mut days, 1, &given[kind], read[kind]);
+        if i % 50_000 == 7 {
+            trial.add_read(&mut days, 2, &given[i / 50_000 % 4], read[i / 50_000 % 4]);
+        }
     }
-    trial.report(&day, &table);
+    for desk in [2, 1, 2, 1] {
+        let answers: Vec<u64> = (0..4).map(|kind| trial.add_read(&mut days, desk, &given[kind], read[kind])).collect();
+        assert!(answers.iter().all(|answer| (*answer == DAY_FULL) == (desk == 1)));
+    }
+    trial.report_both(&days);
+    trial.start(&mut days, 1);
+    (0..4).for_each(|kind| assert!(trial.add_read(&mut days, 1, &given[kind], read[kind]) != DAY_FULL));
+    trial.report_both(&days);
     trial.counts
+}
+
+/// Rows that are freed by a start and used again.
+fn rounds() -> Counts {
+    let mut trial = Trial::new(7);
+    mixed::rounds(&mut trial);
+    trial.counts
+}
+
+/// What is made from a seed: half of the records in histories from an opened table on, half to tables that are handed in.
+fn made(options: &Options) -> bool {
+    let mut trial = Trial::new(options.seed);
+    mixed::histories(&mut trial, options.cases / 2);
+    let in_days = [NO_ROW, TOTAL].map(|answer| trial.counts.answered(answer));
+    made_tables(&mut trial, options.cases);
+    let made = trial.counts;
+    made.print(&format!("{} records made from seed {}, in histories and to tables that are handed in", made.records, options.seed));
+    println!("  {:<56}{:>12}", "NO ROW in histories from an opened table on", in_days[0]);
+    println!("  {:<56}{:>12}", "TOTAL in histories from an opened table on", in_days[1]);
+    let broad = options.cases < 100_000 || made.is_broad() && !in_days.contains(&0);
+    broad && made.differences == 0
 }
 
 /// Whether the functions and the second keeper agree.
@@ -253,18 +262,7 @@ pub fn run(options: &Options) -> bool {
         println!("totals: the library has no such functions, and the second keeper is tried alone");
     }
     let mut alike = stored_tables();
-    let mut trial = Trial::new(options.seed);
-    made_days(&mut trial, options.cases / 2);
-    let in_days = [day::NO_ROW, day::TOTAL].map(|answer| trial.counts.answered(answer));
-    made_tables(&mut trial, options.cases);
-    let made = trial.counts;
-    made.print(&format!("{} records made from seed {}, in days and to tables that are handed in", made.records, options.seed));
-    println!("  {:<52}{:>12}", "NO ROW in days from an opened table on", in_days[0]);
-    println!("  {:<52}{:>12}", "TOTAL in days from an opened table on", in_days[1]);
-    alike &= made.differences == 0;
-    if options.cases >= 100_000 {
-        alike &= made.is_broad() && !in_days.contains(&0);
-    }
+    alike &= made(options);
     if !options.only_made {
         let series = [
             ("every damage of a table, and both sides of every limit", every_damage()),
@@ -272,6 +270,7 @@ pub fn run(options: &Options) -> bool {
             ("tables of every kind with records of every kind", every_order()),
             ("days that come to the ends of the range", full_totals()),
             ("a day of a million records", full_day()),
+            ("rows that are freed and used again", rounds()),
         ];
         for (what, counts) in series {
             counts.print(what);

@@ -14,8 +14,9 @@ uint64_t __real_rigcactus_list(const uint8_t *record, size_t record_len, int64_t
 uint64_t __real_rigcactus_compare(const uint8_t *first, size_t first_len, const uint8_t *second, size_t second_len, int64_t offset);
 uint64_t __real_rigcactus_print(const uint8_t *list, size_t list_len, uint8_t *record, size_t record_len);
 uint64_t __real_rigcactus_totals_open(uint64_t table[RIGCACTUS_TABLE_NUMBERS]);
-uint64_t __real_rigcactus_totals_add(uint64_t table[RIGCACTUS_TABLE_NUMBERS], const uint8_t *record, size_t record_len, int64_t offset);
-uint64_t __real_rigcactus_totals_report(const uint64_t table[RIGCACTUS_TABLE_NUMBERS], uint64_t report[RIGCACTUS_REPORT_NUMBERS]);
+uint64_t __real_rigcactus_totals_start(uint64_t table[RIGCACTUS_TABLE_NUMBERS], uint64_t desk);
+uint64_t __real_rigcactus_totals_add(uint64_t table[RIGCACTUS_TABLE_NUMBERS], uint64_t desk, const uint8_t *record, size_t record_len, int64_t offset);
+uint64_t __real_rigcactus_totals_report(const uint64_t table[RIGCACTUS_TABLE_NUMBERS], uint64_t desk, uint64_t report[RIGCACTUS_REPORT_NUMBERS]);
 
 uint64_t __wrap_rigcactus_cut(const uint8_t *text, size_t text_len, uint64_t room);
 uint64_t __wrap_rigcactus_tick(const uint8_t *text, size_t text_len, int64_t offset, int64_t *tick);
@@ -24,8 +25,9 @@ uint64_t __wrap_rigcactus_list(const uint8_t *record, size_t record_len, int64_t
 uint64_t __wrap_rigcactus_compare(const uint8_t *first, size_t first_len, const uint8_t *second, size_t second_len, int64_t offset);
 uint64_t __wrap_rigcactus_print(const uint8_t *list, size_t list_len, uint8_t *record, size_t record_len);
 uint64_t __wrap_rigcactus_totals_open(uint64_t table[RIGCACTUS_TABLE_NUMBERS]);
-uint64_t __wrap_rigcactus_totals_add(uint64_t table[RIGCACTUS_TABLE_NUMBERS], const uint8_t *record, size_t record_len, int64_t offset);
-uint64_t __wrap_rigcactus_totals_report(const uint64_t table[RIGCACTUS_TABLE_NUMBERS], uint64_t report[RIGCACTUS_REPORT_NUMBERS]);
+uint64_t __wrap_rigcactus_totals_start(uint64_t table[RIGCACTUS_TABLE_NUMBERS], uint64_t desk);
+uint64_t __wrap_rigcactus_totals_add(uint64_t table[RIGCACTUS_TABLE_NUMBERS], uint64_t desk, const uint8_t *record, size_t record_len, int64_t offset);
+uint64_t __wrap_rigcactus_totals_report(const uint64_t table[RIGCACTUS_TABLE_NUMBERS], uint64_t desk, uint64_t report[RIGCACTUS_REPORT_NUMBERS]);
 
 static volatile uint8_t last_read;
 
@@ -127,10 +129,40 @@ uint64_t __wrap_rigcactus_print(const uint8_t *list, size_t list_len, uint8_t *r
 
 uint64_t __wrap_rigcactus_totals_open(uint64_t table[RIGCACTUS_TABLE_NUMBERS])
 {
-    uint64_t last = table[35], answer = __real_rigcactus_totals_open(table);
+    uint64_t last = table[102], answer = __real_rigcactus_totals_open(table);
 
     if (planted() == 28)
-        table[35] = last; /* the last number is left as it was */
+        table[102] = last; /* the last number is left as it was */
+    return answer;
+}
+
+/* Exchanges two rows of a table. */
+static void exchange(uint64_t *first, uint64_t *second)
+{
+    uint64_t kept[3];
+    memcpy(kept, first, sizeof kept);
+    memcpy(first, second, sizeof kept);
+    memcpy(second, kept, sizeof kept);
+}
+
+uint64_t __wrap_rigcactus_totals_start(uint64_t table[RIGCACTUS_TABLE_NUMBERS], uint64_t desk)
+{
+    uint64_t before[RIGCACTUS_TABLE_NUMBERS];
+    memcpy(before, table, sizeof before);
+    uint64_t answer = __real_rigcactus_totals_start(table, desk);
+    int moved = answer == 0 && table[0] < before[0] && before[7] == desk;
+
+    switch (planted()) {
+    case 29: if (answer == 0) memcpy(table + 1, before + 1, 48); break;                        /* the counts stay */
+    case 30: if (answer == 0) memset(table + 1, 0, 48); break;                                 /* the other desk's counts are 0 too */
+    case 31: if (moved && table[0] > 1) exchange(table + 7, table + 10); break;                /* rows that move up change their order */
+    case 32: if (moved) memset(table + 7 + 3 * table[0], 0, 24); break;                        /* a row that is freed is cleared */
+    case 33: if (moved) table[0] = before[0]; break;                                           /* as many rows are held as before */
+    case 34: if (answer == RIGCACTUS_DAMAGED) table[1] = table[4] = 0; break;                  /* written though it is refused */
+    case 35: if (moved && table[0] > 0) memcpy(table + 7, before + 7, 24); break;              /* the first row does not move up */
+    case 36: return answer == RIGCACTUS_NO_DESK && before[0] > 32 ? RIGCACTUS_DAMAGED : answer;
+    case 37: last_read = ((uint8_t *)table)[after_table]; break;                               /* a byte after the table is read */
+    }
     return answer;
 }
 
@@ -138,43 +170,80 @@ uint64_t __wrap_rigcactus_totals_open(uint64_t table[RIGCACTUS_TABLE_NUMBERS])
 static size_t changed_row(const uint64_t *before, const uint64_t *table)
 {
     size_t row = 0;
-    while (row < 15 && before[5 + 2 * row] == table[5 + 2 * row])
+    while (row < 31 && before[9 + 3 * row] == table[9 + 3 * row])
         row++;
     return row;
 }
 
-uint64_t __wrap_rigcactus_totals_add(uint64_t table[RIGCACTUS_TABLE_NUMBERS], const uint8_t *record, size_t record_len, int64_t offset)
+/* What a record comes to, with faults that one desk alone could have. */
+static uint64_t with_fault_of_one(uint64_t *table, const uint64_t *before, uint64_t *counts, const uint8_t *record, size_t record_len, uint64_t answer)
 {
-    uint64_t before[RIGCACTUS_TABLE_NUMBERS];
-    memcpy(before, table, sizeof before);
-    uint64_t answer = __real_rigcactus_totals_add(table, record, record_len, offset);
     size_t row = changed_row(before, table);
+    uint64_t *total = &table[9 + 3 * row], total_before = before[9 + 3 * row];
     int added = rigcactus_entry(answer) == RIGCACTUS_ADDED, null = rigcactus_entry(answer) == RIGCACTUS_NULL;
 
     switch (planted()) {
-    case 29: table[3] -= answer == RIGCACTUS_OFFSET; break;                                    /* not counted */
-    case 30: table[3] += answer == RIGCACTUS_DAMAGED; break;                                   /* counted though it may not be */
-    case 31: table[3] += answer == RIGCACTUS_DAY_FULL; break;
-    case 32: if (null) table[2]--, table[1]++; break;                                          /* counted as added */
-    case 33: if (added) table[5 + 2 * row] += table[5 + 2 * row] - before[5 + 2 * row]; break; /* added once more */
-    case 34: if (added && table[5 + 2 * row] == 0) table[0]--; break;                          /* a row that comes to zero is dropped */
-    case 35: if (added && table[0] < 16) table[35] = 0; break;                                 /* a row past those held is changed */
-    case 36: return answer == RIGCACTUS_NO_ROW ? RIGCACTUS_TOTAL : answer;
-    case 37: if (answer == RIGCACTUS_TOTAL) table[5] = (uint64_t)RIGCACTUS_MOST_TOTAL; break;  /* kept at the end of the range */
-    case 38: last_read = ((uint8_t *)table)[after_table]; break;                              /* a byte after the table is read */
-    case 39: last_read = record[record_len]; break;                                            /* a byte after the record */
+    case 38: counts[2] -= answer == RIGCACTUS_OFFSET; break;                                   /* not counted */
+    case 39: counts[2] += answer == RIGCACTUS_DAMAGED; break;                                  /* counted though it may not be */
+    case 40: counts[2] += answer == RIGCACTUS_DAY_FULL; break;
+    case 41: if (null) counts[1]--, counts[0]++; break;                                        /* counted as added */
+    case 42: if (added) *total += *total - total_before; break;                                /* added once more */
+    case 43: if (added && *total == 0) table[0]--; break;                                      /* a row that comes to zero is dropped */
+    case 44: if (added && table[0] < 32) table[102] = 0; break;                                /* a row past those held is changed */
+    case 45: return answer == RIGCACTUS_NO_ROW ? RIGCACTUS_TOTAL : answer;
+    case 46: if (answer == RIGCACTUS_TOTAL) table[9] = (uint64_t)RIGCACTUS_MOST_TOTAL; break;  /* kept at the end of the range */
+    case 47: last_read = ((uint8_t *)table)[after_table]; break;                               /* a byte after the table is read */
+    case 48: last_read = record[record_len]; break;                                            /* a byte after the record */
     }
     return answer;
 }
 
-uint64_t __wrap_rigcactus_totals_report(const uint64_t table[RIGCACTUS_TABLE_NUMBERS], uint64_t report[RIGCACTUS_REPORT_NUMBERS])
+/* The same with faults that take one desk for the other. */
+static uint64_t with_fault_of_two(uint64_t *table, const uint64_t *before, uint64_t desk, uint64_t answer)
 {
-    uint64_t answer = __real_rigcactus_totals_report(table, report);
+    size_t row = changed_row(before, table);
+    int added = rigcactus_entry(answer) == RIGCACTUS_ADDED, is_new = added && table[0] > before[0];
+    const uint64_t *others = before + 7 - 3 * desk;
 
     switch (planted()) {
-    case 40: if (rigcactus_count(answer) < 16) report[34] = table[35]; break;                  /* written past the rows */
-    case 41: if (answer == RIGCACTUS_DAMAGED) report[0] = 0; break;                            /* written though it is refused */
-    case 42: if (rigcactus_count(answer) == 2) report[4] = table[7], report[6] = table[5]; break; /* totals in another order */
+    case 49: if (answer == RIGCACTUS_VALUE) table[3 * desk]--, table[9 - 3 * desk]++; break;   /* the other desk's count */
+    case 50: if (added) table[7 + 3 * row] = 3 - desk; break;                                  /* the row becomes the other desk's */
+    case 51: if (is_new && table[0] > 16) memcpy(table, before, 8 * RIGCACTUS_TABLE_NUMBERS); break; /* 16 rows for both together */
+    case 52: return added && others[0] + others[1] + others[2] == RIGCACTUS_MOST_COUNTED ? RIGCACTUS_DAY_FULL : answer;
+    case 53: if (is_new && row > 0) exchange(table + 7, table + 7 + 3 * row); break;           /* a new row comes first */
+    }
+    return answer;
+}
+
+uint64_t __wrap_rigcactus_totals_add(uint64_t table[RIGCACTUS_TABLE_NUMBERS], uint64_t desk, const uint8_t *record, size_t record_len, int64_t offset)
+{
+    uint64_t before[RIGCACTUS_TABLE_NUMBERS];
+    memcpy(before, table, sizeof before);
+    uint64_t answer = __real_rigcactus_totals_add(table, desk, record, record_len, offset);
+
+    if (answer != RIGCACTUS_NO_DESK) {
+        answer = with_fault_of_one(table, before, table + 3 * desk - 2, record, record_len, answer);
+        return with_fault_of_two(table, before, desk, answer);
+    }
+    switch (planted()) {
+    case 54: table[3]++; break;                                                                /* a record of no desk is counted */
+    case 55: return before[0] > 32 ? RIGCACTUS_DAMAGED : answer;                               /* DAMAGED before NO DESK */
+    case 56: return desk > 3 ? __real_rigcactus_totals_add(table, desk & 3, record, record_len, offset) : answer; /* its lowest bits alone */
+    }
+    return answer;
+}
+
+uint64_t __wrap_rigcactus_totals_report(const uint64_t table[RIGCACTUS_TABLE_NUMBERS], uint64_t desk, uint64_t report[RIGCACTUS_REPORT_NUMBERS])
+{
+    uint64_t answer = __real_rigcactus_totals_report(table, desk, report);
+
+    switch (planted()) {
+    case 57: if (rigcactus_count(answer) < 16) report[34] = table[102]; break;                 /* written past the rows */
+    case 58: if (answer == RIGCACTUS_DAMAGED) report[0] = 0; break;                            /* written though it is refused */
+    case 59: if (rigcactus_count(answer) == 2) report[4] ^= report[6], report[6] ^= report[4], report[4] ^= report[6]; break; /* totals in another order */
+    case 60: if (rigcactus_refusal(answer) == 0) report[0] = table[7 - 3 * desk]; break;       /* the other desk's count */
+    case 61: return rigcactus_refusal(answer) == 0 ? table[0] << 8 : answer;                   /* the rows of both */
+    case 62: return answer == RIGCACTUS_NO_DESK ? RIGCACTUS_DAMAGED : answer;
     }
     return answer;
 }

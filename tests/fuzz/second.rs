@@ -30,7 +30,7 @@ mod tick;
 use std::slice;
 use std::sync::OnceLock;
 
-use day::{Day, Report, Table};
+use day::{Days, Report, Table};
 use options::Options;
 use printed::Dates;
 use tick::Calendar;
@@ -97,22 +97,32 @@ pub unsafe extern "C" fn second_print(list: *const u8, list_len: usize, record: 
 }
 
 /// # Safety
+/// The pointer leads to a table, of which nobody else changes anything during the call.
+#[no_mangle]
+pub unsafe extern "C" fn second_totals_start(table: *mut Table, desk: u64) -> u64 {
+    let mut days = Days::go_on(&*table);
+    let answer = days.start(desk);
+    *table = days.table();
+    answer
+}
+
+/// # Safety
 /// The pointers lead to a table and to so many bytes, of which nobody else changes any during the call, and which do not overlap.
 #[no_mangle]
-pub unsafe extern "C" fn second_totals_add(table: *mut Table, record: *const u8, record_len: usize, offset: i64) -> u64 {
-    let mut day = Day::go_on(&*table);
+pub unsafe extern "C" fn second_totals_add(table: *mut Table, desk: u64, record: *const u8, record_len: usize, offset: i64) -> u64 {
+    let mut days = Days::go_on(&*table);
     let record = day::read(slice::from_raw_parts(record, record_len), offset, calendar());
-    let answer = day.due(record);
-    day.take(record, answer);
-    *table = day.table();
+    let answer = days.due(desk, record);
+    days.take(desk, record, answer);
+    *table = days.table();
     answer
 }
 
 /// # Safety
 /// The pointers lead to a table and to a report, of which nobody else changes any during the call, and which do not overlap.
 #[no_mangle]
-pub unsafe extern "C" fn second_totals_report(table: *const Table, report: *mut Report) -> u64 {
-    let (answer, after) = Day::go_on(&*table).report(&*report);
+pub unsafe extern "C" fn second_totals_report(table: *const Table, desk: u64, report: *mut Report) -> u64 {
+    let (answer, after) = Days::go_on(&*table).report(desk, &*report);
     *report = after;
     answer
 }

@@ -5,6 +5,8 @@
 //! They are the records, lists and tables of tests/records, the records of examples/records, the names of examples/names, and some
 //! timestamps, in the form that tests/fuzz/services.c reads.
 
+// A report is no part of an input, and is not read.
+#[allow(dead_code)]
 #[path = "../table.rs"]
 mod table;
 
@@ -20,7 +22,7 @@ const COMPARE: u8 = 4;
 const PRINT: u8 = 5;
 const TOTALS: u8 = 6;
 
-/// What parts records in an input.
+/// What parts records and steps in an input.
 const PART: u8 = 0xFF;
 
 /// Timestamps of each precision, with an offset and without, and texts that are none: some are a byte away from one.
@@ -76,20 +78,23 @@ impl Writer {
         }
     }
 
-    /// The stored tables of daily totals, each with its record; and a day that begins with an empty one and is given all short records.
+    /// The stored tables of daily totals, each with its call; and days that begin with an empty table, in which the desks give all short
+    /// records in turn, and start anew now and then.
     fn totals(&mut self) {
-        let mut day = Vec::new();
-        for (_, line) in table::lines(include_str!("../records/totals.txt")) {
-            let words: Vec<&str> = line.splitn(5, ' ').collect();
-            let numbers = table::totals(words[2], &[0xA5A5_A5A5_A5A5_A5A5; 36]);
-            let record = table::bytes(words[4]);
-            self.write(TOTALS, words[1].parse().unwrap(), 0, &[numbers.map(u64::to_le_bytes).as_flattened(), &record].concat());
-            if record.len() < 200 {
-                day.push(record);
+        let mut days = Vec::new();
+        for (i, (_, line)) in table::lines(include_str!("../records/totals.txt")).enumerate() {
+            let words: Vec<&str> = line.splitn(7, ' ').collect();
+            let numbers = table::totals(words[3], &[0xA5A5_A5A5_A5A5_A5A5; 103]);
+            let offset = words.get(5).map_or(0, |offset| offset.parse().unwrap());
+            let record = words.get(6).map_or(Vec::new(), |record| table::bytes(record));
+            let step = step(words[0], words[1], &record);
+            self.write(TOTALS, offset, 0, &[numbers.map(u64::to_le_bytes).as_flattened(), &step].concat());
+            if words[0] == "add" && record.len() < 200 {
+                days.push(self::step(if i % 20 == 0 { "start" } else { "add" }, ["1", "2"][i % 2], &record));
             }
         }
-        for records in day.chunks(50) {
-            self.write(TOTALS, 0, 0, &[vec![0; 8 * 36], records.join(&PART)].concat());
+        for steps in days.chunks(50) {
+            self.write(TOTALS, 0, 0, &[vec![0; 8 * 103], steps.join(&PART)].concat());
         }
         self.write(TOTALS, 0, 0, b"");
     }
@@ -109,6 +114,20 @@ impl Writer {
             self.write(TICK, 0, 0, text);
             self.write(TICK, -840, 0, text);
         }
+    }
+}
+
+/// What a call does to a table of totals: a byte that says which it is and of which desk, and the record. A report is written at every step,
+/// so that for one alone a null record does.
+fn step(call: &str, desk: &str, record: &[u8]) -> Vec<u8> {
+    let desk = match desk {
+        "0" | "1" | "2" | "3" => desk.as_bytes()[0],
+        _ => b'9',
+    };
+    match call {
+        "start" => vec![desk | 4],
+        "report" => [&[desk], &b"<t xsi:type=\"MO\" nullFlavor=\"NI\"/>"[..]].concat(),
+        _ => [&[desk], record].concat(),
     }
 }
 

@@ -12,8 +12,9 @@
  *     byte 5           what the lent list, record, report or tick is filled with; and, if its lowest bit is set, offset and room are
  *                      moved to the top of their 64 bits
  *     the rest         the text, the record or the list to print; for compare two records, parted by a byte FF, or one that is compared
- *                      with itself; for totals the bytes of a table, with 0 where they are too few, and the records that are added to it
- *                      one after another, parted by bytes FF
+ *                      with itself; for totals the bytes of a table, with 0 where they are too few, and what is done to it one after
+ *                      another, parted by bytes FF: a byte whose two lowest bits are the desk, whose third starts its day, and whose
+ *                      fourth adds 2^32 to the desk, so that a digit from 0 to 3 adds, and one from 4 to 7 starts; and the record
  */
 #define _DEFAULT_SOURCE
 #include "rigcactus.h"
@@ -30,10 +31,11 @@ uint64_t second_check(const uint8_t *record, size_t record_len, int64_t offset);
 uint64_t second_list(const uint8_t *record, size_t record_len, int64_t offset, uint8_t *list, size_t list_len);
 uint64_t second_compare(const uint8_t *first, size_t first_len, const uint8_t *second, size_t second_len, int64_t offset);
 uint64_t second_print(const uint8_t *list, size_t list_len, uint8_t *record, size_t record_len);
-uint64_t second_totals_add(uint64_t *table, const uint8_t *record, size_t record_len, int64_t offset);
-uint64_t second_totals_report(const uint64_t *table, uint64_t *report);
+uint64_t second_totals_start(uint64_t *table, uint64_t desk);
+uint64_t second_totals_add(uint64_t *table, uint64_t desk, const uint8_t *record, size_t record_len, int64_t offset);
+uint64_t second_totals_report(const uint64_t *table, uint64_t desk, uint64_t *report);
 
-enum { PAGE = 4096, ROOM = 32768, HEAD = 6, MOST_LIST = 2047, MOST_RECORD = 8191, SPACES = 2, MOST_ADDED = 64 };
+enum { PAGE = 4096, ROOM = 32768, HEAD = 6, MOST_LIST = 2047, MOST_RECORD = 8191, SPACES = 2, MOST_STEPS = 64 };
 enum { TABLE = RIGCACTUS_TABLE_NUMBERS, REPORT = RIGCACTUS_REPORT_NUMBERS, TABLE_BYTES = 8 * TABLE };
 
 /* The first and the last tick that a timestamp can have, and the last of those in years 0001 to 9999, of which the first is 0. */
@@ -568,59 +570,101 @@ static int is_same(const uint64_t *first, const uint64_t *second, size_t count)
     return memcmp(first, second, 8 * count) == 0;
 }
 
-/* A table whose report is given is not damaged. */
-static void claim_undamaged(const uint64_t *table, const uint64_t *report)
+static int is_desk(uint64_t desk)
 {
-    CLAIM(table[0] <= RIGCACTUS_MOST_CURRENCIES);
-    CLAIM(table[1] <= RIGCACTUS_MOST_COUNTED && table[2] <= RIGCACTUS_MOST_COUNTED && table[3] <= RIGCACTUS_MOST_COUNTED);
-    CLAIM(table[1] + table[2] + table[3] <= RIGCACTUS_MOST_COUNTED);
-    for (size_t i = 0; i < table[0]; i++) {
-        struct rigcactus_total row = rigcactus_total_at(report, i);
-        for (size_t letter = 0; letter < 3; letter++)
-            CLAIM('A' <= row.currency[letter] && row.currency[letter] <= 'Z');
-        CLAIM(row.currency[3] == '\0' && table[4 + 2 * i] >> 24 == 0);
-        CLAIM(-RIGCACTUS_MOST_TOTAL <= row.total && row.total <= RIGCACTUS_MOST_TOTAL);
-        for (size_t j = 0; j < i; j++)
-            CLAIM(table[4 + 2 * j] != table[4 + 2 * i]);
-    }
+    return desk == 1 || desk == 2;
 }
 
-/* Has a table reported, and says whether it is damaged: the report has the numbers of the table, and nothing past its rows is changed. */
-static int is_damaged(const uint64_t *numbers, uint8_t fill)
+/* The counts of a desk: records added, null and refused. */
+static uint64_t *counts_of(uint64_t *table, uint64_t desk)
 {
-    uint64_t before[REPORT], due[REPORT];
+    return table + 1 + 3 * (desk - 1);
+}
+
+/* A row of a table: its desk, its currency and its total. */
+static uint64_t *row_of(uint64_t *table, size_t row)
+{
+    return table + 7 + 3 * row;
+}
+
+/* The part of a desk is not damaged in a table whose report is given, and the report has its counts and its rows in their order. */
+static void claim_part(uint64_t *table, uint64_t desk, const uint64_t *report, size_t rows)
+{
+    size_t found = 0;
+
+    CLAIM(is_same(report, counts_of(table, desk), 3));
+    for (size_t i = 0; i < 3; i++)
+        CLAIM(report[i] <= RIGCACTUS_MOST_COUNTED);
+    CLAIM(report[0] + report[1] + report[2] <= RIGCACTUS_MOST_COUNTED);
+    for (size_t i = 0; i < table[0]; i++)
+        if (row_of(table, i)[0] == desk) {
+            CLAIM(found < rows && is_same(report + 3 + 2 * found, row_of(table, i) + 1, 2));
+            struct rigcactus_total row = rigcactus_total_at(report, found);
+            for (size_t letter = 0; letter < 3; letter++)
+                CLAIM('A' <= row.currency[letter] && row.currency[letter] <= 'Z');
+            CLAIM(row.currency[3] == '\0' && row_of(table, i)[1] >> 24 == 0);
+            CLAIM(-RIGCACTUS_MOST_TOTAL <= row.total && row.total <= RIGCACTUS_MOST_TOTAL);
+            for (size_t j = 0; j < found; j++)
+                CLAIM(report[3 + 2 * j] != report[3 + 2 * found]);
+            found++;
+        }
+    CLAIM(found == rows && rows <= RIGCACTUS_MOST_CURRENCIES);
+}
+
+/* Has a desk reported: nothing past its rows is changed, nor the table. The answer is what it is refused for, if it is. */
+static uint64_t report_of(const uint64_t *numbers, uint64_t desk, uint8_t fill, uint64_t *due)
+{
+    uint64_t before[REPORT];
     memset(before, fill, sizeof before);
-    memset(due, fill, sizeof due);
+    memset(due, fill, sizeof before);
     uint64_t *table = place_numbers(table_room, numbers, TABLE, 1), *report = place_numbers(report_room, before, REPORT, 1);
     memset((uint8_t *)report - 64, 0x69, 64);
-    uint64_t answer = rigcactus_totals_report(table, report);
-    size_t rows = rigcactus_count(answer), written = answer == RIGCACTUS_DAMAGED ? 0 : 3 + 2 * rows;
+    uint64_t answer = rigcactus_totals_report(table, desk, report);
+    int refusal = rigcactus_refusal(answer);
+    size_t rows = rigcactus_count(answer), written = refusal == RIGCACTUS_ACCEPTED ? 3 + 2 * rows : 0;
 
-    CLAIM(answer == second_totals_report(numbers, due) && is_same(report, due, REPORT));
-    CLAIM(answer == RIGCACTUS_DAMAGED || answer == numbers[0] << 8);
-    CLAIM(written <= REPORT && is_same(report, numbers + 1, written));
-    CLAIM(is_all((uint8_t *)(report + written), 8 * (REPORT - written), fill) && is_all((uint8_t *)report - 64, 64, 0x69));
-    CLAIM(is_same(table, numbers, TABLE));
-    if (answer != RIGCACTUS_DAMAGED)
-        claim_undamaged(table, report);
+    CLAIM(answer == second_totals_report(numbers, desk, due) && is_same(report, due, REPORT));
+    CLAIM((refusal == RIGCACTUS_NO_DESK) == !is_desk(desk));
+    CLAIM(refusal == RIGCACTUS_ACCEPTED || answer == RIGCACTUS_NO_DESK || answer == RIGCACTUS_DAMAGED);
+    CLAIM(written <= REPORT && is_all((uint8_t *)(report + written), 8 * (REPORT - written), fill));
+    CLAIM(is_all((uint8_t *)report - 64, 64, 0x69) && is_same(table, numbers, TABLE));
+    if (refusal == RIGCACTUS_ACCEPTED)
+        claim_part(table, desk, report, rows);
     table = place_numbers(table_room, numbers, TABLE, 0);
     report = place_numbers(report_room, before, REPORT, 0);
-    CLAIM(rigcactus_totals_report(table, report) == answer && is_same(report, due, REPORT));
-    return answer == RIGCACTUS_DAMAGED;
+    CLAIM(rigcactus_totals_report(table, desk, report) == answer && is_same(report, due, REPORT));
+    return (uint64_t)refusal;
+}
+
+/* Whether a table is damaged: both desks say so, or neither. One that is not has rows of the two desks alone. */
+static int is_damaged(const uint64_t *numbers, uint8_t fill)
+{
+    uint64_t first[REPORT], second[REPORT];
+    int damaged = report_of(numbers, 1, fill, first) == RIGCACTUS_DAMAGED;
+
+    CLAIM((report_of(numbers, 2, fill, second) == RIGCACTUS_DAMAGED) == damaged);
+    if (!damaged) {
+        CLAIM(numbers[0] <= 2 * RIGCACTUS_MOST_CURRENCIES);
+        for (size_t i = 0; i < numbers[0]; i++)
+            CLAIM(is_desk(numbers[7 + 3 * i]));
+    }
+    return damaged;
 }
 
 /* What a record comes to with an empty table, which is opened here; the table afterwards has its currency and amount, if it has any. */
-static uint64_t add_alone(struct lent record, int64_t offset, uint8_t fill, uint64_t *alone)
+static uint64_t add_alone(uint64_t desk, struct lent record, int64_t offset, uint8_t fill, uint64_t *alone)
 {
     memset(alone, fill, TABLE_BYTES);
     CLAIM(rigcactus_totals_open(alone) == 0 && is_all((uint8_t *)alone, TABLE_BYTES, 0));
-    uint64_t answer = rigcactus_totals_add(alone, record.bytes, record.length, offset);
+    uint64_t answer = rigcactus_totals_add(alone, desk, record.bytes, record.length, offset);
     int refusal = rigcactus_refusal(answer), checked = rigcactus_refusal(check(record, offset));
+    const uint64_t *own = counts_of(alone, desk), *other = counts_of(alone, 3 - desk);
 
-    CLAIM(alone[1] + alone[2] + alone[3] == 1);
-    CLAIM(alone[1] == (answer == RIGCACTUS_ADDED << 8) && alone[2] == (answer == RIGCACTUS_NULL << 8));
-    CLAIM(alone[0] == alone[1] && is_all((uint8_t *)(alone + 4 + 2 * alone[0]), 8 * (32 - 2 * alone[0]), 0));
-    CLAIM(alone[3] == 0 || answer == (uint64_t)refusal);
+    CLAIM(own[0] + own[1] + own[2] == 1 && other[0] + other[1] + other[2] == 0);
+    CLAIM(own[0] == (answer == RIGCACTUS_ADDED << 8) && own[1] == (answer == RIGCACTUS_NULL << 8));
+    CLAIM(alone[0] == own[0] && (own[0] == 0 || row_of(alone, 0)[0] == desk));
+    CLAIM(is_all((uint8_t *)row_of(alone, alone[0]), 24 * (32 - alone[0]), 0));
+    CLAIM(own[2] == 0 || answer == (uint64_t)refusal);
     if (checked == RIGCACTUS_ACCEPTED)
         CLAIM(refusal == RIGCACTUS_ACCEPTED || refusal == RIGCACTUS_TYPE);
     else
@@ -629,67 +673,147 @@ static uint64_t add_alone(struct lent record, int64_t offset, uint8_t fill, uint
 }
 
 /* The answer that is due for an amount, and the numbers that are to change in the table before: its row, rows held, and a count. */
-static uint64_t due_for_amount(uint64_t *table, uint64_t currency, int64_t amount)
+static uint64_t due_for_amount(uint64_t *table, uint64_t desk, uint64_t currency, int64_t amount)
 {
-    size_t row = 0;
+    size_t row = table[0], own = 0;
     int64_t total = amount;
+    uint64_t *counts = counts_of(table, desk);
 
-    while (row < table[0] && table[4 + 2 * row] != currency)
-        row++;
+    for (size_t i = 0; i < table[0]; i++) {
+        own += row_of(table, i)[0] == desk;
+        if (row_of(table, i)[0] == desk && row_of(table, i)[1] == currency)
+            row = i;
+    }
     if (row < table[0])
-        total += (int64_t)table[5 + 2 * row];
-    table[3]++;
-    if (row == RIGCACTUS_MOST_CURRENCIES)
+        total += (int64_t)row_of(table, row)[2];
+    counts[2]++;
+    if (row == table[0] && own == RIGCACTUS_MOST_CURRENCIES)
         return RIGCACTUS_NO_ROW;
     if (total < -RIGCACTUS_MOST_TOTAL || total > RIGCACTUS_MOST_TOTAL)
         return RIGCACTUS_TOTAL;
-    table[3]--;
-    table[1]++;
+    counts[2]--;
+    counts[0]++;
     table[0] += row == table[0];
-    table[4 + 2 * row] = currency;
-    table[5 + 2 * row] = (uint64_t)total;
+    memcpy(row_of(table, row), (uint64_t[]){desk, currency, (uint64_t)total}, 24);
     return RIGCACTUS_ADDED << 8;
 }
 
-/* What a record does to a table follows from what it does to an empty one, unless the table is damaged or the day is full. */
-static uint64_t due_for(uint64_t *table, struct lent record, int64_t offset, uint8_t fill)
+/* What a record does to a table follows from what it does to an empty one, unless the table is damaged or the desk's day is full. */
+static uint64_t due_for(uint64_t *table, uint64_t desk, struct lent record, int64_t offset, uint8_t fill)
 {
     uint64_t alone[TABLE];
 
+    if (!is_desk(desk))
+        return RIGCACTUS_NO_DESK;
     if (is_damaged(table, fill))
         return RIGCACTUS_DAMAGED;
-    if (table[1] + table[2] + table[3] == RIGCACTUS_MOST_COUNTED)
+    uint64_t *counts = counts_of(table, desk);
+    if (counts[0] + counts[1] + counts[2] == RIGCACTUS_MOST_COUNTED)
         return RIGCACTUS_DAY_FULL;
-    uint64_t answer = add_alone(record, offset, fill, alone);
-    if (alone[1] == 1)
-        return due_for_amount(table, alone[4], (int64_t)alone[5]);
-    table[2] += alone[2];
-    table[3] += alone[3];
+    uint64_t answer = add_alone(desk, record, offset, fill, alone);
+    const uint64_t *added = counts_of(alone, desk);
+    if (added[0] == 1)
+        return due_for_amount(table, desk, row_of(alone, 0)[1], (int64_t)row_of(alone, 0)[2]);
+    counts[1] += added[1];
+    counts[2] += added[2];
     return answer;
 }
 
-/* Adds a record to a table. */
-static void try_add(uint64_t *numbers, const uint8_t *bytes, size_t length, int64_t offset, uint8_t fill)
+/* A start drops the desk's rows and counts: the other's rows move up in their order, and what stands past them stays. */
+static uint64_t due_for_start(uint64_t *table, uint64_t desk, uint8_t fill)
+{
+    size_t kept = 0;
+
+    if (!is_desk(desk))
+        return RIGCACTUS_NO_DESK;
+    if (is_damaged(table, fill))
+        return RIGCACTUS_DAMAGED;
+    for (size_t i = 0; i < table[0]; i++)
+        if (row_of(table, i)[0] != desk)
+            memmove(row_of(table, kept++), row_of(table, i), 24);
+    table[0] = kept;
+    memset(counts_of(table, desk), 0, 24);
+    return 0;
+}
+
+/*
+ * The other desk's report is the same after a call as before it. And with the other desk's day started anew, so that nothing of it is left,
+ * the call comes to the same for the one that makes it.
+ */
+static void claim_apart(const uint64_t *before, const uint64_t *after, uint64_t desk, struct lent record, int64_t offset, uint8_t fill, uint64_t answer)
+{
+    uint64_t one_report[REPORT], other_report[REPORT], table[TABLE];
+
+    CLAIM(report_of(before, 3 - desk, fill, one_report) == report_of(after, 3 - desk, fill, other_report));
+    CLAIM(is_same(one_report, other_report, REPORT));
+    memcpy(table, before, TABLE_BYTES);
+    CLAIM(rigcactus_totals_start(table, 3 - desk) == 0);
+    CLAIM(rigcactus_totals_add(table, desk, record.bytes, record.length, offset) == answer);
+    CLAIM(report_of(table, desk, fill, one_report) == report_of(after, desk, fill, other_report));
+    CLAIM(is_same(one_report, other_report, REPORT));
+}
+
+/* Starts a desk's day. */
+static void try_start(uint64_t *numbers, uint64_t desk, uint8_t fill)
+{
+    uint64_t due[TABLE], second[TABLE], report[REPORT], other[REPORT];
+    memcpy(due, numbers, TABLE_BYTES);
+    memcpy(second, numbers, TABLE_BYTES);
+    uint64_t due_answer = due_for_start(due, desk, fill);
+    uint64_t *table = place_numbers(table_room, numbers, TABLE, 1);
+    memset((uint8_t *)table - 64, 0x69, 64);
+    uint64_t answer = rigcactus_totals_start(table, desk);
+
+    see(6, answer, 48 | (table[0] & 15));
+    CLAIM(answer == due_answer && is_same(table, due, TABLE));
+    CLAIM(answer == second_totals_start(second, desk) && is_same(table, second, TABLE));
+    CLAIM(is_all((uint8_t *)table - 64, 64, 0x69));
+    table = place_numbers(table_room, numbers, TABLE, 0);
+    CLAIM(rigcactus_totals_start(table, desk) == answer && is_same(table, due, TABLE));
+    if (answer == 0) {
+        CLAIM(report_of(numbers, 3 - desk, fill, report) == report_of(due, 3 - desk, fill, other) && is_same(report, other, REPORT));
+        CLAIM(report_of(due, desk, fill, report) == 0 && is_all((uint8_t *)report, 24, 0));
+    }
+    memcpy(numbers, due, TABLE_BYTES);
+}
+
+/* Adds a record of a desk to a table. */
+static void try_add(uint64_t *numbers, uint64_t desk, const uint8_t *bytes, size_t length, int64_t offset, uint8_t fill)
 {
     uint64_t due[TABLE], second[TABLE];
     memcpy(due, numbers, TABLE_BYTES);
     memcpy(second, numbers, TABLE_BYTES);
     struct lent record = place(one, bytes, length, 1);
-    uint64_t due_answer = due_for(due, record, offset, fill);
+    uint64_t due_answer = due_for(due, desk, record, offset, fill);
     uint64_t *table = place_numbers(table_room, numbers, TABLE, 1);
     memset((uint8_t *)table - 64, 0x69, 64);
-    uint64_t answer = rigcactus_totals_add(table, record.bytes, record.length, offset);
+    uint64_t answer = rigcactus_totals_add(table, desk, record.bytes, record.length, offset);
 
     see(6, answer, rigcactus_entry(answer) << 4 | (table[0] & 15));
     CLAIM(answer == due_answer && is_same(table, due, TABLE));
-    CLAIM(answer == second_totals_add(second, record.bytes, record.length, offset) && is_same(table, second, TABLE));
+    CLAIM(answer == second_totals_add(second, desk, record.bytes, record.length, offset) && is_same(table, second, TABLE));
     CLAIM(is_all((uint8_t *)table - 64, 64, 0x69));
     CLAIM(length == 0 || memcmp(record.bytes, bytes, length) == 0);
+    if (answer != RIGCACTUS_NO_DESK && answer != RIGCACTUS_DAMAGED)
+        claim_apart(numbers, due, desk, record, offset, fill, answer);
     table = place_numbers(table_room, numbers, TABLE, 0);
     record = place(one, bytes, length, 0);
-    CLAIM(rigcactus_totals_add(table, record.bytes, record.length, offset) == answer && is_same(table, due, TABLE));
-    CLAIM(is_damaged(due, fill) == (answer == RIGCACTUS_DAMAGED));
+    CLAIM(rigcactus_totals_add(table, desk, record.bytes, record.length, offset) == answer && is_same(table, due, TABLE));
+    CLAIM(is_damaged(due, fill) == is_damaged(numbers, fill));
     memcpy(numbers, due, TABLE_BYTES);
+}
+
+/* Does one step: its first byte says what, and the others are the record. */
+static void try_step(uint64_t *numbers, const uint8_t *bytes, size_t length, int64_t offset, uint8_t fill)
+{
+    uint8_t what = length > 0 ? bytes[0] : '1';
+    uint64_t desk = (what & 3) + (what & 8 ? UINT64_C(1) << 32 : 0), report[REPORT];
+
+    if (what & 4)
+        try_start(numbers, desk, fill);
+    else
+        try_add(numbers, desk, bytes + (length > 0), length - (length > 0), offset, fill);
+    report_of(numbers, desk, fill, report);
 }
 
 static void try_totals(const uint8_t *bytes, size_t length, int64_t offset, uint8_t fill)
@@ -698,14 +822,14 @@ static void try_totals(const uint8_t *bytes, size_t length, int64_t offset, uint
     size_t head = length < TABLE_BYTES ? length : TABLE_BYTES;
     if (head > 0)
         memcpy(table, bytes, head);
-    const uint8_t *record = bytes + head, *end = bytes + length;
+    const uint8_t *step = bytes + head, *end = bytes + length;
 
-    for (int i = 0; i < MOST_ADDED; i++) {
-        const uint8_t *part = record < end ? memchr(record, 0xFF, (size_t)(end - record)) : NULL;
-        try_add(table, record, (size_t)((part ? part : end) - record), offset, fill);
+    for (int i = 0; i < MOST_STEPS; i++) {
+        const uint8_t *part = step < end ? memchr(step, 0xFF, (size_t)(end - step)) : NULL;
+        try_step(table, step, (size_t)((part ? part : end) - step), offset, fill);
         if (!part)
             return;
-        record = part + 1;
+        step = part + 1;
     }
 }
 
