@@ -31,7 +31,7 @@ use Rattle.demands.proofs.DesksHeld.{total-new, total-at, none-held, he
 use Rattle.demands.proofs.DesksNumbers.{start-numbers, null-numbers, refused-numbers, report-numbers}
 use Rattle.demands.proofs.DesksAdded.{added-held, added-new}
 use Rattle.demands.proofs.DesksCalls.{Usable, Refused, shared-refusal, of-desk, case, part-proper, part-undamaged, own-answer, start-given, add-given, report-given, start-refused, add-refused, report-refused}
-use Rattle.demands.proofs.DesksDays.{others-kept, lent-at, sound-at, day-at, limits-at, full-at, same-part, isolated}
+use Rattle.demands.proofs.DesksDays.{others-kept, lent-at, sound-at, day-at, limits-at, full-at, own-calls, same-part, isolated}
 
 pub totals-kept : TotalsPromise
 totals-kept = record { readings = reads; amounts = amount-read; range = range-of }
@@ -255,6 +255,7 @@ pub desks-kept : DesksPromise services
 desks-kept = record {
   lent = λ count numbers. (λ l. (l .long, small-at numbers (l .bits)), λ (l, b). record { long = l; bits = all-small numbers b });
   opens = λ numbers l. (refl, refl);
+  own-calls = own-calls;
   isolation = λ before alone l m n d o. (isolated before alone n d o, same-part before alone n d o);
   days = λ before l h n d. day-at before n d h;
   limits = λ before l h n d. limits-at before n d h;

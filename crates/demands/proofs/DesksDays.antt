@@ -5,7 +5,7 @@ use mathlib.Core.Logic.{_↔_}
 use mathlib.Core.Bool.{Bool, true, false, not, _||_, cond}
 use mathlib.Core.List.{List, []}
 use native.Mathlib.Omega.{arith}
-use borrow.Author.Tests.{eqb-true, eq-eqb, ne-eqb, not-false}
+use borrow.Author.Tests.{eqb-true, eqb-false, eq-eqb, ne-eqb, not-false}
 use lib.Dec.{eqb}
 use lib.ListN.{length}
 use lib.IntN.{ℤ}
@@ -24,7 +24,7 @@ use Rattle.rules.proofs.Desks.{rows-back, part-other, Sound, faultless, sound-p
 use Rattle.rules.proofs.DeskNumbers.{shared-read, shared-lent}
 use Rattle.demands.specs.Services.{services}
 use Rattle.demands.specs.Totals.{told, Limits}
-use Rattle.demands.specs.Desks.{IsDesk, Heard, hearing, leavesAfter, hears, tableAt, heardBy, saidTo, toldTo, OwnCalls, none, own, another}
+use Rattle.demands.specs.Desks.{IsDesk, Heard, hearing, leavesAfter, hears, tableAt, heardBy, saidTo, toldTo, OwnCalls, none, its, another}
 use Rattle.demands.proofs.DesksDamage.{is-desk}
 use Rattle.demands.proofs.DesksCalls.{Usable, Refused, no-desk, damaged, shared-refusal, of-desk, case, start-given, add-given, report-given, start-refused, add-refused}
 use Rattle.demands.proofs.Answers.{iff-trans}
@@ -233,11 +233,20 @@ module _ (before : List ℕ) where
     hears-at : (h : History DeskCall) (a : Ask) → hears services (at h) (call n a) ≡ heardOf a (reached (given n h))
     hears-at h a = hears-part (at h) n (usable-at h) a ∙ ap (heardOf a) (part-at h)
 
+-- every history has a desk's own calls
+pub own-calls : (n : ℕ) (all : History DeskCall) → (own : History DeskCall) × OwnCalls n all own
+own-calls n beginning = (beginning, none)
+own-calls n (h then k) = go (eqb (k .desk) n) refl (own-calls n h)
+  where
+    go : (b : Bool) → eqb (k .desk) n ≡ b → (own : History DeskCall) × OwnCalls n h own → (own : History DeskCall) × OwnCalls n (h then k) own
+    go true e (own, o) = (own then k, its o (eqb-true (k .desk) n e))
+    go false e (own, o) = (own, another o (eqb-false (k .desk) n e))
+
 -- what a desk has given is what it has given by its own calls
 own-given : (n : ℕ) {all own : History DeskCall} → OwnCalls n all own → given n all ≡ given n own
 unfolding given
 own-given n none = refl
-own-given n (own {k = k} o e) = rw (eq-eqb (k .desk) n e) (ap (givenThen (k .ask)) (own-given n o))
+own-given n (its {k = k} o e) = rw (eq-eqb (k .desk) n e) (ap (givenThen (k .ask)) (own-given n o))
 own-given n (another {k = k} o e) = rw (ne-eqb (k .desk) n e) (own-given n o)
 
 -- so its part is the same, and what it hears
@@ -253,5 +262,5 @@ module _ (before alone : List ℕ) (n : ℕ) (d : IsDesk n) where
   pub isolated : {all own : History DeskCall} → OwnCalls n all own → heardBy services before n all ≡ heardBy services alone n own
   unfolding heardBy
   isolated none = refl
-  isolated (own {k = k} o e) = rw (eq-eqb (k .desk) n e) (same-then (isolated o) (own-heard o k e))
+  isolated (its {k = k} o e) = rw (eq-eqb (k .desk) n e) (same-then (isolated o) (own-heard o k e))
   isolated (another {k = k} o e) = rw (ne-eqb (k .desk) n e) (isolated o)

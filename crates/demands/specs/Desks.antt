@@ -47,7 +47,7 @@ unfoldable pub howManyOf : (desk : ℕ) → (numbers : List ℕ) → (k : ℕ) �
 howManyOf n numbers zero = 0
 howManyOf n numbers (suc k) = howManyOf n numbers k + cond (eqb (deskAt numbers k) n) 1 0
 
--- among the first k rows of these numbers, those of a desk, each without the desk, and all others
+-- among the first k rows of these numbers, those of a desk, without its number; and all others, whole
 unfoldable pub ownRows : (desk k : ℕ) → (rows : List ℕ) → List ℕ
 ownRows n zero rows = []
 ownRows n (suc k) rows = cond (eqb (getD rows 0 0) n) (take 2 (drop 1 rows)) [] ++ ownRows n k (drop 3 rows)
@@ -99,7 +99,7 @@ pub record NotFull (numbers : List ℕ) (n : ℕ) : Type 0 where
   pub undamaged : Undamaged numbers n
   pub room : countedBy n numbers ≡ 1_000_000 → ⊥
 
--- Refusals that all calls of a desk share. "23 NO DESK, before all others, for a desk number other than 1 or 2"; then 21. They change nothing.
+-- Refusals that a start, a record and a report share. "23 NO DESK, before all others, for a desk number other than 1 or 2"; then 21.
 pub data Refuses (numbers : List ℕ) (n : ℕ) : (answer : ℕ) → Type 0 where
   no-desk : (IsDesk n → ⊥) → Refuses numbers n (number NO-DESK)
   damaged : IsDesk n → IsFaulty numbers → Refuses numbers n (number DAMAGED)
@@ -167,7 +167,7 @@ pub record Exactly (numbers : List ℕ) (n : ℕ) (k : Call) (answer : ℕ) : Ty
       ↔ (c : List ℕ) × (z x : ℤ) × (i : ℕ) × NotFull numbers n × (readingOf k ≡ answered (money c z)) × IsAt numbers n c i × IsTotal x (totalAt numbers i)
       × ((total : ℕ) → IsTotal (x +ℤ z) total → ⊥)
 
--- what a desk is answered: the answer, and the report in memory that it lent, none for a start or a record
+-- what a desk is answered: the answer, and the memory that it lent for a report as it is then, none for a start or a record
 pub record Heard : Type 0 where
   pub answer : ℕ
   pub memory : List ℕ
@@ -175,7 +175,7 @@ pub record Heard : Type 0 where
 abbrev pub hearing : (answer : ℕ) → (memory : List ℕ) → Heard
 hearing a m = record { answer = a; memory = m }
 
--- Calls of both desks in any order, calls with no desk among them, from the opening of a table on. A report is lent the table to read alone, so it
+-- Calls of both desks in any order, calls with no desk among them, from the opening of a table on. A report is lent the table only to read, so it
 -- leaves it as it is; another opening begins another history.
 module _ (s : Services) where
   abbrev pub leavesAfter : (numbers : List ℕ) → DeskCall → List ℕ
@@ -202,7 +202,7 @@ module _ (s : Services) where
     heardBy n beginning = beginning
     heardBy n (h then k) = cond (eqb (k .desk) n) (heardBy n h then hears (tableAt h) k) (heardBy n h)
 
-    -- the answers to the records that a desk gave "from that desk's last start", and what they told
+    -- the answers to the records that a desk gave "from that desk's last start", or from the opening if there is none, and what they told
     unfoldable pub saidTo : (desk : ℕ) → History DeskCall → History ℕ
     saidTo n beginning = beginning
     saidTo n (h then k) = cond (eqb (k .desk) n) (elim (k .ask) [
@@ -222,11 +222,11 @@ module _ (s : Services) where
 -- of a history, a desk's own calls alone
 pub data OwnCalls (n : ℕ) : (all own : History DeskCall) → Type 0 where
   none : OwnCalls n beginning beginning
-  own : {g h : History DeskCall} {k : DeskCall} → OwnCalls n g h → k .desk ≡ n → OwnCalls n (g then k) (h then k)
+  its : {g h : History DeskCall} {k : DeskCall} → OwnCalls n g h → k .desk ≡ n → OwnCalls n (g then k) (h then k)
   another : {g h : History DeskCall} {k : DeskCall} → OwnCalls n g h → (k .desk ≡ n → ⊥) → OwnCalls n (g then k) h
 
 pub record DesksPromise (s : Services) : Type 0 where
-  -- what the type of lent numbers says to C
+  -- lent numbers are so many, each of 64 bits
   pub lent : (count : ℕ) (numbers : List ℕ) → Lent count numbers ↔ (length numbers ≡ count) × ((i : ℕ) → getD numbers i 0 < 2 ^ 64)
   -- the opening: all numbers 0
   pub opens : (numbers : List ℕ) → Lent 103 numbers → (s .open-says numbers ≡ 0) × (s .open-leaves numbers ≡ replicate 103 0)
@@ -234,6 +234,7 @@ pub record DesksPromise (s : Services) : Type 0 where
   -- with the box to itself": those of its own calls alone, to a table of its own
   pub isolation : (before alone : List ℕ) → Lent 103 before → Lent 103 alone → (n : ℕ) → IsDesk n → {all own : History DeskCall} → OwnCalls n all own
       → (heardBy s before n all ≡ heardBy s alone n own) × (partOf n (sharedIn (tableAt s before all)) ≡ partOf n (sharedIn (tableAt s alone own)))
+  pub own-calls : (n : ℕ) (all : History DeskCall) → (own : History DeskCall) × OwnCalls n all own
   -- "A6 then reads per desk, from that desk's last start, its row and day limits included. All this is said of a table reached by calls from its opening."
   pub days : (before : List ℕ) → Lent 103 before → (h : History DeskCall) (n : ℕ) → IsDesk n
       → IsDay (partOf n (sharedIn (tableAt s before h))) (saidTo s before n h) (toldTo s before n h)

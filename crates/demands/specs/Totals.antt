@@ -1,4 +1,4 @@
--- 02-change-requests.md, A6, "A day's takings, exact", in its words: what a record says, how a table writes it, and two limits of a day. What
+-- 02-change-requests.md, A6, "A day's takings, exact", in its words: what a record says, currencies and totals as numbers, and two limits of a day. What
 -- the services do with a table, which two desks share, is in `Desks`.
 use Prim.Native.Nat.{ℕ, _+_, _-_, _*_, _^_, _≤_, _<_}
 use mathlib.Core.Path.{_≡_}
@@ -36,7 +36,7 @@ pub record AreDigits (least most : ℕ) (ds : List ℕ) : Type 0 where
   pub enough : least ≤ length ds
   pub few : length ds ≤ most
 
--- an amount as it is written: a sign if it is negative, digits, and a point before those of a fraction
+-- an amount as it is written: a sign or none, digits, and a point before those of a fraction; and its value
 abbrev pub pointed : (fraction : List ℕ) → List ℕ
 pointed [] = []
 pointed (f ∷ fs) = 46 ∷ f ∷ fs

@@ -1,4 +1,4 @@
--- 02-change-requests.md, A7: the calls of which both desks make theirs, mixed in any order.
+-- 02-change-requests.md, A7: a call of either desk, or under another number.
 use Prim.Native.Nat.{ℕ}
 use mathlib.Core.List.{List}
 use Rattle.rules.specs.TotalDays.{Call}
