@@ -234,6 +234,7 @@ pub record DesksPromise (s : Services) : Type 0 where
   -- with the box to itself": those of its own calls alone, to a table of its own
   pub isolation : (before alone : List ℕ) → Lent 103 before → Lent 103 alone → (n : ℕ) → IsDesk n → {all own : History DeskCall} → OwnCalls n all own
       → (heardBy s before n all ≡ heardBy s alone n own) × (partOf n (sharedIn (tableAt s before all)) ≡ partOf n (sharedIn (tableAt s alone own)))
+  -- and there are such of every history
   pub own-calls : (n : ℕ) (all : History DeskCall) → (own : History DeskCall) × OwnCalls n all own
   -- "A6 then reads per desk, from that desk's last start, its row and day limits included. All this is said of a table reached by calls from its opening."
   pub days : (before : List ℕ) → Lent 103 before → (h : History DeskCall) (n : ℕ) → IsDesk n
