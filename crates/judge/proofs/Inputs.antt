@@ -30,7 +30,7 @@ module _ (shift : ℕ) (input : List ℕ) where
   unfolding rankIn
   input-long h =
       rw (lt-ltb 16_384 (length input) h)
-      (least-first TOO-LONG _ (pass-append after (pass-when after NOT-UTF-8 (not (isUtf8 input)) refl) (element-or-markup after refl refl refl refl shift input refl)))
+      (least-first TOO-LONG _ (pass-append after (pass-when after NOT-UTF-8 (not (isUtf8 input)) refl) (element-or-markup after refl refl refl refl refl refl refl shift input refl)))
     where
       after : Refusal → Bool
       after q = leb (rank TOO-LONG) (rank q)
@@ -40,7 +40,7 @@ module _ (shift : ℕ) (input : List ℕ) where
     unfolding rankIn
     input-not-utf8 e =
         rw (le-ltb 16_384 (length input) short, e)
-        (least-first NOT-UTF-8 _ (element-or-markup (λ q. leb (rank NOT-UTF-8) (rank q)) refl refl refl refl shift input refl))
+        (least-first NOT-UTF-8 _ (element-or-markup (λ q. leb (rank NOT-UTF-8) (rank q)) refl refl refl refl refl refl refl shift input refl))
 
     module _ (whole : isUtf8 input ≡ true) where
       pub input-no-document : isSome (document input) ≡ false → some MARKUP ≡ firstOf (inputFaults shift input)

@@ -1,8 +1,8 @@
 -- What the code's refusals and verdicts mean, in the words of the rules.
 use mathlib.Core.Option.{Option, none, some}
-use Rattle.rules.specs.Refusal.{Refusal as Rule, OFFSET, TOO-LONG, NOT-UTF-8, MARKUP, TYPE, SHAPE, VALUE, RULE, UNKNOWN-BOUND, TOO-MANY, NOT-WRITABLE, NO-ROOM, NO-ROW, TOTAL, DAMAGED, NO-DESK, DAY-FULL}
+use Rattle.rules.specs.Refusal.{Refusal as Rule, OFFSET, TOO-LONG, NOT-UTF-8, MARKUP, TYPE, SHAPE, VALUE, DATE, CLOCK, ZONE, RULE, UNKNOWN-BOUND, TOO-MANY, NOT-WRITABLE, NO-ROOM, NO-ROW, TOTAL, DAMAGED, NO-DESK, DAY-FULL}
 use Rattle.refusal.specs.declared.Refusal.{Refusal}
-use Rattle.refusal.specs.declared.Refusal.the-variants.{Offset, TooLong, NotUtf8, Markup, «Type» as TypeFault, Shape, Value, Rule as RuleFault, UnknownBound, TooMany, NotWritable, NoRoom, NoRow, Total, Damaged, NoDesk, DayFull}
+use Rattle.refusal.specs.declared.Refusal.the-variants.{Offset, TooLong, NotUtf8, Markup, «Type» as TypeFault, Shape, Value, Date, Clock, Zone, Rule as RuleFault, UnknownBound, TooMany, NotWritable, NoRoom, NoRow, Total, Damaged, NoDesk, DayFull}
 use Rattle.refusal.specs.declared.Verdict.{Verdict}
 use Rattle.refusal.specs.declared.Verdict.the-variants.{Accepted, Refused}
 
@@ -17,6 +17,9 @@ refusalOf Markup = MARKUP
 refusalOf TypeFault = TYPE
 refusalOf Shape = SHAPE
 refusalOf Value = VALUE
+refusalOf Date = DATE
+refusalOf Clock = CLOCK
+refusalOf Zone = ZONE
 refusalOf RuleFault = RULE
 refusalOf UnknownBound = UNKNOWN-BOUND
 refusalOf TooMany = TOO-MANY

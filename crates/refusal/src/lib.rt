@@ -16,6 +16,9 @@ pub enum Refusal {
     Type,
     Shape,
     Value,
+    Date,
+    Clock,
+    Zone,
     Rule,
     UnknownBound,
     TooMany,
@@ -29,31 +32,6 @@ pub enum Refusal {
 pub enum Verdict {
     Accepted,
     Refused(Refusal),
-}
-
-// The number that a caller is told.
-pub fn number(r: Refusal) -> u64
-    ensures { λ n. ⌜ n ≡ pageNumber (refusalOf r) ⌝ }
-{
-    match r {
-        Refusal::NoDesk => 23,
-        Refusal::Damaged => 21,
-        Refusal::DayFull => 25,
-        Refusal::Offset => 1,
-        Refusal::TooLong => 2,
-        Refusal::NotUtf8 => 3,
-        Refusal::Markup => 4,
-        Refusal::Type => 5,
-        Refusal::Shape => 6,
-        Refusal::Value => 7,
-        Refusal::Rule => 8,
-        Refusal::UnknownBound => 9,
-        Refusal::TooMany => 10,
-        Refusal::NotWritable => 12,
-        Refusal::NoRoom => 11,
-        Refusal::NoRow => 16,
-        Refusal::Total => 17,
-    }
 }
 
 // The place on the ladder, from 0. No order goes by the number.
@@ -71,14 +49,49 @@ fn rank(r: Refusal) -> u64
         Refusal::Type => 7,
         Refusal::Shape => 8,
         Refusal::Value => 9,
-        Refusal::Rule => 10,
-        Refusal::UnknownBound => 11,
-        Refusal::TooMany => 12,
-        Refusal::NotWritable => 13,
-        Refusal::NoRoom => 14,
-        Refusal::NoRow => 15,
-        Refusal::Total => 16,
+        Refusal::Date => 10,
+        Refusal::Clock => 11,
+        Refusal::Zone => 12,
+        Refusal::Rule => 13,
+        Refusal::UnknownBound => 14,
+        Refusal::TooMany => 15,
+        Refusal::NotWritable => 16,
+        Refusal::NoRoom => 17,
+        Refusal::NoRow => 18,
+        Refusal::Total => 19,
     }
+}
+
+// The numbers that callers are told, in the order of the ladder.
+const NUMBERS: [u64; 20] = [
+    23,
+    21,
+    25,
+    1,
+    2,
+    3,
+    4,
+    5,
+    6,
+    7,
+    13,
+    14,
+    15,
+    8,
+    9,
+    10,
+    12,
+    11,
+    16,
+    17,
+];
+
+// The number that a caller is told.
+pub fn number(r: Refusal) -> u64
+    ensures { λ n. ⌜ n ≡ pageNumber (refusalOf r) ⌝ }
+{
+    let place = rank(r) as usize;
+    NUMBERS[place]
 }
 
 // Of two verdicts the one that comes first on the ladder; an acceptance gives way.

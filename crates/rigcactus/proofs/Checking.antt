@@ -25,7 +25,7 @@ module _ (offset : ℤ) (input : List ℕ) where
   record-offset e =
       rw e
       (sym (least-first OFFSET _ (pass-append after (pass-append after (pass-when after TOO-LONG (isTooLong input) refl) (pass-when after NOT-UTF-8 (not (isUtf8 input)) refl))
-      (element-or-markup after refl refl refl refl (shiftBy offset) input refl))))
+      (element-or-markup after refl refl refl refl refl refl refl (shiftBy offset) input refl))))
     where
       after : Refusal → Bool
       after q = leb (rank OFFSET) (rank q)

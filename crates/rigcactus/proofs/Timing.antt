@@ -16,45 +16,22 @@ use Rattle.timestamp.specs.declared.Timestamp.{Timestamp}
 use Rattle.timestamp.specs.declared.Timestamp.the-variants.{At, Refused}
 use Rattle.refusal.specs.declared.Refusal.{Refusal}
 use Rattle.rules.specs.Services.{packed, timing, tickAnswer, tickAfter}
-use Rattle.rules.proofs.Ticks.{read-or-value}
+use Rattle.rules.proofs.Limits.{tick-offset-limit, tick-length-limit, tick-within-limits}
 
 -- what the service answers, by the outcome
 abbrev pub Answers : (offset : ℤ) → List ℕ → Outcome Moment → Type 0
 Answers offset text o = timing offset text ≡ o
 
 pub timing-offset : (offset : ℤ) (text : List ℕ) → isOffset offset ≡ false → Answers offset text (refused OFFSET)
-unfolding timing firstOf rankIn
-timing-offset offset text e = rw e (go (isTooLong text) (read-or-value (shiftBy offset) text))
-  where
-    go : (b : Bool) → ((m : Moment) × (readTimestamp (shiftBy offset) text ≡ answered m)) ⊎ (readTimestamp (shiftBy offset) text ≡ refused VALUE)
-        → (readTimestamp (shiftBy offset) text unless (OFFSET ∷ []) ++ TOO-LONG when b) ≡ refused OFFSET
-    go true (inl m) = rw (m .1) refl
-    go false (inl m) = rw (m .1) refl
-    go true (inr h) = rw h refl
-    go false (inr h) = rw h refl
+timing-offset offset text = tick-offset-limit offset text .1
 
 pub timing-long : (offset : ℤ) (text : List ℕ) → isOffset offset ≡ true → 16_384 < length text → Answers offset text (refused TOO-LONG)
-unfolding timing firstOf rankIn
-timing-long offset text e h = rw (e, lt-ltb 16_384 (length text) h) (go (read-or-value (shiftBy offset) text))
-  where
-    go : ((m : Moment) × (readTimestamp (shiftBy offset) text ≡ answered m)) ⊎ (readTimestamp (shiftBy offset) text ≡ refused VALUE)
-        → (readTimestamp (shiftBy offset) text unless [] ++ (TOO-LONG ∷ [])) ≡ refused TOO-LONG
-    go (inl m) = rw (m .1) refl
-    go (inr h) = rw h refl
-
-pub timing-read : (offset : ℤ) (text : List ℕ) → isOffset offset ≡ true → length text ≤ 16_384 → Answers offset text (readTimestamp (shiftBy offset) text)
-unfolding timing firstOf rankIn
-timing-read offset text e h = rw (e, le-ltb 16_384 (length text) h) (go (read-or-value (shiftBy offset) text))
-  where
-    go : ((m : Moment) × (readTimestamp (shiftBy offset) text ≡ answered m)) ⊎ (readTimestamp (shiftBy offset) text ≡ refused VALUE)
-        → (readTimestamp (shiftBy offset) text unless [] ++ []) ≡ readTimestamp (shiftBy offset) text
-    go (inl m) = rw (m .1) refl
-    go (inr h) = rw h refl
+timing-long offset text e h = tick-length-limit offset text .1 (e, h)
 
 -- what the timestamp was read as
 pub timing-passed : (offset : ℤ) (text : List ℕ) (shift : ℕ) (o : Outcome Moment) → isOffset offset ≡ true → length text ≤ 16_384 → shift ≡ shiftBy offset
     → o ≡ readTimestamp shift text → timing offset text ≡ o
-timing-passed offset text shift o e h s r = timing-read offset text e h ∙ rw (← s) (sym r)
+timing-passed offset text shift o e h s r = tick-within-limits offset text e h ∙ rw (← s) (sym r)
 
 pub read-at : (shift : ℕ) (text : List ℕ) (t : Timestamp) (m : CodeMoment) → outcomeOf t ≡ readTimestamp shift text → t ≡ At m
     → readTimestamp shift text ≡ answered (moment m)

@@ -1,4 +1,4 @@
--- The refusals that a judged element can give are TYPE, SHAPE, VALUE and RULE. So checking a record gives those from OFFSET to RULE alone, and what is
+-- The refusals that a judged element can give are those from TYPE to RULE on the ladder. So checking a record gives those from OFFSET to RULE alone, and what is
 -- found before an element is judged comes first.
 use Prim.Native.Nat.{ℕ, _≤_}
 use mathlib.Core.Path.{_≡_, refl}
@@ -9,7 +9,7 @@ use borrow.Author.Tests.{leb-true}
 use lib.Dec.{leb, ltb}
 use lib.IntN.{ℤ}
 use Rattle.rules.specs.Basics.{isSome, ifSome, find, exists, bytes, isEmpty, same, begins}
-use Rattle.rules.specs.Refusal.{Refusal, OFFSET, TOO-LONG, NOT-UTF-8, MARKUP, TYPE, SHAPE, VALUE, RULE, rankIn, rank, firstOf, Outcome, answered, refused, faultsIn, faultsOf, _unless_, _when_}
+use Rattle.rules.specs.Refusal.{Refusal, OFFSET, TOO-LONG, NOT-UTF-8, MARKUP, TYPE, SHAPE, VALUE, DATE, CLOCK, ZONE, RULE, rankIn, rank, firstOf, Outcome, answered, refused, faultsIn, faultsOf, _unless_, _when_}
 use Rattle.rules.specs.Markup.{Attribute, Nodes, end, node, Element, document}
 use Rattle.rules.specs.Timestamp.{Written, timestamp, isDate, isClock, isZone, writtenFaults, momentOf, readTimestamp}
 use Rattle.rules.specs.Parsers.{whole}
@@ -56,15 +56,13 @@ module _ (p : Refusal → Bool) where
   pass-faults (answered a) h = none-left
   pass-faults (refused r) h = pass-one r (h r refl)
 
-module _ (test : Refusal → Bool) (type : test TYPE ≡ true) (shape : test SHAPE ≡ true) (value : test VALUE ≡ true) (rule : test RULE ≡ true) where
-  value-when : (b : Bool) → Pass test (VALUE when b)
-  value-when b = pass-when test VALUE b value
-
+-- those of a timestamp
+module _ (test : Refusal → Bool) (value : test VALUE ≡ true) (date : test DATE ≡ true) (clock : test CLOCK ≡ true) (zone : test ZONE ≡ true) where
   written-passes : (w : Written) → Pass test (writtenFaults w)
   unfolding writtenFaults
-  written-passes w = pass-append test (pass-append test (value-when (not (isDate w))) (value-when (not (isClock w)))) (value-when (not (isZone (w .zone))))
+  written-passes w =
+      pass-append test (pass-append test (pass-when test DATE (not (isDate w)) date) (pass-when test CLOCK (not (isClock w)) clock)) (pass-when test ZONE (not (isZone (w .zone))) zone)
 
-  -- those of a timestamp
   pub read-passes : (shift : ℕ) (text : List ℕ) → Pass test (faultsOf (readTimestamp shift text))
   unfolding readTimestamp
   read-passes shift text = go (whole timestamp text)
@@ -74,12 +72,18 @@ module _ (test : Refusal → Bool) (type : test TYPE ≡ true) (shape : test SHA
       go (some w) = pass-faults test (answered (momentOf shift w) unless writtenFaults w)
           (λ r e. first-passes test (written-passes w) (unless-refused (answered (momentOf shift w)) (writtenFaults w) r .0 e))
 
+-- those of an element
+module _ (test : Refusal → Bool) (type : test TYPE ≡ true) (shape : test SHAPE ≡ true) (value : test VALUE ≡ true) (date : test DATE ≡ true) (clock : test CLOCK ≡ true)
+    (zone : test ZONE ≡ true) (rule : test RULE ≡ true) where
+  value-when : (b : Bool) → Pass test (VALUE when b)
+  value-when b = pass-when test VALUE b value
+
   form-passes : (shift : ℕ) (f : Form) (text : List ℕ) → Pass test (formFaults shift f text)
   unfolding formFaults
   form-passes shift anyText text = none-left
   form-passes shift nonEmpty text = value-when (isEmpty text)
   form-passes shift flavor text = value-when (not (isFlavor text))
-  form-passes shift Form.timestamp text = read-passes shift text
+  form-passes shift Form.timestamp text = read-passes test value date clock zone shift text
   form-passes shift flag text = value-when (not (isFlag text))
   form-passes shift amount text = value-when (not (isSome (whole amountText text)))
   form-passes shift currency text = value-when (not (isCurrency text))
@@ -151,7 +155,7 @@ module _ (offset : ℤ) (input : List ℕ) where
       (pass-append isOfRecord
       (pass-append isOfRecord (pass-when isOfRecord OFFSET (not (isOffset offset)) refl) (pass-when isOfRecord TOO-LONG (isTooLong input) refl))
       (pass-when isOfRecord NOT-UTF-8 (not (isUtf8 input)) refl))
-      (element-or-markup isOfRecord refl refl refl refl (shiftBy offset) input refl)
+      (element-or-markup isOfRecord refl refl refl refl refl refl refl (shiftBy offset) input refl)
 
   -- checking gives no others
   pub check-refusals : {r : Refusal} → check offset input ≡ refused r → isOfRecord r ≡ true

@@ -4,17 +4,17 @@ use Prim.Native.Nat.{ℕ, _<_, _≤_}
 use mathlib.Core.Path.{_≡_, refl, sym, _∙_, ap}
 use mathlib.Core.Logic.{_↔_, Iff·trans}
 use mathlib.Core.Bool.{Bool, true, false, not}
-use mathlib.Core.List.{List, _∷_, _++_, append-assoc, List·Memᴰ·head}
+use mathlib.Core.List.{List, [], _∷_, _++_, append-assoc, List·Memᴰ·head}
 use mathlib.Core.Option.{Option, none, some}
 use native.Mathlib.Omega.{arith}
-use borrow.Author.Tests.{ltb-true, lt-ltb, le-leb}
+use borrow.Author.Tests.{ltb-true, lt-ltb, le-ltb, le-leb}
 use lib.Dec.{ltb, leb·suc-suc}
 use lib.ListN.{length}
 use lib.IntN.{ℤ, pos, negsuc}
 use lib.Signed.{leZ}
-use Rattle.rules.specs.Refusal.{Refusal, OFFSET, TOO-LONG, NOT-UTF-8, MARKUP, TYPE, SHAPE, VALUE, RULE, rankIn, rank, earlier, firstOf, answered, refused, faultsIn, faultsOf, _when_}
+use Rattle.rules.specs.Refusal.{Refusal, OFFSET, TOO-LONG, NOT-UTF-8, MARKUP, TYPE, SHAPE, VALUE, DATE, CLOCK, ZONE, RULE, rankIn, rank, earlier, firstOf, Outcome, answered, refused, faultsIn, faultsOf, _unless_, _when_}
 use Rattle.rules.specs.Judge.{topFaults}
-use Rattle.rules.specs.Timestamp.{readTimestamp}
+use Rattle.rules.specs.Timestamp.{Moment, readTimestamp}
 use Rattle.rules.specs.Utf8.{isUtf8, cutLength}
 use Rattle.rules.specs.Check.{isOffset, shiftBy, isTooLong, elementOf, recordFaults, check}
 use Rattle.rules.specs.Services.{timing, cutting}
@@ -98,8 +98,8 @@ module _ (offset : ℤ) (input : List ℕ) where
   unfolding rankIn inner
   inner-later r h =
       pass-append (stands-after r) (pass-when (stands-after r) NOT-UTF-8 (not (isUtf8 input)) (later r NOT-UTF-8 h (omega arith)))
-      (element-or-markup (stands-after r) (later r TYPE h (omega arith)) (later r SHAPE h (omega arith)) (later r VALUE h (omega arith)) (later r RULE h (omega arith))
-      (shiftBy offset) input (later r MARKUP h (omega arith)))
+      (element-or-markup (stands-after r) (later r TYPE h (omega arith)) (later r SHAPE h (omega arith)) (later r VALUE h (omega arith)) (later r DATE h (omega arith))
+      (later r CLOCK h (omega arith)) (later r ZONE h (omega arith)) (later r RULE h (omega arith)) (shiftBy offset) input (later r MARKUP h (omega arith)))
 
   pub check-offset-limit : check offset input ≡ refused OFFSET ↔ isOffset offset ≡ false
   check-offset-limit = Iff·trans (rw record-faults at (check-refused offset input OFFSET)) (offset-first offset input inner inner-later)
@@ -115,7 +115,7 @@ module _ (offset : ℤ) (text : List ℕ) where
   unread-later : (r : Refusal) → rank r ≤ rank TOO-LONG → Pass (stands-after r) unread
   unfolding rankIn
   unread-later r h =
-      read-passes (stands-after r) (later r TYPE h (omega arith)) (later r SHAPE h (omega arith)) (later r VALUE h (omega arith)) (later r RULE h (omega arith)) (shiftBy offset) text
+      read-passes (stands-after r) (later r VALUE h (omega arith)) (later r DATE h (omega arith)) (later r CLOCK h (omega arith)) (later r ZONE h (omega arith)) (shiftBy offset) text
 
   timing-refused : (r : Refusal) → timing offset text ≡ refused r ↔ firstOf (faults offset text unread unread-later) ≡ some r
   unfolding timing
@@ -136,6 +136,15 @@ module _ (offset : ℤ) (text : List ℕ) where
 
   pub tick-length-limit : timing offset text ≡ refused TOO-LONG ↔ (isOffset offset ≡ true) × (16_384 < length text)
   tick-length-limit = Iff·trans (timing-refused TOO-LONG) (length-next offset text unread unread-later)
+
+  -- within both limits the answer is what the text is read as
+  pub tick-within-limits : isOffset offset ≡ true → length text ≤ 16_384 → timing offset text ≡ readTimestamp (shiftBy offset) text
+  unfolding timing firstOf
+  tick-within-limits e h = rw (e, le-ltb 16_384 (length text) h) (go (readTimestamp (shiftBy offset) text))
+    where
+      go : (o : Outcome Moment) → (o unless []) ≡ o
+      go (answered m) = refl
+      go (refused r) = refl
 
 -- cutting a text
 pub cut-length-limit : (text : List ℕ) (room : ℕ) → cutting text room ≡ refused TOO-LONG ↔ 16_384 < length text

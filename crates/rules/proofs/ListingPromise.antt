@@ -10,7 +10,7 @@ use lib.ListN.{length, take, drop, length-append, length-drop}
 use lib.Seq.{take-at, drop-at}
 use lib.IntN.{ℤ, pos, negsuc}
 use Rattle.rules.specs.Basics.{every}
-use Rattle.rules.specs.Refusal.{Refusal, OFFSET, TOO-LONG, NOT-UTF-8, MARKUP, TYPE, SHAPE, VALUE, RULE, UNKNOWN-BOUND, TOO-MANY, NOT-WRITABLE, NO-ROOM, NO-ROW, TOTAL, DAMAGED, NO-DESK, DAY-FULL, number, rankIn, rank, firstOf, answered, refused, faultsIn}
+use Rattle.rules.specs.Refusal.{Refusal, OFFSET, TOO-LONG, NOT-UTF-8, MARKUP, TYPE, SHAPE, VALUE, DATE, CLOCK, ZONE, RULE, UNKNOWN-BOUND, TOO-MANY, NOT-WRITABLE, NO-ROOM, NO-ROW, TOTAL, DAMAGED, NO-DESK, DAY-FULL, number, rankIn, rank, firstOf, answered, refused, faultsIn}
 use Rattle.rules.specs.Markup.{Element}
 use Rattle.rules.specs.Check.{shiftBy, elementOf, check}
 use Rattle.rules.specs.Sets.{Bound, unbounded, openAt, closedAt, Interval, Expression}
@@ -39,6 +39,9 @@ small MARKUP = omega arith
 small TYPE = omega arith
 small SHAPE = omega arith
 small VALUE = omega arith
+small DATE = omega arith
+small CLOCK = omega arith
+small ZONE = omega arith
 small RULE = omega arith
 small UNKNOWN-BOUND = omega arith
 small TOO-MANY = omega arith

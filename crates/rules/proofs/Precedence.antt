@@ -1,17 +1,18 @@
 -- The refusal ladder: of all faults the one that stands first is given, whatever the order in which they are found.
-use Prim.Native.Nat.{ℕ, _≤_}
+use Prim.Native.Nat.{ℕ, _≤_, _<_}
 use mathlib.Core.Path.{_≡_, refl, sym, _∙_, ap}
 use mathlib.Core.Logic.{_↔_}
 use mathlib.Core.Bool.{Bool, true, false, cond}
-use mathlib.Core.List.{List, [], _∷_, _++_, append-assoc, List·Memᴰ, List·Memᴰ·head, List·Memᴰ·tail}
+use mathlib.Core.List.{List, [], _∷_, _++_, map, append-assoc, List·Memᴰ, List·Memᴰ·head, List·Memᴰ·tail}
 use mathlib.Core.Option.{Option, none, some}
+use native.Mathlib.Decide.{decLt}
 use native.Mathlib.Omega.{arith}
 use borrow.Author.Tests.{leb-true, leb-false, le-leb, lt-leb}
 use lib.Dec.{leb, eqb}
-use lib.ListN.{getD}
+use lib.ListN.{length, getD, List·getD-eq-default, List·getD-map}
 use lib.IntN.{ℤ}
 use Rattle.rules.specs.Basics.{ifSome, find}
-use Rattle.rules.specs.Refusal.{Refusal, OFFSET, TOO-LONG, NOT-UTF-8, MARKUP, TYPE, SHAPE, VALUE, RULE, UNKNOWN-BOUND, TOO-MANY, NOT-WRITABLE, NO-ROOM, NO-ROW, TOTAL, DAMAGED, NO-DESK, DAY-FULL, number, precedence, isSame, rankIn, rank, earlier, firstOf, Outcome, answered, refused, faultsIn, faultsOf, _unless_, _when_}
+use Rattle.rules.specs.Refusal.{Refusal, OFFSET, TOO-LONG, NOT-UTF-8, MARKUP, TYPE, SHAPE, VALUE, DATE, CLOCK, ZONE, RULE, UNKNOWN-BOUND, TOO-MANY, NOT-WRITABLE, NO-ROOM, NO-ROW, TOTAL, DAMAGED, NO-DESK, DAY-FULL, number, precedence, isSame, rankIn, rank, earlier, firstOf, Outcome, answered, refused, faultsIn, faultsOf, _unless_, _when_}
 use Rattle.rules.specs.Markup.{Element, document}
 use Rattle.rules.specs.Check.{elementOf, recordFaults, check}
 use Rattle.rules.proofs.Tests.{clash}
@@ -26,6 +27,9 @@ on-ladder MARKUP = (refl, refl)
 on-ladder TYPE = (refl, refl)
 on-ladder SHAPE = (refl, refl)
 on-ladder VALUE = (refl, refl)
+on-ladder DATE = (refl, refl)
+on-ladder CLOCK = (refl, refl)
+on-ladder ZONE = (refl, refl)
 on-ladder RULE = (refl, refl)
 on-ladder UNKNOWN-BOUND = (refl, refl)
 on-ladder TOO-MANY = (refl, refl)
@@ -39,6 +43,19 @@ on-ladder DAY-FULL = (refl, refl)
 
 pub rank-injective : (a b : Refusal) → rank a ≡ rank b → a ≡ b
 rank-injective a b e = sym (on-ladder a .0) ∙ ap (λ n. getD precedence n OFFSET) e ∙ on-ladder b .0
+
+-- the ladder holds so many, and the list of its numbers has each refusal's at its rank
+pub rank-below : (r : Refusal) → rank r < length precedence
+unfolding rankIn
+rank-below r = elim (decLt (rank r) (length precedence)) [
+  | yes h ↦ h
+  | no h ↦
+      let z : r ≡ OFFSET = sym (on-ladder r .0) ∙ List·getD-eq-default precedence OFFSET {n = rank r} (omega (arith, h)) in
+      absurd (omega (arith, h, ap rank z))
+]
+
+pub number-at-rank : (r : Refusal) → getD (map number precedence) (rank r) (number OFFSET) ≡ number r
+number-at-rank r = List·getD-map number precedence (rank r) OFFSET ∙ ap number (on-ladder r .0)
 
 pub found-by-number : (r : Refusal) → find (isSame r) precedence ≡ some r
 found-by-number r = on-ladder r .1

@@ -1,9 +1,9 @@
 -- What holds of a timestamp that is read: its parts, and the start, the end and the precision of its span.
 use Prim.Native.Nat.{ℕ, zero, suc, _+_, _-_, _*_, _^_, _≤_, _<_}
 use mathlib.Core.Path.{_≡_, refl, ap}
-use mathlib.Core.Logic.{_⊎_, inl, inr, _↔_}
+use mathlib.Core.Logic.{inl, inr, _↔_}
 use mathlib.Core.Bool.{Bool, true, false, not}
-use mathlib.Core.List.{List, [], _∷_, _++_, append-eq-nil-iff}
+use mathlib.Core.List.{List, [], _∷_, append-eq-nil-iff}
 use mathlib.Core.Option.{Option, none, some}
 use native.Mathlib.Nat.{mul-le-mul-right, one-le-pow, add-mul}
 use native.Mathlib.Omega.{arith}
@@ -13,7 +13,7 @@ use lib.ListN.{length}
 use lib.IntN.{ℤ, pos, negsuc}
 use lib.Pow.{pow-add}
 use Rattle.rules.specs.Basics.{ifSome, every, isDigit, decimalFrom, decimal}
-use Rattle.rules.specs.Refusal.{VALUE, rankIn, firstOf, answered, refused, _unless_, _when_}
+use Rattle.rules.specs.Refusal.{Refusal, VALUE, DATE, CLOCK, ZONE, rankIn, firstOf, answered, refused, _unless_, _when_}
 use Rattle.rules.specs.Parsers.{ok, next, else, guard, _or_, one, upTo, byte, whole}
 use Rattle.rules.specs.Calendar.{monthLength, daysOfYears, daysOfMonths, daysBeforeYear, second, minute, day}
 use Rattle.rules.specs.Timestamp.{Zone, noZone, plus, minus, Written, digits, twoDigits, point, zone, timestamp, monthOf, dayOf, hourOf, minuteOf, secondOf, tenThousandths, isDate, isClock, isZone, writtenFaults, shiftOf, startOf, unitLength, Moment, momentOf, readTimestamp}
@@ -35,28 +35,32 @@ read-answered shift text m = (go _ refl, λ (w, f, g, h). rw f (unless-answered 
     go none f e = clash (cc)
     go (some w) f e = let (g, h) = unless-answered (answered (momentOf shift w)) (writtenFaults w) m .0 e in (w, f, h, cc)
 
--- a text is read as a moment, or refused by VALUE
-pub read-or-value : (shift : ℕ) (text : List ℕ) → ((m : Moment) × (readTimestamp shift text ≡ answered m)) ⊎ (readTimestamp shift text ≡ refused VALUE)
-unfolding readTimestamp writtenFaults firstOf rankIn
-read-or-value shift text = by-form (whole timestamp text)
-  where
-    by-faults : (m : Moment) (a b c : Bool)
-        → ((n : Moment) × ((answered m unless VALUE when not a ++ VALUE when not b ++ VALUE when not c) ≡ answered n))
-        ⊎ ((answered m unless VALUE when not a ++ VALUE when not b ++ VALUE when not c) ≡ refused VALUE)
-    by-faults m true true true = inl (m, refl)
-    by-faults m true true false = inr refl
-    by-faults m true false true = inr refl
-    by-faults m true false false = inr refl
-    by-faults m false true true = inr refl
-    by-faults m false true false = inr refl
-    by-faults m false false true = inr refl
-    by-faults m false false false = inr refl
+-- what reading a text gives: a moment; VALUE for a wrong form; or for a right one the first of DATE, CLOCK and ZONE that applies
+pub data Reading (shift : ℕ) (text : List ℕ) : Type 0 where
+  a-moment : (m : Moment) → readTimestamp shift text ≡ answered m → Reading shift text
+  no-form : whole timestamp text ≡ none → readTimestamp shift text ≡ refused VALUE → Reading shift text
+  no-date : (w : Written) → whole timestamp text ≡ some w → isDate w ≡ false → readTimestamp shift text ≡ refused DATE → Reading shift text
+  no-clock : (w : Written) → whole timestamp text ≡ some w → isDate w ≡ true → isClock w ≡ false → readTimestamp shift text ≡ refused CLOCK → Reading shift text
+  no-zone : (w : Written) → whole timestamp text ≡ some w → isDate w ≡ true → isClock w ≡ true → isZone (w .zone) ≡ false
+      → readTimestamp shift text ≡ refused ZONE → Reading shift text
 
-    by-form : (o : Option Written)
-        → ((m : Moment) × (ifSome o (λ w. answered (momentOf shift w) unless writtenFaults w) (refused VALUE) ≡ answered m))
-        ⊎ (ifSome o (λ w. answered (momentOf shift w) unless writtenFaults w) (refused VALUE) ≡ refused VALUE)
-    by-form none = inr refl
-    by-form (some w) = by-faults (momentOf shift w) (isDate w) (isClock w) (isZone (w .zone))
+pub reading : (shift : ℕ) (text : List ℕ) → Reading shift text
+unfolding readTimestamp writtenFaults firstOf rankIn
+reading shift text = by-form _ refl
+  where
+    by-parts : (w : Written) → whole timestamp text ≡ some w → (a b c : Bool) → isDate w ≡ a → isClock w ≡ b → isZone (w .zone) ≡ c → Reading shift text
+    by-parts w f true true true d e g = a-moment (momentOf shift w) (rw (f, d, e, g) refl)
+    by-parts w f true true false d e g = no-zone w f d e g (rw (f, d, e, g) refl)
+    by-parts w f true false true d e g = no-clock w f d e (rw (f, d, e, g) refl)
+    by-parts w f true false false d e g = no-clock w f d e (rw (f, d, e, g) refl)
+    by-parts w f false true true d e g = no-date w f d (rw (f, d, e, g) refl)
+    by-parts w f false true false d e g = no-date w f d (rw (f, d, e, g) refl)
+    by-parts w f false false true d e g = no-date w f d (rw (f, d, e, g) refl)
+    by-parts w f false false false d e g = no-date w f d (rw (f, d, e, g) refl)
+
+    by-form : (o : Option Written) → whole timestamp text ≡ o → Reading shift text
+    by-form none f = no-form f (rw f refl)
+    by-form (some w) f = by-parts w f _ _ _ refl refl refl
 
 -- what the form of a timestamp gives
 pub record Form (w : Written) : Type 0 where
@@ -114,17 +118,17 @@ pub record Possible (w : Written) : Type 0 where
   pub second-high : secondOf w ≤ 59
   pub zone-right : isZone (w .zone) ≡ true
 
-unless-not : (b : Bool) → (VALUE when not b) ≡ [] → b ≡ true
-unless-not b e = not-false b (when-none VALUE (not b) e)
+unless-not : (r : Refusal) (b : Bool) → (r when not b) ≡ [] → b ≡ true
+unless-not r b e = not-false b (when-none r (not b) e)
 
 pub possible : (w : Written) → writtenFaults w ≡ [] → Possible w
 unfolding writtenFaults
 possible w e =
     let (e₂, zone) = append-eq-nil-iff .0 e in
     let (date, clock) = append-eq-nil-iff .0 e₂ in
-    let (ym, d) = both-true _ _ (unless-not (isDate w) date) in
+    let (ym, d) = both-true _ _ (unless-not DATE (isDate w) date) in
     let (y, m) = both-true _ _ ym in
-    let (hm, s) = both-true _ _ (unless-not (isClock w) clock) in
+    let (hm, s) = both-true _ _ (unless-not CLOCK (isClock w) clock) in
     let (h, i) = both-true _ _ hm in
     record {
       year-low = isFrom-true 1 9999 (w .year) y .0;
@@ -136,7 +140,7 @@ possible w e =
       hour-high = leb-true (hourOf w) 23 h;
       minute-high = leb-true (minuteOf w) 59 i;
       second-high = leb-true (secondOf w) 59 s;
-      zone-right = unless-not (isZone (w .zone)) zone;
+      zone-right = unless-not ZONE (isZone (w .zone)) zone;
     }
 
 -- the digits after the point, and one more of the last of them, are a second at most

@@ -1,11 +1,11 @@
--- 01-scope.md, "The desk table" and the whole example of "Sets of times": one statement about the meanings.
+-- 01-scope.md, "The desk table", as request A5 changes it, and the whole example of "Sets of times": one statement about the meanings.
 use Prim.Native.Nat.{ℕ}
 use Prim.Native.String.{String}
 use mathlib.Core.Path.{_≡_, refl}
 use mathlib.Core.List.{List, [], _∷_}
 use lib.IntN.{ℤ, pos, negsuc}
 use Rattle.rules.specs.Basics.{bytes}
-use Rattle.rules.specs.Refusal.{VALUE, Outcome, answered, refused, _andThen_}
+use Rattle.rules.specs.Refusal.{DATE, Outcome, answered, refused, _andThen_}
 use Rattle.rules.specs.Utf8.{cutLength}
 use Rattle.rules.specs.Timestamp.{tickOf}
 use Rattle.rules.specs.Sets.{Bound, unbounded, openAt, closedAt, _upto_, Expression, interval, combine, union, difference}
@@ -51,7 +51,7 @@ pub worked-examples :
     × (ticked "19700101" ≡ answered (pos 621355968000000))
     × (ticked "20000101000000.0001+0000" ≡ answered (pos 630822816000001))
     × (ticked "0001010100+01" ≡ answered (negsuc 35999999))
-    × (ticked "19000229" ≡ refused VALUE)
+    × (ticked "19000229" ≡ refused DATE)
     × (ticked "20000229" ≡ answered (pos 630873792000000))
     × (stretches (incl 1 ~ excl 3 ∪ incl 3 ~ incl 5) ≡ incl 1 upto incl 5 ∷ [])
     × (stretches (incl 1 ~ excl 3 ∪ excl 3 ~ incl 5) ≡ incl 1 upto excl 3 ∷ excl 3 upto incl 5 ∷ [])

@@ -1,4 +1,4 @@
--- 01-scope.md, "The refusal ladder", and requests A1, A6 and A7: the refusals, their numbers and their order.
+-- 01-scope.md, "The refusal ladder", and requests A1, A5, A6 and A7: the refusals, their numbers and their order.
 use Prim.Native.Nat.{ℕ, suc}
 use mathlib.Core.Bool.{Bool, true, false, cond}
 use mathlib.Core.List.{List, [], _∷_, _++_}
@@ -7,7 +7,7 @@ use lib.Dec.{leb, eqb}
 use Rattle.rules.specs.Basics.{ifSome}
 
 pub data Refusal : Type 0 where
-  OFFSET TOO-LONG NOT-UTF-8 MARKUP TYPE SHAPE VALUE RULE UNKNOWN-BOUND TOO-MANY NOT-WRITABLE NO-ROOM NO-ROW TOTAL DAMAGED NO-DESK DAY-FULL : Refusal
+  OFFSET TOO-LONG NOT-UTF-8 MARKUP TYPE SHAPE VALUE DATE CLOCK ZONE RULE UNKNOWN-BOUND TOO-MANY NOT-WRITABLE NO-ROOM NO-ROW TOTAL DAMAGED NO-DESK DAY-FULL : Refusal
 
 abbrev pub number : Refusal → ℕ
 number OFFSET = 1
@@ -17,6 +17,9 @@ number MARKUP = 4
 number TYPE = 5
 number SHAPE = 6
 number VALUE = 7
+number DATE = 13
+number CLOCK = 14
+number ZONE = 15
 number RULE = 8
 number UNKNOWN-BOUND = 9
 number TOO-MANY = 10
@@ -28,11 +31,11 @@ number DAMAGED = 21
 number NO-DESK = 23
 number DAY-FULL = 25
 
--- the ladder: the order in which refusals are given
+-- the ladder: the order in which refusals are given, which is not that of their numbers
 abbrev pub precedence : List Refusal
 precedence =
-    NO-DESK ∷ DAMAGED ∷ DAY-FULL ∷ OFFSET ∷ TOO-LONG ∷ NOT-UTF-8 ∷ MARKUP ∷ TYPE ∷ SHAPE ∷ VALUE ∷ RULE ∷ UNKNOWN-BOUND ∷ TOO-MANY ∷ NOT-WRITABLE ∷ NO-ROOM
-    ∷ NO-ROW ∷ TOTAL ∷ []
+    NO-DESK ∷ DAMAGED ∷ DAY-FULL ∷ OFFSET ∷ TOO-LONG ∷ NOT-UTF-8 ∷ MARKUP ∷ TYPE ∷ SHAPE ∷ VALUE ∷ DATE ∷ CLOCK ∷ ZONE ∷ RULE ∷ UNKNOWN-BOUND ∷ TOO-MANY
+    ∷ NOT-WRITABLE ∷ NO-ROOM ∷ NO-ROW ∷ TOTAL ∷ []
 
 abbrev pub isSame : Refusal → Refusal → Bool
 isSame a b = eqb (number a) (number b)

@@ -87,7 +87,7 @@ listAnswer offset record′ list = packed length (listing offset (roomOf list) r
 abbrev pub listAfter : (offset : ℤ) → List ℕ → (list : List ℕ) → List ℕ
 listAfter offset record′ list = lentAfter (λ ss. overwrite list (flatMap eightBytes (listNumbers ss))) (listing offset (roomOf list) record′) list
 
--- turn a timestamp into a tick: only OFFSET, TOO LONG and VALUE are given
+-- turn a timestamp into a tick: only OFFSET, TOO LONG, VALUE, DATE, CLOCK and ZONE are given
 unfoldable pub timing : (offset : ℤ) → List ℕ → Outcome Moment
 timing offset text = readTimestamp (shiftBy offset) text unless OFFSET when not (isOffset offset) ++ TOO-LONG when isTooLong text
 

@@ -1,4 +1,4 @@
--- 01-scope.md, "Ticks": timestamps, their ticks, precisions and spans.
+-- 01-scope.md, "Ticks", and request A5: timestamps, their ticks, precisions and spans.
 use Prim.Native.Nat.{ℕ, zero, suc, _+_, _-_, _*_, _^_}
 use mathlib.Core.Bool.{Bool, true, false, not, _&&_, _||_}
 use mathlib.Core.List.{List, [], _∷_, _++_}
@@ -7,7 +7,7 @@ use lib.Dec.{leb}
 use lib.ListN.{length, getD}
 use lib.IntN.{ℤ, subℕ}
 use Rattle.rules.specs.Basics.{ifSome, isFrom, isDigit, decimal}
-use Rattle.rules.specs.Refusal.{Refusal, VALUE, Outcome, answered, refused, _unless_, _when_}
+use Rattle.rules.specs.Refusal.{Refusal, VALUE, DATE, CLOCK, ZONE, Outcome, answered, refused, _unless_, _when_}
 use Rattle.rules.specs.Parsers.{Parsed, Parser, next, else, result, pure, guard, _>>=_, _>>_, _or_, one, times, upTo, byte, finish, whole}
 use Rattle.rules.specs.Calendar.{yearLength, monthLength, daysBefore, second, minute, hour, day}
 
@@ -106,7 +106,7 @@ isZone (minus h m) = isOffsetTime h m
 
 -- what is impossible in a text of the right form
 unfoldable pub writtenFaults : Written → List Refusal
-writtenFaults w = VALUE when not (isDate w) ++ VALUE when not (isClock w) ++ VALUE when not (isZone (w .zone))
+writtenFaults w = DATE when not (isDate w) ++ CLOCK when not (isClock w) ++ ZONE when not (isZone (w .zone))
 
 -- Ticks are counted in natural numbers from fourteen hours before 0001-01-01 00:00, the first that any offset reaches.
 abbrev pub beforeStart : ℕ
@@ -151,6 +151,6 @@ momentOf shift w = record {
 abbrev pub tickOf : Moment → ℤ
 tickOf m = subℕ (m .start) beforeStart
 
--- a text of the wrong form is VALUE
+-- a text of the wrong form is VALUE; one of the right form is refused by the first of what is impossible in it
 unfoldable pub readTimestamp : (shift : ℕ) → List ℕ → Outcome Moment
 readTimestamp shift text = ifSome (whole timestamp text) (λ w. answered (momentOf shift w) unless writtenFaults w) (refused VALUE)

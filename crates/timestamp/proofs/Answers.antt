@@ -1,9 +1,9 @@
--- From what is written in a text to the answer: a moment, or VALUE.
+-- From what is written in a text to the answer: a moment, or what is wrong with it.
 use Prim.Native.Nat.{ℕ, _+_, _≤_}
 use mathlib.Core.Path.{_≡_, refl, sym, _∙_, ap, subst}
-use mathlib.Core.Bool.{Bool, true, false, not, _&&_, false≢true}
+use mathlib.Core.Bool.{Bool, true, false, not, _&&_, cond, false≢true}
 use mathlib.Core.List.{List, _++_}
-use Rattle.rules.specs.Refusal.{VALUE, answered, refused, rankIn, firstOf, _unless_, _when_}
+use Rattle.rules.specs.Refusal.{Refusal, VALUE, DATE, CLOCK, ZONE, answered, refused, rankIn, firstOf, _unless_, _when_}
 use Rattle.rules.specs.Timestamp.{isDate, isClock, isZone, writtenFaults, startOf, unitLength, momentOf as rulesMoment, readTimestamp}
 use Rattle.timestamp.specs.Written.{FormOf, partsOf, zoneOf, fourteenWritten, FourteenOf}
 use Rattle.timestamp.specs.Moments.{isDateOf, isClockOf, unitTicks, Possible, momentOf, momentWritten}
@@ -27,9 +27,12 @@ pub wrong-form : (shift : ℕ) (s : List ℕ) (r : Form) → FormOf s r → r �
 unfolding readTimestamp
 wrong-form shift s r h e = rw (subst (FormOf s) e h) refl
 
--- every fault of what is written is VALUE
+-- what is wrong where the date or the clock is possible or not: the date if it is not, else the clock, else the offset
+abbrev pub wrongPart : (date clock : Bool) → Refusal
+wrongPart date clock = cond date (cond clock ZONE CLOCK) DATE
+
 faults : {A : Type 0} (m : A) (a b c : Bool) → (a && b && c) ≡ false
-    → refused VALUE ≡ (answered m unless VALUE when not a ++ VALUE when not b ++ VALUE when not c)
+    → refused (wrongPart a b) ≡ (answered m unless DATE when not a ++ CLOCK when not b ++ ZONE when not c)
 unfolding firstOf rankIn
 faults m true true true e = absurd (false≢true (sym e))
 faults m true true false e = refl
@@ -67,10 +70,10 @@ module _ (s : List ℕ) (c : Written) (f : FormOf s (Is c)) where
   same-moment : (shift : ℕ) → momentOf (momentWritten shift c) ≡ rulesMoment shift (f .0)
   same-moment shift = λ i. record { start = start-is shift i; precision = precision-is shift i; next = start-is shift i + unit-same i }
 
-  -- something written is impossible
+  -- something written is impossible: the first that applies is told
   pub impossible : (shift : ℕ) (a b d : Bool) → isDateOf (c .year) (c .parts .month) (c .parts .day) ≡ a
       → isClockOf (c .parts .hour) (c .parts .minute) (c .parts .second) ≡ b → isZone (zoneOf (c .zone)) ≡ d → (a && b && d) ≡ false
-      → refused VALUE ≡ readTimestamp shift s
+      → refused (wrongPart a b) ≡ readTimestamp shift s
   unfolding readTimestamp writtenFaults
   impossible shift a b d p q r e =
       rw (f .1, sym date-is ∙ p, sym clock-is ∙ q, sym zone-is ∙ r) (faults (rulesMoment shift (f .0)) a b d e)

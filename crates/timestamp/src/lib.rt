@@ -153,18 +153,19 @@ fn fourteen_moment(n: fourteen::Numbers, shift: u64) -> Moment
     }
 }
 
-// Reads a text as a timestamp; `shift` is 840 less the agreed offset in minutes. A text of the wrong form, an impossible date, an
-// impossible clock and an impossible offset are VALUE. Fourteen digits go a shorter way to the same answer.
+// Reads a text as a timestamp; `shift` is 840 less the agreed offset in minutes. A text of the wrong form is VALUE. Of one of the right
+// form an impossible date is DATE, else an impossible clock CLOCK, else an impossible offset ZONE. Fourteen digits go a shorter way to the
+// same answer.
 pub fn read(text: &[u8], shift: u64) -> Timestamp
     requires { ⌜ shift ≤ 1680 ⌝ }
     ensures { λ r. ⌜ outcomeOf r ≡ readTimestamp shift (now (text .entry)) ⌝ }
 {
     if let fourteen::Fourteen::Are(n) = fourteen::read(text) {
         if !is_date(n.year, n.month, n.day) {
-            return Timestamp::Refused(Refusal::Value);
+            return Timestamp::Refused(Refusal::Date);
         }
         if !is_clock(n.hour, n.minute, n.second) {
-            return Timestamp::Refused(Refusal::Value);
+            return Timestamp::Refused(Refusal::Clock);
         }
         return Timestamp::At(fourteen_moment(n, shift));
     }
@@ -173,14 +174,14 @@ pub fn read(text: &[u8], shift: u64) -> Timestamp
     };
     let p = w.parts;
     if !is_date(w.year, p.month, p.day) {
-        return Timestamp::Refused(Refusal::Value);
+        return Timestamp::Refused(Refusal::Date);
     }
     if !is_clock(p.hour, p.minute, p.second) {
-        return Timestamp::Refused(Refusal::Value);
+        return Timestamp::Refused(Refusal::Clock);
     }
     let z = w.zone;
     if !is_zone(z) {
-        return Timestamp::Refused(Refusal::Value);
+        return Timestamp::Refused(Refusal::Zone);
     }
     Timestamp::At(make_moment(w, shift))
 }
