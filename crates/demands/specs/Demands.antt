@@ -9,7 +9,7 @@ use mathlib.Core.List.{List, [], _∷_, _++_, map, List·Memᴰ}
 use mathlib.Core.Option.{some}
 use lib.ListN.{length, take}
 use lib.IntN.{ℤ}
-use Rattle.rules.specs.Refusal.{Refusal, OFFSET, TOO-LONG, NOT-UTF-8, MARKUP, TYPE, SHAPE, VALUE, RULE, UNKNOWN-BOUND, TOO-MANY, NOT-WRITABLE, NO-ROOM, NO-ROW, TOTAL, DAMAGED, NO-DESK, DAY-FULL, number, precedence, rank, answered, faultsOf, _when_}
+use Rattle.rules.specs.Refusal.{Refusal, OFFSET, TOO-LONG, NOT-UTF-8, MARKUP, TYPE, SHAPE, VALUE, DATE, CLOCK, ZONE, RULE, UNKNOWN-BOUND, TOO-MANY, NOT-WRITABLE, NO-ROOM, NO-ROW, TOTAL, DAMAGED, NO-DESK, DAY-FULL, number, precedence, rank, answered, faultsOf, _when_}
 use Rattle.rules.specs.Utf8.{isUtf8}
 use Rattle.rules.specs.Markup.{Element}
 use Rattle.rules.specs.Timestamp.{Moment, readTimestamp, tickOf}
@@ -22,18 +22,23 @@ use Rattle.rules.specs.ComparisonPromise.{Says, ComparisonPromise}
 use Rattle.demands.specs.Services.{Services, resultIn, Answers, Compares}
 use Rattle.demands.specs.Printing.{PrintPromise}
 use Rattle.demands.specs.Years.{YearsPromise}
+use Rattle.demands.specs.WrongTimes.{WrongTimesPromise}
 use Rattle.demands.specs.Totals.{TotalsPromise}
 use Rattle.demands.specs.Desks.{DesksPromise}
 
+-- what reading a timestamp may give
+abbrev pub timeRefusals : List Refusal
+timeRefusals = OFFSET ∷ TOO-LONG ∷ VALUE ∷ DATE ∷ CLOCK ∷ ZONE ∷ []
+
 -- what checking may give
 abbrev pub recordRefusals : List Refusal
-recordRefusals = OFFSET ∷ TOO-LONG ∷ NOT-UTF-8 ∷ MARKUP ∷ TYPE ∷ SHAPE ∷ VALUE ∷ RULE ∷ []
+recordRefusals = OFFSET ∷ TOO-LONG ∷ NOT-UTF-8 ∷ MARKUP ∷ TYPE ∷ SHAPE ∷ VALUE ∷ DATE ∷ CLOCK ∷ ZONE ∷ RULE ∷ []
 
 -- what listing may give
 abbrev pub listRefusals : List Refusal
-listRefusals = OFFSET ∷ TOO-LONG ∷ NOT-UTF-8 ∷ MARKUP ∷ TYPE ∷ SHAPE ∷ VALUE ∷ RULE ∷ UNKNOWN-BOUND ∷ TOO-MANY ∷ NO-ROOM ∷ []
+listRefusals = OFFSET ∷ TOO-LONG ∷ NOT-UTF-8 ∷ MARKUP ∷ TYPE ∷ SHAPE ∷ VALUE ∷ DATE ∷ CLOCK ∷ ZONE ∷ RULE ∷ UNKNOWN-BOUND ∷ TOO-MANY ∷ NO-ROOM ∷ []
 
--- what adding to a day's totals may give
+-- what adding to a day's totals may give: money has no time that could be wrong
 abbrev pub addRefusals : List Refusal
 addRefusals = NO-DESK ∷ DAMAGED ∷ DAY-FULL ∷ OFFSET ∷ TOO-LONG ∷ NOT-UTF-8 ∷ MARKUP ∷ TYPE ∷ SHAPE ∷ VALUE ∷ RULE ∷ NO-ROW ∷ TOTAL ∷ []
 
@@ -42,16 +47,16 @@ addRefusals = NO-DESK ∷ DAMAGED ∷ DAY-FULL ∷ OFFSET ∷ TOO-LONG ∷ NOT-U
 -- result, and every lent buffer keeps its bytes."
 pub record Demand1 (s : Services) : Type 0 where
   pub order : precedence
-      ≡ NO-DESK ∷ DAMAGED ∷ DAY-FULL ∷ OFFSET ∷ TOO-LONG ∷ NOT-UTF-8 ∷ MARKUP ∷ TYPE ∷ SHAPE ∷ VALUE ∷ RULE ∷ UNKNOWN-BOUND ∷ TOO-MANY ∷ NOT-WRITABLE ∷ NO-ROOM
-      ∷ NO-ROW ∷ TOTAL ∷ []
-  pub numbers : map number precedence ≡ 23 ∷ 21 ∷ 25 ∷ 1 ∷ 2 ∷ 3 ∷ 4 ∷ 5 ∷ 6 ∷ 7 ∷ 8 ∷ 9 ∷ 10 ∷ 12 ∷ 11 ∷ 16 ∷ 17 ∷ []
+      ≡ NO-DESK ∷ DAMAGED ∷ DAY-FULL ∷ OFFSET ∷ TOO-LONG ∷ NOT-UTF-8 ∷ MARKUP ∷ TYPE ∷ SHAPE ∷ VALUE ∷ DATE ∷ CLOCK ∷ ZONE ∷ RULE ∷ UNKNOWN-BOUND ∷ TOO-MANY
+      ∷ NOT-WRITABLE ∷ NO-ROOM ∷ NO-ROW ∷ TOTAL ∷ []
+  pub numbers : map number precedence ≡ 23 ∷ 21 ∷ 25 ∷ 1 ∷ 2 ∷ 3 ∷ 4 ∷ 5 ∷ 6 ∷ 7 ∷ 13 ∷ 14 ∷ 15 ∷ 8 ∷ 9 ∷ 10 ∷ 12 ∷ 11 ∷ 16 ∷ 17 ∷ []
   pub one-number : (r q : Refusal) → number r ≡ number q → r ≡ q
   pub check-answers : (offset : ℤ) (record′ : List ℕ) → Answers recordRefusals (λ n. n ≡ 0) (Unit {0}) (s .check-says offset record′)
   pub compare-answers : (offset : ℤ) (first second : List ℕ) → Compares recordRefusals (s .compare-says offset first second)
   pub list-answers : (offset : ℤ) (record′ list : List ℕ)
       → Answers listRefusals (λ n. n ≤ 32) (s .list-leaves offset record′ list ≡ list) (s .list-says offset record′ list)
   pub tick-answers : (offset : ℤ) (text : List ℕ) (tick : ℤ)
-      → Answers (OFFSET ∷ TOO-LONG ∷ VALUE ∷ []) (λ n. (4 ≤ n) × (n ≤ 18)) (s .tick-leaves offset text tick ≡ tick) (s .tick-says offset text)
+      → Answers timeRefusals (λ n. (4 ≤ n) × (n ≤ 18)) (s .tick-leaves offset text tick ≡ tick) (s .tick-says offset text)
   pub cut-answers : (text : List ℕ) (room : ℕ) → Answers (TOO-LONG ∷ NOT-UTF-8 ∷ []) (λ n. n ≤ length text) (Unit {0}) (s .cut-says text room)
   pub print-answers : (list record′ : List ℕ)
       → Answers (NOT-WRITABLE ∷ NO-ROOM ∷ []) (λ n. n ≤ 4_735) (s .print-leaves list record′ ≡ record′) (s .print-says list record′)
@@ -120,6 +125,8 @@ pub record Demands (s : Services) : Type 0 where
   pub print : PrintPromise s
   -- request A3
   pub years : YearsPromise s
+  -- request A5
+  pub wrong-times : WrongTimesPromise s
   -- requests A6 and A7
   pub totals : TotalsPromise
   pub desks : DesksPromise s

@@ -12,14 +12,14 @@ use lib.Dec.{ltb, leb·suc-suc}
 use lib.ListN.{length}
 use lib.IntN.{ℤ, pos, negsuc}
 use lib.Signed.{leZ}
-use Rattle.rules.specs.Refusal.{Refusal, OFFSET, TOO-LONG, NOT-UTF-8, MARKUP, TYPE, SHAPE, VALUE, DATE, CLOCK, ZONE, RULE, rankIn, rank, earlier, firstOf, Outcome, answered, refused, faultsIn, faultsOf, _unless_, _when_}
+use Rattle.rules.specs.Refusal.{Refusal, OFFSET, TOO-LONG, NOT-UTF-8, MARKUP, TYPE, SHAPE, VALUE, DATE, CLOCK, ZONE, RULE, rankIn, rank, earlier, firstOf, answered, refused, faultsIn, faultsOf, _unless_, _when_}
 use Rattle.rules.specs.Judge.{topFaults}
-use Rattle.rules.specs.Timestamp.{Moment, readTimestamp}
+use Rattle.rules.specs.Timestamp.{readTimestamp}
 use Rattle.rules.specs.Utf8.{isUtf8, cutLength}
 use Rattle.rules.specs.Check.{isOffset, shiftBy, isTooLong, elementOf, recordFaults, check}
 use Rattle.rules.specs.Services.{timing, cutting}
 use Rattle.rules.proofs.Tests.{clash}
-use Rattle.rules.proofs.Precedence.{first-is, earlier-comm, firstOf-append, check-refused, unless-refused}
+use Rattle.rules.proofs.Precedence.{first-is, earlier-comm, firstOf-append, unless-none, unless-refused, check-refused}
 use Rattle.rules.proofs.CheckRefusals.{Pass, pass-append, pass-when, first-passes, read-passes, element-or-markup}
 
 -- agreed offsets are from -840 to 840
@@ -139,12 +139,8 @@ module _ (offset : ℤ) (text : List ℕ) where
 
   -- within both limits the answer is what the text is read as
   pub tick-within-limits : isOffset offset ≡ true → length text ≤ 16_384 → timing offset text ≡ readTimestamp (shiftBy offset) text
-  unfolding timing firstOf
-  tick-within-limits e h = rw (e, le-ltb 16_384 (length text) h) (go (readTimestamp (shiftBy offset) text))
-    where
-      go : (o : Outcome Moment) → (o unless []) ≡ o
-      go (answered m) = refl
-      go (refused r) = refl
+  unfolding timing
+  tick-within-limits e h = rw (e, le-ltb 16_384 (length text) h) (unless-none (readTimestamp (shiftBy offset) text))
 
 -- cutting a text
 pub cut-length-limit : (text : List ℕ) (room : ℕ) → cutting text room ≡ refused TOO-LONG ↔ 16_384 < length text

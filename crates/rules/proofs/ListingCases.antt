@@ -24,14 +24,9 @@ use Rattle.rules.specs.Listing.{operationOf, setFrom, setOf, intervalsWr
 use Rattle.rules.specs.Services.{listing}
 use Rattle.rules.specs.ListingPromise.{isClear, isListed, IsSetOfTimes}
 use Rattle.rules.proofs.Tests.{clash}
-use Rattle.rules.proofs.Precedence.{earlier-comm, first-is, when-none, check-answered, check-refused}
+use Rattle.rules.proofs.Precedence.{earlier-comm, first-is, when-none, unless-none, check-answered, check-refused}
 use Rattle.rules.proofs.CheckRefusals.{one-more, first-passes, isOfRecord, check-refusals, type-passes}
 use Rattle.rules.proofs.Members.{set-refused, unclear-set}
-
-unless-none : {A : Type 0} (o : Outcome A) → (o unless []) ≡ o
-unfolding firstOf
-unless-none (answered a) = refl
-unless-none (refused r) = refl
 
 -- no member type: no operation either
 no-operation : (attrs : List Attribute) → isSome (typeAmong memberTypes attrs) ≡ false → (hasType attrs IVL-TS ≡ false) × (operationOf attrs ≡ none)

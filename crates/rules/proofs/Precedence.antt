@@ -184,6 +184,11 @@ data Unless {A : Type 0} (o : Outcome A) (faults : List Refusal) : Type 0 where
   faultless : (a : A) → o ≡ answered a → faults ≡ [] → (o unless faults) ≡ answered a → Unless o faults
 
 module _ {A : Type 0} where
+  pub unless-none : (o : Outcome A) → (o unless []) ≡ o
+  unfolding firstOf
+  unless-none (answered a) = refl
+  unless-none (refused r) = refl
+
   unless-cases : (o : Outcome A) (faults : List Refusal) → Unless o faults
   unless-cases o faults = go o _ refl
     where
