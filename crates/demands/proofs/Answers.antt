@@ -3,12 +3,12 @@ use Prim.Native.Nat.{ℕ}
 use mathlib.Core.Path.{_≡_, refl, sym, _∙_, ap, subst}
 use mathlib.Core.Logic.{_↔_}
 use mathlib.Core.Bool.{true}
-use mathlib.Core.List.{List, [], append-eq-nil-iff}
+use mathlib.Core.List.{List, [], append-eq-nil-iff, List·Memᴰ, List·Memᴰ·head, List·Memᴰ·tail}
 use mathlib.Core.Option.{Option, none, some}
 use native.Mathlib.Omega.{arith}
 use lib.IntN.{ℤ}
 use Rattle.rules.specs.Basics.{exists}
-use Rattle.rules.specs.Refusal.{Refusal, OFFSET, TOO-LONG, NOT-UTF-8, MARKUP, TYPE, SHAPE, VALUE, RULE, UNKNOWN-BOUND, TOO-MANY, NOT-WRITABLE, NO-ROOM, NO-ROW, TOTAL, DAMAGED, NO-DESK, DAY-FULL, number, rankIn, firstOf, Outcome, answered, refused, faultsOf}
+use Rattle.rules.specs.Refusal.{Refusal, OFFSET, TOO-LONG, NOT-UTF-8, MARKUP, TYPE, SHAPE, VALUE, DATE, CLOCK, ZONE, RULE, UNKNOWN-BOUND, TOO-MANY, NOT-WRITABLE, NO-ROOM, NO-ROW, TOTAL, DAMAGED, NO-DESK, DAY-FULL, number, rankIn, firstOf, Outcome, answered, refused, faultsOf}
 use Rattle.rules.specs.Timestamp.{Moment, readTimestamp}
 use Rattle.rules.specs.Check.{shiftBy}
 use Rattle.rules.specs.Services.{packed}
@@ -18,22 +18,27 @@ use Rattle.rules.proofs.Precedence.{number-injective, first-is, no-fault}
 use Rattle.rules.proofs.CheckRefusals.{isOfRecord, of-record}
 use Rattle.rules.proofs.ListingPromise.{small, low-bits, count-bits}
 use Rattle.demands.specs.Services.{isAmong, Answers, accepts, refuses}
+use Rattle.demands.specs.WrongTimes.{timeParts}
 use Rattle.demands.specs.Demands.{recordRefusals, listRefusals, addRefusals, IsFirst, timeFaults}
 
 pub iff-trans : {A B C : Type 0} → (A ↔ B) → (B ↔ C) → A ↔ C
 iff-trans f g = (λ a. g .0 (f .0 a), λ c. f .1 (g .1 c))
 
--- what checking may give, listing and adding may give too
-pub record-among : (r : Refusal) → isOfRecord r ≡ true → (isAmong recordRefusals r ≡ true) × (isAmong listRefusals r ≡ true) × (isAmong addRefusals r ≡ true)
+-- what checking may give, listing may give too, and adding if it is of no time
+pub record-among : (r : Refusal) → isOfRecord r ≡ true
+    → (isAmong recordRefusals r ≡ true) × (isAmong listRefusals r ≡ true) × ((List·Memᴰ r timeParts → ⊥) → isAmong addRefusals r ≡ true)
 unfolding exists rankIn
-record-among OFFSET h = (refl, refl, refl)
-record-among TOO-LONG h = (refl, refl, refl)
-record-among NOT-UTF-8 h = (refl, refl, refl)
-record-among MARKUP h = (refl, refl, refl)
-record-among TYPE h = (refl, refl, refl)
-record-among SHAPE h = (refl, refl, refl)
-record-among VALUE h = (refl, refl, refl)
-record-among RULE h = (refl, refl, refl)
+record-among OFFSET h = (refl, refl, λ n. refl)
+record-among TOO-LONG h = (refl, refl, λ n. refl)
+record-among NOT-UTF-8 h = (refl, refl, λ n. refl)
+record-among MARKUP h = (refl, refl, λ n. refl)
+record-among TYPE h = (refl, refl, λ n. refl)
+record-among SHAPE h = (refl, refl, λ n. refl)
+record-among VALUE h = (refl, refl, λ n. refl)
+record-among DATE h = (refl, refl, λ n. absurd (n (List·Memᴰ·head refl)))
+record-among CLOCK h = (refl, refl, λ n. absurd (n (List·Memᴰ·tail (List·Memᴰ·head refl))))
+record-among ZONE h = (refl, refl, λ n. absurd (n (List·Memᴰ·tail (List·Memᴰ·tail (List·Memᴰ·head refl)))))
+record-among RULE h = (refl, refl, λ n. refl)
 record-among UNKNOWN-BOUND h = clash (omega (arith, of-record UNKNOWN-BOUND h))
 record-among TOO-MANY h = clash (omega (arith, of-record TOO-MANY h))
 record-among NOT-WRITABLE h = clash (omega (arith, of-record NOT-WRITABLE h))

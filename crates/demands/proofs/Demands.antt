@@ -1,7 +1,7 @@
 -- The services meet the user's demands.
 use Prim.Native.Nat.{ℕ, _≤_}
 use mathlib.Core.Path.{_≡_, refl, sym, subst}
-use mathlib.Core.Logic.{_⊎_, inl, inr, _↔_}
+use mathlib.Core.Logic.{inl, inr, _↔_}
 use mathlib.Core.Bool.{Bool, true, not}
 use mathlib.Core.List.{List, [], _∷_, _++_, append-eq-nil-iff}
 use mathlib.Core.Option.{Option, none, some}
@@ -10,7 +10,7 @@ use native.Mathlib.Omega.{arith}
 use lib.ListN.{length}
 use lib.IntN.{ℤ}
 use Rattle.rules.specs.Basics.{exists}
-use Rattle.rules.specs.Refusal.{Refusal, OFFSET, TOO-LONG, NOT-UTF-8, TYPE, VALUE, number, firstOf, Outcome, answered, refused, faultsOf, _when_}
+use Rattle.rules.specs.Refusal.{Refusal, OFFSET, TOO-LONG, NOT-UTF-8, TYPE, number, firstOf, Outcome, answered, refused, faultsOf, _when_}
 use Rattle.rules.specs.Utf8.{isUtf8, cutLength}
 use Rattle.rules.specs.Markup.{Element}
 use Rattle.rules.specs.Timestamp.{Moment, readTimestamp, tickOf}
@@ -20,8 +20,8 @@ use Rattle.rules.specs.Services.{packed, roomOf, checkAnswer, compareChecked, c
 use Rattle.rules.specs.ListingPromise.{numberIn, Refuses, ListingPromise}
 use Rattle.rules.proofs.Tests.{clash}
 use Rattle.rules.proofs.Precedence.{number-injective, first-is, no-fault, unless-answered, unless-refused, check-refused, check-answered}
-use Rattle.rules.proofs.CheckRefusals.{Pass, none-left, pass-append, pass-when, first-passes, check-refusals}
-use Rattle.rules.proofs.Ticks.{read-or-value, precision-range}
+use Rattle.rules.proofs.CheckRefusals.{Pass, pass-append, pass-when, first-passes, read-passes, check-refusals}
+use Rattle.rules.proofs.Ticks.{precision-range}
 use Rattle.rules.proofs.Utf8.{cut-whole, cut-fits, cut-longest}
 use Rattle.rules.proofs.ListingCases.{faulty-early, faulty, other-type, unclear, many, a-set, case}
 use Rattle.rules.proofs.ListingPromise.{count-bits, listing-promise}
@@ -29,10 +29,11 @@ use Rattle.rules.proofs.LentLists.{signed-eight}
 use Rattle.rules.proofs.ComparedRecords.{says as says-answer, comparison-of}
 use Rattle.rules.proofs.ComparisonPromise.{names-first, names-second, comparison-promise}
 use Rattle.demands.specs.Services.{services, resultIn, isAmong, Answers, accepts, refuses, Compares, says, names}
-use Rattle.demands.specs.Demands.{recordRefusals, listRefusals, IsFirst, timeFaults, cutFaults, IsCut, Demand2, Demands}
+use Rattle.demands.specs.Demands.{timeRefusals, recordRefusals, listRefusals, IsFirst, timeFaults, cutFaults, IsCut, Demand2, Demand3, Demands}
 use Rattle.demands.proofs.Answers.{iff-trans, record-among, packed-refused, packed-accepted, packed-answers}
 use Rattle.demands.proofs.Printing.{print-answers, print-promise}
 use Rattle.demands.proofs.Years.{years-kept}
+use Rattle.demands.proofs.WrongTimes.{wrong-times-kept}
 use Rattle.demands.proofs.DesksAnswers.{start-answers, add-answers, report-answers}
 use Rattle.demands.proofs.Desks.{totals-kept, desks-kept}
 
@@ -99,17 +100,12 @@ module _ (offset : ℤ) (input list : List ℕ) {answer : ℕ} {after : List ℕ
 -- timestamps
 module _ (offset : ℤ) (text : List ℕ) where
   abbrev among : Refusal → Bool
-  among = isAmong (OFFSET ∷ TOO-LONG ∷ VALUE ∷ [])
+  among = isAmong timeRefusals
 
   time-passes : Pass among (timeFaults offset text)
   unfolding exists
-  time-passes = pass-append among (go (read-or-value (shiftBy offset) text))
+  time-passes = pass-append among (read-passes among refl refl refl refl (shiftBy offset) text)
       (pass-append among (pass-when among OFFSET (not (isOffset offset)) refl) (pass-when among TOO-LONG (isTooLong text) refl))
-    where
-      go : ((m : Moment) × (readTimestamp (shiftBy offset) text ≡ answered m)) ⊎ (readTimestamp (shiftBy offset) text ≡ refused VALUE)
-          → Pass among (faultsOf (readTimestamp (shiftBy offset) text))
-      go (inl (m, h)) = rw h none-left
-      go (inr h) = rw h (pass-when among VALUE true refl)
 
   timing-refused : (r : Refusal) → timing offset text ≡ refused r ↔ firstOf (timeFaults offset text) ≡ some r
   unfolding timing
@@ -120,7 +116,7 @@ module _ (offset : ℤ) (text : List ℕ) where
   unfolding timing
   timing-answered m = unless-answered (readTimestamp (shiftBy offset) text) (OFFSET when not (isOffset offset) ++ TOO-LONG when isTooLong text) m
 
-  tick-answers : (tick : ℤ) → Answers (OFFSET ∷ TOO-LONG ∷ VALUE ∷ []) (λ n. (4 ≤ n) × (n ≤ 18)) (tickAfter offset text tick ≡ tick) (tickAnswer offset text)
+  tick-answers : (tick : ℤ) → Answers timeRefusals (λ n. (4 ≤ n) × (n ≤ 18)) (tickAfter offset text tick ≡ tick) (tickAnswer offset text)
   tick-answers tick = packed-answers (λ m. m .precision) (timing offset text)
       (λ m e. precision-range (shiftBy offset) text m (timing-answered m .0 e .0))
       (λ r e. (first-passes among time-passes (timing-refused r .0 e), rw e refl))
@@ -177,6 +173,9 @@ met-2 = record {
   cut-refused = cut-first;
 }
 
+met-3 : Demand3 services
+met-3 = record { read-back = signed-eight; listing-promise = listing-promise }
+
 pub demands-met : Demands services
 demands-met = record {
   one = record {
@@ -195,9 +194,10 @@ demands-met = record {
     report-answers = report-answers;
   };
   two = met-2;
-  three = record { read-back = signed-eight; listing-promise = listing-promise };
+  three = met-3;
   print = print-promise;
   years = years-kept services met-2;
+  wrong-times = wrong-times-kept services met-2 met-3;
   totals = totals-kept;
   desks = desks-kept;
 }

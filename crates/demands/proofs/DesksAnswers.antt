@@ -20,6 +20,7 @@ use Rattle.rules.proofs.Totals.{posted}
 use Rattle.demands.specs.Services.{isAmong, Answers, accepts, refuses}
 use Rattle.demands.specs.Demands.{addRefusals}
 use Rattle.demands.proofs.Answers.{packed-answers, record-among}
+use Rattle.demands.proofs.WrongTimes.{money-timeless}
 use Rattle.demands.proofs.TotalsDays.{packed-number}
 use Rattle.demands.proofs.DesksCalls.{Usable, Refused, part-proper, shared-refusal, of-desk, case, start-given, add-given, report-given, start-refused, add-refused, report-refused, own-answer}
 
@@ -59,7 +60,7 @@ among : (k : Call) (t : Table) {o : Outcome Entry} → Posted k t o → (r : Ref
 unfolding exists
 among k t (damaged d) r e = let z : r ≡ DAMAGED = cc in rw z
 among k t (full d f) r e = let z : r ≡ DAY-FULL = cc in rw z
-among k t (faulty u {r = q} h) r e = let z : r ≡ q = cc in rw z (record-among q (reading-refusals (k .offset) (k .record′) h) .2)
+among k t (faulty u {r = q} h) r e = let z : r ≡ q = cc in rw z (record-among q (reading-refusals (k .offset) (k .record′) h) .2 (money-timeless k q h))
 among k t (a-null u h) r e = clash (cc)
 among k t (no-row u h n) r e = let z : r ≡ NO-ROW = cc in rw z
 among k t (out-of-range u h n i) r e = let z : r ≡ TOTAL = cc in rw z

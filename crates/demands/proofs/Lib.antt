@@ -1,6 +1,9 @@
 pub mod Answers
 pub mod Printing
 pub mod Years
+pub mod WrongTexts
+pub mod TimesWithin
+pub mod WrongTimes
 pub mod TotalsNumbers
 pub mod TotalsReadings
 pub mod TotalsDays

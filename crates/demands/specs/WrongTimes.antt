@@ -12,7 +12,7 @@ use Rattle.rules.specs.Refusal.{Refusal, VALUE, DATE, CLOCK, ZONE, RULE, number
 use Rattle.rules.specs.Parsers.{whole}
 use Rattle.rules.specs.Calendar.{monthLength}
 use Rattle.rules.specs.Timestamp.{Zone, plus, minus, Written, timestamp, monthOf, dayOf, hourOf, minuteOf, secondOf}
-use Rattle.rules.specs.Markup.{Nodes, end, node, Element, document}
+use Rattle.rules.specs.Markup.{Attribute, Nodes, end, node, Element, document}
 use Rattle.rules.specs.Types.{TS, memberTypes, typeAmong}
 use Rattle.rules.specs.Check.{isOffset, recordFaults}
 use Rattle.rules.specs.ListingPromise.{numberIn, isListed}
@@ -51,10 +51,13 @@ pub data IsWrong (text : List ℕ) : Refusal → Type 0 where
   wrong-clock : {w : Written} → whole timestamp text ≡ some w → (NoDate w → ⊥) → NoClock w → IsWrong text CLOCK
   wrong-zone : {w : Written} → whole timestamp text ≡ some w → (NoDate w → ⊥) → (NoClock w → ⊥) → NoZone (w .zone) → IsWrong text ZONE
 
--- the texts of all attributes `value`, of these elements and of those inside them
+-- the texts of all attributes `value`: of an element, and of these elements and those inside them
+abbrev pub valuesOf : List Attribute → List (List ℕ)
+valuesOf = flatMap (λ a. cond (same (a .name) (bytes "value")) (a .value ∷ []) [])
+
 unfoldable pub valuesIn : Nodes → List (List ℕ)
 valuesIn end = []
-valuesIn (node n attrs kids rest) = flatMap (λ a. cond (same (a .name) (bytes "value")) (a .value ∷ []) []) attrs ++ valuesIn kids ++ valuesIn rest
+valuesIn (node n attrs kids rest) = valuesOf attrs ++ valuesIn kids ++ valuesIn rest
 
 -- a record has a time that is wrong by r, and nothing in the record is wrong by what stands before r on the ladder. Only records of type TS, IVL_TS
 -- or a set type have times; where nothing that stands before VALUE applies, each of their attributes `value` is one
@@ -87,7 +90,7 @@ pub record WrongTimesPromise (s : Services) : Type 0 where
       → numberIn (s .list-says offset record′ list) ≡ number r
       ↔ (numberIn (s .check-says offset record′) ≡ number r) × ((e : Element) × (document record′ ≡ some e) × (isListed e ≡ true))
   -- "and the desk table's 19000229 now answers DATE"
-  pub example : s .tick-says (pos 0) (bytes "19000229") ≡ number DATE
+  pub example : numberIn (s .tick-says (pos 0) (bytes "19000229")) ≡ number DATE
   -- "Refusals: 13 DATE, 14 CLOCK, 15 ZONE, in that order between VALUE and RULE"
   pub numbers : (number DATE ≡ 13) × (number CLOCK ≡ 14) × (number ZONE ≡ 15)
   pub order : (rank DATE ≡ suc (rank VALUE)) × (rank CLOCK ≡ suc (rank DATE)) × (rank ZONE ≡ suc (rank CLOCK)) × (rank RULE ≡ suc (rank ZONE))

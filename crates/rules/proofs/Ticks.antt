@@ -2,8 +2,8 @@
 use Prim.Native.Nat.{ℕ, zero, suc, _+_, _-_, _*_, _^_, _≤_, _<_}
 use mathlib.Core.Path.{_≡_, refl, ap}
 use mathlib.Core.Logic.{inl, inr, _↔_}
-use mathlib.Core.Bool.{Bool, true, false, not}
-use mathlib.Core.List.{List, [], _∷_, append-eq-nil-iff}
+use mathlib.Core.Bool.{Bool, true, false, not, cond}
+use mathlib.Core.List.{List, [], _∷_, _++_, append-eq-nil-iff}
 use mathlib.Core.Option.{Option, none, some}
 use native.Mathlib.Nat.{mul-le-mul-right, one-le-pow, add-mul}
 use native.Mathlib.Omega.{arith}
@@ -35,32 +35,26 @@ read-answered shift text m = (go _ refl, λ (w, f, g, h). rw f (unless-answered 
     go none f e = clash (cc)
     go (some w) f e = let (g, h) = unless-answered (answered (momentOf shift w)) (writtenFaults w) m .0 e in (w, f, h, cc)
 
--- what reading a text gives: a moment; VALUE for a wrong form; or for a right one the first of DATE, CLOCK and ZONE that applies
-pub data Reading (shift : ℕ) (text : List ℕ) : Type 0 where
-  a-moment : (m : Moment) → readTimestamp shift text ≡ answered m → Reading shift text
-  no-form : whole timestamp text ≡ none → readTimestamp shift text ≡ refused VALUE → Reading shift text
-  no-date : (w : Written) → whole timestamp text ≡ some w → isDate w ≡ false → readTimestamp shift text ≡ refused DATE → Reading shift text
-  no-clock : (w : Written) → whole timestamp text ≡ some w → isDate w ≡ true → isClock w ≡ false → readTimestamp shift text ≡ refused CLOCK → Reading shift text
-  no-zone : (w : Written) → whole timestamp text ≡ some w → isDate w ≡ true → isClock w ≡ true → isZone (w .zone) ≡ false
-      → readTimestamp shift text ≡ refused ZONE → Reading shift text
+-- a text of the wrong form is VALUE; of the right form, an impossible date is DATE, else an impossible clock CLOCK, else an impossible offset ZONE
+pub read-wrong-form : (shift : ℕ) (text : List ℕ) → whole timestamp text ≡ none → readTimestamp shift text ≡ refused VALUE
+unfolding readTimestamp
+read-wrong-form shift text f = rw f
 
-pub reading : (shift : ℕ) (text : List ℕ) → Reading shift text
+pub read-right-form : (shift : ℕ) (text : List ℕ) (w : Written) → whole timestamp text ≡ some w
+    → readTimestamp shift text ≡ cond (isDate w) (cond (isClock w) (cond (isZone (w .zone)) (answered (momentOf shift w)) (refused ZONE)) (refused CLOCK)) (refused DATE)
 unfolding readTimestamp writtenFaults firstOf rankIn
-reading shift text = by-form _ refl
+read-right-form shift text w f = rw f (go (isDate w) (isClock w) (isZone (w .zone)))
   where
-    by-parts : (w : Written) → whole timestamp text ≡ some w → (a b c : Bool) → isDate w ≡ a → isClock w ≡ b → isZone (w .zone) ≡ c → Reading shift text
-    by-parts w f true true true d e g = a-moment (momentOf shift w) (rw (f, d, e, g) refl)
-    by-parts w f true true false d e g = no-zone w f d e g (rw (f, d, e, g) refl)
-    by-parts w f true false true d e g = no-clock w f d e (rw (f, d, e, g) refl)
-    by-parts w f true false false d e g = no-clock w f d e (rw (f, d, e, g) refl)
-    by-parts w f false true true d e g = no-date w f d (rw (f, d, e, g) refl)
-    by-parts w f false true false d e g = no-date w f d (rw (f, d, e, g) refl)
-    by-parts w f false false true d e g = no-date w f d (rw (f, d, e, g) refl)
-    by-parts w f false false false d e g = no-date w f d (rw (f, d, e, g) refl)
-
-    by-form : (o : Option Written) → whole timestamp text ≡ o → Reading shift text
-    by-form none f = no-form f (rw f refl)
-    by-form (some w) f = by-parts w f _ _ _ refl refl refl
+    go : (a b c : Bool) → (answered (momentOf shift w) unless DATE when not a ++ CLOCK when not b ++ ZONE when not c)
+        ≡ cond a (cond b (cond c (answered (momentOf shift w)) (refused ZONE)) (refused CLOCK)) (refused DATE)
+    go true true true = refl
+    go true true false = refl
+    go true false true = refl
+    go true false false = refl
+    go false true true = refl
+    go false true false = refl
+    go false false true = refl
+    go false false false = refl
 
 -- what the form of a timestamp gives
 pub record Form (w : Written) : Type 0 where

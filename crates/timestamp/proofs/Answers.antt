@@ -1,10 +1,11 @@
 -- From what is written in a text to the answer: a moment, or what is wrong with it.
 use Prim.Native.Nat.{ℕ, _+_, _≤_}
 use mathlib.Core.Path.{_≡_, refl, sym, _∙_, ap, subst}
-use mathlib.Core.Bool.{Bool, true, false, not, _&&_, cond, false≢true}
-use mathlib.Core.List.{List, _++_}
-use Rattle.rules.specs.Refusal.{Refusal, VALUE, DATE, CLOCK, ZONE, answered, refused, rankIn, firstOf, _unless_, _when_}
-use Rattle.rules.specs.Timestamp.{isDate, isClock, isZone, writtenFaults, startOf, unitLength, momentOf as rulesMoment, readTimestamp}
+use mathlib.Core.Bool.{Bool, true, false, _&&_, cond, false≢true}
+use mathlib.Core.List.{List}
+use Rattle.rules.specs.Refusal.{Refusal, VALUE, DATE, CLOCK, ZONE, answered, refused}
+use Rattle.rules.specs.Timestamp.{isDate, isClock, isZone, startOf, unitLength, momentOf as rulesMoment, readTimestamp}
+use Rattle.rules.proofs.Ticks.{read-wrong-form, read-right-form}
 use Rattle.timestamp.specs.Written.{FormOf, partsOf, zoneOf, fourteenWritten, FourteenOf}
 use Rattle.timestamp.specs.Moments.{isDateOf, isClockOf, unitTicks, Possible, momentOf, momentWritten}
 use Rattle.timestamp.specs.declared.form.Parts.{Parts}
@@ -24,24 +25,11 @@ found-fourteen s r n h e = subst (FourteenOf s) e h
 
 -- a text of the wrong form
 pub wrong-form : (shift : ℕ) (s : List ℕ) (r : Form) → FormOf s r → r ≡ Bad → refused VALUE ≡ readTimestamp shift s
-unfolding readTimestamp
-wrong-form shift s r h e = rw (subst (FormOf s) e h) refl
+wrong-form shift s r h e = sym (read-wrong-form shift s (subst (FormOf s) e h))
 
--- what is wrong where the date or the clock is possible or not: the date if it is not, else the clock, else the offset
+-- what is wrong, by whether the date is possible, and the clock
 abbrev pub wrongPart : (date clock : Bool) → Refusal
 wrongPart date clock = cond date (cond clock ZONE CLOCK) DATE
-
-faults : {A : Type 0} (m : A) (a b c : Bool) → (a && b && c) ≡ false
-    → refused (wrongPart a b) ≡ (answered m unless DATE when not a ++ CLOCK when not b ++ ZONE when not c)
-unfolding firstOf rankIn
-faults m true true true e = absurd (false≢true (sym e))
-faults m true true false e = refl
-faults m true false true e = refl
-faults m true false false e = refl
-faults m false true true e = refl
-faults m false true false e = refl
-faults m false false true e = refl
-faults m false false false e = refl
 
 module _ (s : List ℕ) (c : Written) (f : FormOf s (Is c)) where
   field : {A : Type 0} (get : Parts → A) → get (c .parts) ≡ get (partsOf (f .0 .parts) (c .parts .end))
@@ -74,15 +62,20 @@ module _ (s : List ℕ) (c : Written) (f : FormOf s (Is c)) where
   pub impossible : (shift : ℕ) (a b d : Bool) → isDateOf (c .year) (c .parts .month) (c .parts .day) ≡ a
       → isClockOf (c .parts .hour) (c .parts .minute) (c .parts .second) ≡ b → isZone (zoneOf (c .zone)) ≡ d → (a && b && d) ≡ false
       → refused (wrongPart a b) ≡ readTimestamp shift s
-  unfolding readTimestamp writtenFaults
   impossible shift a b d p q r e =
-      rw (f .1, sym date-is ∙ p, sym clock-is ∙ q, sym zone-is ∙ r) (faults (rulesMoment shift (f .0)) a b d e)
+      sym (read-right-form shift s (f .0) (f .1) ∙ rw (sym date-is ∙ p, sym clock-is ∙ q, sym zone-is ∙ r) (go a b d e))
+    where
+      go : (a b d : Bool) → (a && b && d) ≡ false
+          → cond a (cond b (cond d (answered (rulesMoment shift (f .0))) (refused ZONE)) (refused CLOCK)) (refused DATE) ≡ refused (wrongPart a b)
+      go false b d e = refl
+      go true false d e = refl
+      go true true false e = refl
+      go true true true e = absurd (false≢true (sym e))
 
   -- all of it is possible
   pub moment-is : (shift : ℕ) → Possible shift c → answered (momentOf (momentWritten shift c)) ≡ readTimestamp shift s
-  unfolding readTimestamp writtenFaults firstOf
   moment-is shift h =
-      rw (f .1, sym date-is ∙ h .date, sym clock-is ∙ h .clock, sym zone-is ∙ h .zone) (ap answered (same-moment shift))
+      ap answered (same-moment shift) ∙ sym (read-right-form shift s (f .0) (f .1) ∙ rw (sym date-is ∙ h .date, sym clock-is ∙ h .clock, sym zone-is ∙ h .zone) refl)
 
   pub possible : (shift : ℕ) → shift ≤ 1680 → isDateOf (c .year) (c .parts .month) (c .parts .day) ≡ true
       → isClockOf (c .parts .hour) (c .parts .minute) (c .parts .second) ≡ true → isZone (zoneOf (c .zone)) ≡ true → Possible shift c
