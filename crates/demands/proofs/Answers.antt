@@ -18,7 +18,7 @@ use Rattle.rules.proofs.Precedence.{number-injective, first-is, no-fault}
 use Rattle.rules.proofs.CheckRefusals.{isOfRecord, of-record}
 use Rattle.rules.proofs.ListingPromise.{small, low-bits, count-bits}
 use Rattle.demands.specs.Services.{isAmong, Answers, accepts, refuses}
-use Rattle.demands.specs.WrongTimes.{timeParts}
+use Rattle.demands.specs.WrongTimes.{partRefusals}
 use Rattle.demands.specs.Demands.{recordRefusals, listRefusals, addRefusals, IsFirst, timeFaults}
 
 pub iff-trans : {A B C : Type 0} → (A ↔ B) → (B ↔ C) → A ↔ C
@@ -26,7 +26,7 @@ iff-trans f g = (λ a. g .0 (f .0 a), λ c. f .1 (g .1 c))
 
 -- what checking may give, listing may give too, and adding if it is of no time
 pub record-among : (r : Refusal) → isOfRecord r ≡ true
-    → (isAmong recordRefusals r ≡ true) × (isAmong listRefusals r ≡ true) × ((List·Memᴰ r timeParts → ⊥) → isAmong addRefusals r ≡ true)
+    → (isAmong recordRefusals r ≡ true) × (isAmong listRefusals r ≡ true) × ((List·Memᴰ r partRefusals → ⊥) → isAmong addRefusals r ≡ true)
 unfolding exists rankIn
 record-among OFFSET h = (refl, refl, λ n. refl)
 record-among TOO-LONG h = (refl, refl, λ n. refl)

@@ -1,5 +1,5 @@
--- The times within a record: the record has a fault of a time exactly if one of its times has it.
-use Prim.Native.Nat.{ℕ, _<_}
+-- The texts within a record of times: the record has a fault of a text exactly if one of its texts has it.
+use Prim.Native.Nat.{ℕ, _≤_, _<_}
 use mathlib.Core.Path.{_≡_, refl, sym, _∙_, ap, subst}
 use mathlib.Core.Logic.{_⊎_, inl, inr}
 use mathlib.Core.Bool.{Bool, true, false, not, _&&_, _||_, cond}
@@ -8,30 +8,32 @@ use mathlib.Core.Option.{Option, none, some}
 use native.Mathlib.Omega.{arith}
 use lib.Dec.{ltb}
 use Rattle.rules.specs.Basics.{isSome, ifSome, find, exists, every, bytes, isEmpty, same, begins}
-use Rattle.rules.specs.Refusal.{Refusal, TYPE, SHAPE, VALUE, RULE, rankIn, rank, Outcome, answered, refused, faultsOf, _when_}
+use Rattle.rules.specs.Refusal.{Refusal, TYPE, SHAPE, VALUE, RULE, rankIn, rank, _when_}
 use Rattle.rules.specs.Parsers.{whole}
 use Rattle.rules.specs.Markup.{Attribute, Nodes, end, node}
-use Rattle.rules.specs.Timestamp.{Moment, readTimestamp}
-use Rattle.rules.specs.Forms.{Form, anyText, nonEmpty, flavor, timestamp, flag, amount, currency, root, partType, qualifiers, isFlavor, isFlag, amountText, isCurrency, isRoot, isPartType, isQualifiers, formFaults}
+use Rattle.rules.specs.Forms.{Form, anyText, nonEmpty, flavor, timestamp, flag, amount, currency, root, partType, qualifiers, amountText, isCurrency, isFlavor, isFlag, isRoot, isPartType, isQualifiers, formFaults}
 use Rattle.rules.specs.Invariants.{isNull}
-use Rattle.rules.specs.Types.{Kind, TS, IVL-TS, QSU-TS, QSI-TS, QSD-TS, MO, II, CD, EN, DisplayName, Part, nameOf, memberTypes, allTypes, hasType, typeAmong, Column, ChildKind, always, typed, Child, lineOf}
+use Rattle.rules.specs.Types.{Kind, TS, IVL-TS, QSU-TS, QSI-TS, QSD-TS, MO, II, CD, EN, DisplayName, Part, nameOf, memberTypes, Column, ChildKind, always, typed, Child, lineOf}
 use Rattle.rules.specs.Judge.{Standing, top, member, inside, isTop, typeColumns, nullColumns, attributeFaults, lacks, breaksNull, elementFaults, kindOf, standingOf, nextChild, childFaults}
-use Rattle.rules.proofs.Tests.{clash, both-true, found, same-true}
+use Rattle.rules.proofs.Tests.{clash, both-true, found, same-true, same-refl}
 use Rattle.rules.proofs.Children.{faultsAs}
-use Rattle.demands.specs.WrongTimes.{valuesOf, valuesIn, timeParts}
+use Rattle.demands.specs.WrongTimes.{textsIn, partRefusals}
 
--- one of the three stands between VALUE and RULE
+-- the refusals of texts stand from VALUE to before RULE, and those that the request adds after VALUE
+abbrev pub IsOfText : Refusal → Type 0
+IsOfText q = (rank VALUE ≤ rank q) × (rank q < rank RULE)
+
 abbrev pub IsPart : Refusal → Type 0
-IsPart r = (rank VALUE < rank r) × (rank r < rank RULE)
+IsPart q = (rank VALUE < rank q) × (rank q < rank RULE)
 
-pub is-part : {r : Refusal} → List·Memᴰ r timeParts → IsPart r
+pub is-part : {r : Refusal} → List·Memᴰ r partRefusals → IsPart r
 unfolding rankIn
 is-part m = elim (List·Memᴰ·cases-cons m) [
   | inl e ↦ rw e (omega arith)
   | inr m ↦ elim (List·Memᴰ·cases-cons m) [ inl e ↦ rw e (omega arith) | inr m ↦ rw (List·Memᴰ·eq-of-singleton m) (omega arith) ]
 ]
 
-in-when : {r q : Refusal} (b : Bool) → List·Memᴰ r (q when b) → r ≡ q
+pub in-when : {r q : Refusal} (b : Bool) → List·Memᴰ r (q when b) → r ≡ q
 in-when true m = List·Memᴰ·eq-of-singleton m
 in-when false m = absurd (List·Memᴰ·not-nil m)
 
@@ -48,10 +50,28 @@ unfolding flatMap
 flatMap-in f {b = b} (List·Memᴰ·head {x = x} {xs = xs} e) m = Memᴰ·append-left (flatMap f xs) (subst (λ a. List·Memᴰ b (f a)) e m)
 flatMap-in f (List·Memᴰ·tail {x = x} i) m = Memᴰ·append-right (f x) (flatMap-in f i m)
 
--- Kinds that have times, and the table: a column for a time is named `value` and stands in a kind that has times, and what is inside has times
--- exactly if it is inside of one that has.
+-- Kinds that have times, the texts in them that have a form, and the table: a column of a kind that has times is one of these texts, none of another is
+-- a time, and what is inside has times exactly if it is inside of one that has.
 abbrev pub isTimed : Kind → Bool
 isTimed k = exists (λ j. same (nameOf j) (nameOf k)) (TS ∷ memberTypes)
+
+pub data IsText : (name : List ℕ) → Form → Type 0 where
+  time-text : IsText (bytes "value") timestamp
+  flavor-text : IsText (bytes "nullFlavor") flavor
+  low-text : IsText (bytes "lowClosed") flag
+  high-text : IsText (bytes "highClosed") flag
+
+abbrev isTextNamed : List ℕ → Form → Bool
+isTextNamed n timestamp = same (bytes "value") n
+isTextNamed n flavor = same (bytes "nullFlavor") n
+isTextNamed n flag = same (bytes "lowClosed") n || same (bytes "highClosed") n
+isTextNamed n anyText = true
+isTextNamed n nonEmpty = false
+isTextNamed n amount = false
+isTextNamed n currency = false
+isTextNamed n root = false
+isTextNamed n partType = false
+isTextNamed n qualifiers = false
 
 abbrev isTime : Form → Bool
 isTime timestamp = true
@@ -70,7 +90,7 @@ isAlike true b = b
 isAlike false b = not b
 
 abbrev columnFits : Kind → Column → Bool
-columnFits k c = not (isTime (c .form)) || isTimed k && same (c .name) (bytes "value")
+columnFits k c = (not (isTime (c .form)) || isTimed k) && (isTextNamed (c .name) (c .form) || not (isTimed k))
 
 abbrev childFits : Kind → Child → Bool
 childFits k c = elim (c .kind) [ always j ↦ isAlike (isTimed j) (isTimed k) | typed ↦ isTimed k ]
@@ -105,7 +125,6 @@ members-timed : every isTimed memberTypes ≡ true
 unfolding every exists same
 members-timed = refl
 
--- a child has times exactly if what it stands in has
 child-timed : (k : Kind) (stage : ℕ) (n : List ℕ) (attrs : List Attribute) (c : Child) (j : Kind) → nextChild k stage n ≡ some c → kindOf (c .kind) attrs ≡ some j
     → isTimed j ≡ isTimed k
 child-timed k stage n attrs c j e f = by-kind (c .kind) f (found _ (childFits k) (lineOf k .children) c (children-fit k) e .1)
@@ -114,40 +133,21 @@ child-timed k stage n attrs c j e f = by-kind (c .kind) f (found _ (childFits k)
     by-kind (always i) f t = let z : i ≡ j = cc in rw (← z) (alike (isTimed i) (isTimed k) t)
     by-kind typed f t = found _ isTimed memberTypes j members-timed f .1 ∙ sym t
 
-module _ (shift : ℕ) (r : Refusal) (part : IsPart r) where
-  -- a time of these texts has the fault
-  abbrev pub HasFault : List (List ℕ) → Type 0
-  HasFault texts = (text : List ℕ) × List·Memᴰ text texts × (readTimestamp shift text ≡ refused r)
+-- where a fault of an attribute, of an element and of children comes from
+data OfAttribute (shift : ℕ) (k : Kind) (a : Attribute) (q : Refusal) : Type 0 where
+  not-allowed : q ≡ SHAPE → OfAttribute shift k a q
+  of-column : (c : Column) → same (c .name) (a .name) ≡ true → columnFits k c ≡ true → List·Memᴰ q (formFaults shift (c .form) (a .value)) → OfAttribute shift k a q
 
-  unlike : {A : Type 0} (q : Refusal) → (IsPart q → ⊥) → r ≡ q → A
-  unlike q n e = absurd (n (subst IsPart e part))
+data OfElement (shift : ℕ) (p : Standing) (k : Kind) (attrs : List Attribute) (within : Kind → List Refusal) (q : Refusal) : Type 0 where
+  of-attribute : (a : Attribute) → List·Memᴰ a attrs → OfAttribute shift k a q → OfElement shift p k attrs within q
+  lacking : q ≡ SHAPE → OfElement shift p k attrs within q
+  of-kids : List·Memᴰ q (within k) → OfElement shift p k attrs within q
+  breaking : q ≡ RULE → OfElement shift p k attrs within q
 
-  value : {A : Type 0} (b : Bool) → List·Memᴰ r (VALUE when b) → A
-  value b m = unlike VALUE (λ p. omega (arith, p)) (in-when b m)
-
-  in-faults : (o : Outcome Moment) → List·Memᴰ r (faultsOf o) → o ≡ refused r
-  in-faults (answered m) i = absurd (List·Memᴰ·not-nil i)
-  in-faults (refused q) i = ap refused (sym (List·Memᴰ·eq-of-singleton i))
-
-  -- of all forms only that of a timestamp has it
-  form-fault : (f : Form) (text : List ℕ) → List·Memᴰ r (formFaults shift f text) → (isTime f ≡ true) × (readTimestamp shift text ≡ refused r)
-  unfolding formFaults
-  form-fault timestamp text m = (refl, in-faults (readTimestamp shift text) m)
-  form-fault anyText text m = absurd (List·Memᴰ·not-nil m)
-  form-fault nonEmpty text m = value (isEmpty text) m
-  form-fault flavor text m = value (not (isFlavor text)) m
-  form-fault flag text m = value (not (isFlag text)) m
-  form-fault amount text m = value (not (isSome (whole amountText text))) m
-  form-fault currency text m = value (not (isCurrency text)) m
-  form-fault root text m = value (not (isRoot text)) m
-  form-fault partType text m = value (not (isPartType text)) m
-  form-fault qualifiers text m = value (not (isQualifiers text)) m
-
-  -- an attribute that has it is a time, in a kind that has times
-  attribute-fault : (p : Standing) (k : Kind) (a : Attribute) → List·Memᴰ r (attributeFaults shift p k a)
-      → (isTimed k ≡ true) × (same (a .name) (bytes "value") ≡ true) × (readTimestamp shift (a .value) ≡ refused r)
-  unfolding attributeFaults every rankIn
-  attribute-fault p k a m = go (isTop p && begins (bytes "xmlns") (a .name)) _ refl m
+module _ (shift : ℕ) {q : Refusal} where
+  in-attribute : (p : Standing) (k : Kind) (a : Attribute) → List·Memᴰ q (attributeFaults shift p k a) → OfAttribute shift k a q
+  unfolding attributeFaults every
+  in-attribute p k a m = go (isTop p && begins (bytes "xmlns") (a .name)) _ refl m
     where
       columns : Standing → List Column
       columns p = typeColumns p ++ nullColumns k ++ lineOf k .columns
@@ -158,162 +158,327 @@ module _ (shift : ℕ) (r : Refusal) (part : IsPart r) where
       fit inside = columns-fit k
 
       go : (b : Bool) (o : Option Column) → find (λ c. same (c .name) (a .name)) (columns p) ≡ o
-          → List·Memᴰ r (cond b [] (ifSome o (λ c. formFaults shift (c .form) (a .value)) (SHAPE ∷ [])))
-          → (isTimed k ≡ true) × (same (a .name) (bytes "value") ≡ true) × (readTimestamp shift (a .value) ≡ refused r)
+          → List·Memᴰ q (cond b [] (ifSome o (λ c. formFaults shift (c .form) (a .value)) (SHAPE ∷ []))) → OfAttribute shift k a q
       go true o e m = absurd (List·Memᴰ·not-nil m)
-      go false none e m = unlike SHAPE (λ p. omega (arith, p)) (List·Memᴰ·eq-of-singleton m)
-      go false (some c) e m =
-          let (t, h) = form-fault (c .form) (a .value) m in
-          let (s, f) = found _ (columnFits k) (columns p) c (fit p) e in
-          let (i, v) = both-true (isTimed k) (same (c .name) (bytes "value")) (rw t at f) in
-          (i, rw (same-true (c .name) (a .name) s) at v, h)
+      go false none e m = not-allowed (List·Memᴰ·eq-of-singleton m)
+      go false (some c) e m = let (n, f) = found _ (columnFits k) (columns p) c (fit p) e in of-column c n f m
 
-  attributes-fault : (p : Standing) (k : Kind) (attrs : List Attribute) → List·Memᴰ r (flatMap (attributeFaults shift p k) attrs) → (isTimed k ≡ true) × HasFault (valuesOf attrs)
-  attributes-fault p k attrs m =
-      let (a, i, n) = in-flatMap (attributeFaults shift p k) attrs m in
-      let (t, v, h) = attribute-fault p k a n in
-      (t, (a .value, flatMap-in (λ a. cond (same (a .name) (bytes "value")) (a .value ∷ []) []) i (rw v (List·Memᴰ·head refl)), h))
-
-  first-texts : {s : List (List ℕ)} (t : List (List ℕ)) → HasFault s → HasFault (s ++ t)
-  first-texts t (text, i, h) = (text, Memᴰ·append-left t i, h)
-
-  last-texts : (s : List (List ℕ)) {t : List (List ℕ)} → HasFault t → HasFault (s ++ t)
-  last-texts s (text, i, h) = (text, Memᴰ·append-right s i, h)
-
-  -- an element that has it is of a kind that has times, and has a time that has it
-  pub element-fault : (p : Standing) (o : Option Kind) (attrs : List Attribute) (kids : Nodes) (within : Kind → List Refusal)
-      → ((k : Kind) → List·Memᴰ r (within k) → (isTimed k ≡ true) × HasFault (valuesIn kids)) → List·Memᴰ r (elementFaults shift p o attrs kids within)
-      → (k : Kind) × (o ≡ some k) × (isTimed k ≡ true) × HasFault (valuesOf attrs ++ valuesIn kids)
-  unfolding elementFaults rankIn
-  element-fault p none attrs kids within below m = unlike TYPE (λ p. omega (arith, p)) (List·Memᴰ·eq-of-singleton m)
-  element-fault p (some k) attrs kids within below m = elim (List·Memᴰ·append-cases (own ++ lacking ++ within k) m) [
-    | inl m ↦ elim (List·Memᴰ·append-cases (own ++ lacking) m) [
+  in-element : (p : Standing) (k : Kind) (attrs : List Attribute) (kids : Nodes) (within : Kind → List Refusal) → List·Memᴰ q (elementFaults shift p (some k) attrs kids within)
+      → OfElement shift p k attrs within q
+  unfolding elementFaults
+  in-element p k attrs kids within m = elim (List·Memᴰ·append-cases (own ++ missing ++ within k) m) [
+    | inl m ↦ elim (List·Memᴰ·append-cases (own ++ missing) m) [
       | inl m ↦ elim (List·Memᴰ·append-cases own m) [
-        | inl m ↦ let (t, h) = attributes-fault p k attrs m in (k, refl, t, first-texts (valuesIn kids) h)
-        | inr m ↦ unlike SHAPE (λ p. omega (arith, p)) (in-when (exists (lacks attrs) (lineOf k .columns)) m)
+        | inl m ↦ let (a, i, n) = in-flatMap (attributeFaults shift p k) attrs m in of-attribute a i (in-attribute p k a n)
+        | inr m ↦ lacking (in-when (exists (lacks attrs) (lineOf k .columns)) m)
       ]
-      | inr m ↦ let (t, h) = below k m in (k, refl, t, last-texts (valuesOf attrs) h)
+      | inr m ↦ of-kids m
     ]
-    | inr m ↦ unlike RULE (λ p. omega (arith, p)) (in-when (lineOf k .invariant shift attrs kids || breaksNull k attrs kids) m)
+    | inr m ↦ breaking (in-when (lineOf k .invariant shift attrs kids || breaksNull k attrs kids) m)
   ]
     where
       own : List Refusal
       own = flatMap (attributeFaults shift p k) attrs
 
-      lacking : List Refusal
-      lacking = SHAPE when exists (lacks attrs) (lineOf k .columns)
+      missing : List Refusal
+      missing = SHAPE when exists (lacks attrs) (lineOf k .columns)
 
-  -- and so have those inside another
-  pub children-fault : (k : Kind) (null : Bool) (stage : ℕ) (ns : Nodes) → List·Memᴰ r (childFaults shift k null stage ns) → (isTimed k ≡ true) × HasFault (valuesIn ns)
-  unfolding childFaults valuesIn rankIn
-  children-fault k null stage end m = unlike SHAPE (λ p. omega (arith, p)) (in-when (not null && ltb stage (lineOf k .enough)) m)
-  children-fault k null stage (node n attrs kids rest) m =
-      elim (List·Memᴰ·append-cases (ifSome (nextChild k stage n) (λ c. faultsAs shift attrs kids (c .kind)) (SHAPE ∷ [])) m) [
-        | inl m ↦ go (nextChild k stage n) refl (λ j. children-fault j (isNull attrs) 0 kids) m
-        | inr m ↦ let (t, h) = children-fault k null (ifSome (nextChild k stage n) (λ c. c .to) stage) rest m in (t, last-texts (valuesOf attrs ++ valuesIn kids) h)
-      ]
+abbrev kidsAs : (shift : ℕ) → List Attribute → Nodes → Kind → List Refusal
+kidsAs shift attrs kids j = childFaults shift j (isNull attrs) 0 kids
+
+-- of a child and those after it
+data OfChildren (shift : ℕ) (k : Kind) (null : Bool) (stage : ℕ) (n : List ℕ) (attrs : List Attribute) (kids rest : Nodes) (q : Refusal) : Type 0 where
+  strange : q ≡ SHAPE → OfChildren shift k null stage n attrs kids rest q
+  untyped : q ≡ TYPE → OfChildren shift k null stage n attrs kids rest q
+  of-child : (p : Standing) (j : Kind) → isTimed j ≡ isTimed k → OfElement shift p j attrs (kidsAs shift attrs kids) q → OfChildren shift k null stage n attrs kids rest q
+  of-rest : (to : ℕ) → List·Memᴰ q (childFaults shift k null to rest) → OfChildren shift k null stage n attrs kids rest q
+
+in-children : (shift : ℕ) {q : Refusal} (k : Kind) (null : Bool) (stage : ℕ) (n : List ℕ) (attrs : List Attribute) (kids rest : Nodes)
+    → List·Memᴰ q (childFaults shift k null stage (node n attrs kids rest)) → OfChildren shift k null stage n attrs kids rest q
+unfolding childFaults elementFaults
+in-children shift {q} k null stage n attrs kids rest m =
+    elim (List·Memᴰ·append-cases (ifSome (nextChild k stage n) (λ c. faultsAs shift attrs kids (c .kind)) (SHAPE ∷ [])) m) [
+      | inl m ↦ by-name (nextChild k stage n) refl m
+      | inr m ↦ of-rest _ m
+    ]
+  where
+    by-kind : (c : Child) → nextChild k stage n ≡ some c → (o : Option Kind) → kindOf (c .kind) attrs ≡ o
+        → List·Memᴰ q (elementFaults shift (standingOf (c .kind)) o attrs kids (kidsAs shift attrs kids)) → OfChildren shift k null stage n attrs kids rest q
+    by-kind c e none f m = untyped (List·Memᴰ·eq-of-singleton m)
+    by-kind c e (some j) f m = of-child _ j (child-timed k stage n attrs c j e f) (in-element shift (standingOf (c .kind)) j attrs kids (kidsAs shift attrs kids) m)
+
+    by-name : (o : Option Child) → nextChild k stage n ≡ o → List·Memᴰ q (ifSome o (λ c. faultsAs shift attrs kids (c .kind)) (SHAPE ∷ [])) → OfChildren shift k null stage n attrs kids rest q
+    by-name none e m = strange (List·Memᴰ·eq-of-singleton m)
+    by-name (some c) e m = by-kind c e (kindOf (c .kind) attrs) refl m
+
+-- one of the three stands in an element of a kind that has times: only there is a column for a time
+module _ (shift : ℕ) (r : Refusal) (part : IsPart r) where
+  not-part : {A : Type 0} (q : Refusal) → (IsPart q → ⊥) → r ≡ q → A
+  not-part q n e = absurd (n (subst IsPart e part))
+
+  not-value : {A : Type 0} (b : Bool) → List·Memᴰ r (VALUE when b) → A
+  not-value b m = not-part VALUE (λ p. omega (arith, p)) (in-when b m)
+
+  time-form : (f : Form) (text : List ℕ) → List·Memᴰ r (formFaults shift f text) → isTime f ≡ true
+  unfolding formFaults
+  time-form timestamp text m = refl
+  time-form anyText text m = absurd (List·Memᴰ·not-nil m)
+  time-form nonEmpty text m = not-value (isEmpty text) m
+  time-form flavor text m = not-value (not (isFlavor text)) m
+  time-form flag text m = not-value (not (isFlag text)) m
+  time-form amount text m = not-value (not (isSome (whole amountText text))) m
+  time-form currency text m = not-value (not (isCurrency text)) m
+  time-form root text m = not-value (not (isRoot text)) m
+  time-form partType text m = not-value (not (isPartType text)) m
+  time-form qualifiers text m = not-value (not (isQualifiers text)) m
+
+  element-timed : {p : Standing} {k : Kind} {attrs : List Attribute} {within : Kind → List Refusal} → (List·Memᴰ r (within k) → isTimed k ≡ true) → OfElement shift p k attrs within r
+      → isTimed k ≡ true
+  unfolding rankIn
+  element-timed below (of-attribute a i (not-allowed e)) = not-part SHAPE (λ p. omega (arith, p)) e
+  element-timed {k = k} below (of-attribute a i (of-column c n f m)) = rw (time-form (c .form) (a .value) m) at (both-true (not (isTime (c .form)) || isTimed k) _ f .0)
+  element-timed below (lacking e) = not-part SHAPE (λ p. omega (arith, p)) e
+  element-timed below (of-kids m) = below m
+  element-timed below (breaking e) = not-part RULE (λ p. omega (arith, p)) e
+
+  children-timed : (k : Kind) (null : Bool) (stage : ℕ) (ns : Nodes) → List·Memᴰ r (childFaults shift k null stage ns) → isTimed k ≡ true
+  unfolding childFaults rankIn
+  children-timed k null stage end m = not-part SHAPE (λ p. omega (arith, p)) (in-when (not null && ltb stage (lineOf k .enough)) m)
+  children-timed k null stage (node n attrs kids rest) m = elim (in-children shift k null stage n attrs kids rest m) [
+    | strange e ↦ not-part SHAPE (λ p. omega (arith, p)) e
+    | untyped e ↦ not-part TYPE (λ p. omega (arith, p)) e
+    | of-child p j t h ↦ sym t ∙ element-timed (children-timed j (isNull attrs) 0 kids) h
+    | of-rest to m ↦ children-timed k null to rest m
+  ]
+
+  pub record-timed : (p : Standing) (o : Option Kind) (attrs : List Attribute) (kids : Nodes) → List·Memᴰ r (elementFaults shift p o attrs kids (kidsAs shift attrs kids))
+      → (k : Kind) × (o ≡ some k) × (isTimed k ≡ true)
+  unfolding elementFaults rankIn
+  record-timed p none attrs kids m = not-part TYPE (λ p. omega (arith, p)) (List·Memᴰ·eq-of-singleton m)
+  record-timed p (some k) attrs kids m = (k, refl, element-timed (children-timed k (isNull attrs) 0 kids) (in-element shift p k attrs kids (kidsAs shift attrs kids) m))
+
+-- a fault of a text, in an element of a kind that has times, is that of a text in it
+abbrev pub ownTexts : (name : List ℕ) → List Attribute → List (List ℕ)
+ownTexts name = flatMap (λ a. cond (same (a .name) name) (a .value ∷ []) [])
+
+-- one of some texts, given by their name, has a fault
+pub record HasFault (shift : ℕ) (q : Refusal) (texts : List ℕ → List (List ℕ)) : Type 0 where
+  pub name : List ℕ
+  pub form : Form
+  pub is-text : IsText name form
+  pub text : List ℕ
+  pub stands : List·Memᴰ text (texts name)
+  pub fault : List·Memᴰ q (formFaults shift form text)
+
+pub among : {shift : ℕ} {q : Refusal} {s t : List ℕ → List (List ℕ)} → ((name : List ℕ) (text : List ℕ) → List·Memᴰ text (s name) → List·Memᴰ text (t name)) → HasFault shift q s → HasFault shift q t
+among f h = record { name = h .name; form = h .form; is-text = h .is-text; text = h .text; stands = f (h .name) (h .text) (h .stands); fault = h .fault }
+
+module _ (shift : ℕ) (q : Refusal) (of-text : IsOfText q) where
+  not-of-text : {A : Type 0} (p : Refusal) → (IsOfText p → ⊥) → q ≡ p → A
+  not-of-text p n e = absurd (n (subst IsOfText e of-text))
+
+  attribute-text : (attrs : List Attribute) (a : Attribute) → List·Memᴰ a attrs → (n : List ℕ) (f : Form) → same n (a .name) ≡ true → isTextNamed n f ≡ true
+      → List·Memᴰ q (formFaults shift f (a .value)) → HasFault shift q (λ name. ownTexts name attrs)
+  unfolding formFaults
+  attribute-text attrs a i n f e t m = by-form f t m
     where
-      go : (o : Option Child) → nextChild k stage n ≡ o
-          → ((j : Kind) → List·Memᴰ r (childFaults shift j (isNull attrs) 0 kids) → (isTimed j ≡ true) × HasFault (valuesIn kids))
-          → List·Memᴰ r (ifSome o (λ c. faultsAs shift attrs kids (c .kind)) (SHAPE ∷ [])) → (isTimed k ≡ true) × HasFault (valuesOf attrs ++ valuesIn kids ++ valuesIn rest)
-      go none e below m = unlike SHAPE (λ p. omega (arith, p)) (List·Memᴰ·eq-of-singleton m)
-      go (some c) e below m =
-          let (j, f, t, h) = element-fault (standingOf (c .kind)) (kindOf (c .kind) attrs) attrs kids (λ j. childFaults shift j (isNull attrs) 0 kids) below m in
-          (sym (child-timed k stage n attrs c j e f) ∙ t, first-texts (valuesIn rest) h)
+      named : {name : List ℕ} {form : Form} → IsText name form → same name n ≡ true → List·Memᴰ q (formFaults shift form (a .value)) → HasFault shift q (λ name. ownTexts name attrs)
+      named {name} {form} x t m =
+          let z : a .name ≡ name = sym (same-true name n t ∙ same-true n (a .name) e) in
+          record {
+            name = name;
+            form = form;
+            is-text = x;
+            text = a .value;
+            stands = flatMap-in (λ a. cond (same (a .name) name) (a .value ∷ []) []) i (rw (z, same-refl name) (List·Memᴰ·head refl));
+            fault = m;
+          }
 
-  -- Where nothing is wrong by TYPE or SHAPE, each attribute `value` of a kind that has times is a time.
-  abbrev pub IsClean : List Refusal → Type 0
-  IsClean faults = (List·Memᴰ TYPE faults → ⊥) × (List·Memᴰ SHAPE faults → ⊥)
+      by-flag : (b : Bool) → same (bytes "lowClosed") n ≡ b → (b || same (bytes "highClosed") n) ≡ true → List·Memᴰ q (formFaults shift flag (a .value))
+          → HasFault shift q (λ name. ownTexts name attrs)
+      by-flag true e t m = named low-text e m
+      by-flag false e t m = named high-text t m
 
-  clean-first : {a : List Refusal} (b : List Refusal) → IsClean (a ++ b) → IsClean a
-  clean-first b (f, g) = (λ m. f (Memᴰ·append-left b m), λ m. g (Memᴰ·append-left b m))
+      by-form : (f : Form) → isTextNamed n f ≡ true → List·Memᴰ q (formFaults shift f (a .value)) → HasFault shift q (λ name. ownTexts name attrs)
+      by-form timestamp t m = named time-text t m
+      by-form flavor t m = named flavor-text t m
+      by-form flag t m = by-flag (same (bytes "lowClosed") n) refl t m
+      by-form anyText t m = absurd (List·Memᴰ·not-nil m)
+      by-form nonEmpty t m = clash (cc)
+      by-form amount t m = clash (cc)
+      by-form currency t m = clash (cc)
+      by-form root t m = clash (cc)
+      by-form partType t m = clash (cc)
+      by-form qualifiers t m = clash (cc)
 
-  clean-last : (a : List Refusal) {b : List Refusal} → IsClean (a ++ b) → IsClean b
-  clean-last a (f, g) = (λ m. f (Memᴰ·append-right a m), λ m. g (Memᴰ·append-right a m))
+  named-timed : (a b : Bool) → b ≡ true → (a || not b) ≡ true → a ≡ true
+  named-timed true b e f = refl
+  named-timed false b e f = clash (cc (rw e at f))
 
-  -- the faults of an attribute `value`
-  value-faults : (p : Standing) (k : Kind) (a : Attribute) → a .name ≡ bytes "value"
-      → attributeFaults shift p k a ≡ ifSome (find (λ c. same (c .name) (bytes "value")) (nullColumns k ++ lineOf k .columns)) (λ c. formFaults shift (c .form) (a .value)) (SHAPE ∷ [])
-  unfolding attributeFaults find same begins
-  value-faults top k a e = rw e
-  value-faults member k a e = rw e
-  value-faults inside k a e = rw e
+  -- of an element's own texts or of those inside it
+  element-text : {p : Standing} {k : Kind} {attrs : List Attribute} {within : Kind → List Refusal} (kids : Nodes) → isTimed k ≡ true
+      → (List·Memᴰ q (within k) → HasFault shift q (λ name. textsIn name kids)) → OfElement shift p k attrs within q → HasFault shift q (λ name. ownTexts name attrs ++ textsIn name kids)
+  unfolding rankIn
+  element-text kids t below (of-attribute a i (not-allowed e)) = not-of-text SHAPE (λ p. omega (arith, p)) e
+  element-text {k = k} {attrs = attrs} kids t below (of-attribute a i (of-column c n f m)) =
+      let g = named-timed (isTextNamed (c .name) (c .form)) (isTimed k) t (both-true (not (isTime (c .form)) || isTimed k) _ f .1) in
+      among (λ name text j. Memᴰ·append-left (textsIn name kids) j) (attribute-text attrs a i (c .name) (c .form) n g m)
+  element-text kids t below (lacking e) = not-of-text SHAPE (λ p. omega (arith, p)) e
+  element-text {attrs = attrs} kids t below (of-kids m) = among (λ name text j. Memᴰ·append-right (ownTexts name attrs) j) (below m)
+  element-text kids t below (breaking e) = not-of-text RULE (λ p. omega (arith, p)) e
 
-  value-fault : (k : Kind) (a : Attribute) → isTimed k ≡ true → readTimestamp shift (a .value) ≡ refused r
-      → let faults : List Refusal = ifSome (find (λ c. same (c .name) (bytes "value")) (nullColumns k ++ lineOf k .columns)) (λ c. formFaults shift (c .form) (a .value)) (SHAPE ∷ []) in
-      (List·Memᴰ SHAPE faults → ⊥) → List·Memᴰ r faults
-  unfolding lineOf find same exists formFaults
-  value-fault TS a t h n = rw h (List·Memᴰ·head refl)
-  value-fault IVL-TS a t h n = absurd (n (List·Memᴰ·head refl))
-  value-fault QSU-TS a t h n = absurd (n (List·Memᴰ·head refl))
-  value-fault QSI-TS a t h n = absurd (n (List·Memᴰ·head refl))
-  value-fault QSD-TS a t h n = absurd (n (List·Memᴰ·head refl))
-  value-fault MO a t h n = clash (cc)
-  value-fault II a t h n = clash (cc)
-  value-fault CD a t h n = clash (cc)
-  value-fault EN a t h n = clash (cc)
-  value-fault DisplayName a t h n = clash (cc)
-  value-fault Part a t h n = clash (cc)
+  children-text : (k : Kind) (null : Bool) (stage : ℕ) (ns : Nodes) → isTimed k ≡ true → List·Memᴰ q (childFaults shift k null stage ns) → HasFault shift q (λ name. textsIn name ns)
+  unfolding childFaults textsIn rankIn
+  children-text k null stage end t m = not-of-text SHAPE (λ p. omega (arith, p)) (in-when (not null && ltb stage (lineOf k .enough)) m)
+  children-text k null stage (node n attrs kids rest) t m = elim (in-children shift k null stage n attrs kids rest m) [
+    | strange e ↦ not-of-text SHAPE (λ p. omega (arith, p)) e
+    | untyped e ↦ not-of-text TYPE (λ p. omega (arith, p)) e
+    | of-child p j u h ↦
+        among (λ name text i. Memᴰ·append-left (textsIn name rest) i) (element-text kids (u ∙ t) (children-text j (isNull attrs) 0 kids (u ∙ t)) h)
+    | of-rest to m ↦ among (λ name text i. Memᴰ·append-right (ownTexts name attrs ++ textsIn name kids) i) (children-text k null to rest t m)
+  ]
 
-  in-values : (a : Attribute) {text : List ℕ} → List·Memᴰ text (cond (same (a .name) (bytes "value")) (a .value ∷ []) []) → (a .name ≡ bytes "value") × (text ≡ a .value)
-  in-values a {text} m = go (same (a .name) (bytes "value")) refl m
-    where
-      go : (b : Bool) → same (a .name) (bytes "value") ≡ b → List·Memᴰ text (cond b (a .value ∷ []) []) → (a .name ≡ bytes "value") × (text ≡ a .value)
-      go true e m = (same-true (a .name) (bytes "value") e, List·Memᴰ·eq-of-singleton m)
-      go false e m = absurd (List·Memᴰ·not-nil m)
+  pub element-fault : (p : Standing) (k : Kind) (attrs : List Attribute) (kids : Nodes) → isTimed k ≡ true → List·Memᴰ q (elementFaults shift p (some k) attrs kids (kidsAs shift attrs kids))
+      → HasFault shift q (λ name. ownTexts name attrs ++ textsIn name kids)
+  element-fault p k attrs kids t m = element-text kids t (children-text k (isNull attrs) 0 kids t) (in-element shift p k attrs kids (kidsAs shift attrs kids) m)
 
-  fault-in-attributes : (p : Standing) (k : Kind) (attrs : List Attribute) → isTimed k ≡ true → IsClean (flatMap (attributeFaults shift p k) attrs) → HasFault (valuesOf attrs)
-      → List·Memᴰ r (flatMap (attributeFaults shift p k) attrs)
-  fault-in-attributes p k attrs t (c, d) (text, i, h) =
-      let (a, j, m) = in-flatMap (λ a. cond (same (a .name) (bytes "value")) (a .value ∷ []) []) attrs i in
-      let (e, f) = in-values a m in
-      let g = value-faults p k a e in
-      flatMap-in (attributeFaults shift p k) j
-      (subst (List·Memᴰ r) (sym g) (value-fault k a t (rw f at h) (λ n. d (flatMap-in (attributeFaults shift p k) j (subst (List·Memᴰ SHAPE) (sym g) n)))))
+-- Where nothing is wrong by TYPE or SHAPE, the fault of a text is a fault of the element that it stands in.
+abbrev pub IsClean : List Refusal → Type 0
+IsClean faults = (List·Memᴰ TYPE faults → ⊥) × (List·Memᴰ SHAPE faults → ⊥)
 
-  pub fault-in-element : (p : Standing) (k : Kind) (attrs : List Attribute) (kids : Nodes) (within : Kind → List Refusal) → isTimed k ≡ true
-      → (IsClean (within k) → HasFault (valuesIn kids) → List·Memᴰ r (within k)) → IsClean (elementFaults shift p (some k) attrs kids within)
-      → HasFault (valuesOf attrs ++ valuesIn kids) → List·Memᴰ r (elementFaults shift p (some k) attrs kids within)
-  unfolding elementFaults
-  fault-in-element p k attrs kids within t below c (text, i, h) = Memᴰ·append-left {s = own ++ lacking ++ within k} broken (elim (List·Memᴰ·append-cases (valuesOf attrs) i) [
-    | inl i ↦ Memᴰ·append-left (within k) (Memᴰ·append-left lacking (fault-in-attributes p k attrs t (clean-first lacking (clean-first (within k) (clean-first broken c))) (text, i, h)))
-    | inr i ↦ Memᴰ·append-right (own ++ lacking) (below (clean-last (own ++ lacking) (clean-first broken c)) (text, i, h))
-  ])
-    where
-      own : List Refusal
-      own = flatMap (attributeFaults shift p k) attrs
+clean-first : {a : List Refusal} (b : List Refusal) → IsClean (a ++ b) → IsClean a
+clean-first b (f, g) = (λ m. f (Memᴰ·append-left b m), λ m. g (Memᴰ·append-left b m))
 
-      lacking : List Refusal
-      lacking = SHAPE when exists (lacks attrs) (lineOf k .columns)
+clean-last : (a : List Refusal) {b : List Refusal} → IsClean (a ++ b) → IsClean b
+clean-last a (f, g) = (λ m. f (Memᴰ·append-right a m), λ m. g (Memᴰ·append-right a m))
 
-      broken : List Refusal
-      broken = RULE when (lineOf k .invariant shift attrs kids || breaksNull k attrs kids)
+-- the column for a text, if a kind has one
+abbrev columnFor : (name : List ℕ) → Kind → Option Column
+columnFor name k = find (λ c. same (c .name) name) (nullColumns k ++ lineOf k .columns)
 
-  pub fault-in-children : (k : Kind) (null : Bool) (stage : ℕ) (ns : Nodes) → isTimed k ≡ true → IsClean (childFaults shift k null stage ns) → HasFault (valuesIn ns)
-      → List·Memᴰ r (childFaults shift k null stage ns)
-  unfolding childFaults valuesIn elementFaults
-  fault-in-children k null stage end t c (text, i, h) = absurd (List·Memᴰ·not-nil i)
-  fault-in-children k null stage (node n attrs kids rest) t c (text, i, h) =
-      elim (List·Memᴰ·append-cases (valuesOf attrs ++ valuesIn kids) i) [
-        | inl i ↦ Memᴰ·append-left after (go (nextChild k stage n) refl (λ j u d e. fault-in-children j (isNull attrs) 0 kids u d e) (clean-first after c) (text, i, h))
-        | inr i ↦ Memᴰ·append-right (this (nextChild k stage n)) (fault-in-children k null _ rest t (clean-last (this (nextChild k stage n)) c) (text, i, h))
-      ]
-    where
-      this : Option Child → List Refusal
-      this o = ifSome o (λ c. faultsAs shift attrs kids (c .kind)) (SHAPE ∷ [])
+data ColumnFor (name : List ℕ) (form : Form) (k : Kind) : Type 0 where
+  no-column : columnFor name k ≡ none → ColumnFor name form k
+  a-column : (c : Column) → columnFor name k ≡ some c → c .form ≡ form → ColumnFor name form k
 
-      after : List Refusal
-      after = childFaults shift k null (ifSome (nextChild k stage n) (λ c. c .to) stage) rest
+column-for : {name : List ℕ} {form : Form} → IsText name form → (k : Kind) → isTimed k ≡ true → ColumnFor name form k
+unfolding lineOf find same exists
+column-for time-text TS t = a-column _ refl refl
+column-for flavor-text TS t = a-column _ refl refl
+column-for low-text TS t = no-column refl
+column-for high-text TS t = no-column refl
+column-for time-text IVL-TS t = no-column refl
+column-for flavor-text IVL-TS t = a-column _ refl refl
+column-for low-text IVL-TS t = a-column _ refl refl
+column-for high-text IVL-TS t = a-column _ refl refl
+column-for time-text QSU-TS t = no-column refl
+column-for flavor-text QSU-TS t = a-column _ refl refl
+column-for low-text QSU-TS t = no-column refl
+column-for high-text QSU-TS t = no-column refl
+column-for time-text QSI-TS t = no-column refl
+column-for flavor-text QSI-TS t = a-column _ refl refl
+column-for low-text QSI-TS t = no-column refl
+column-for high-text QSI-TS t = no-column refl
+column-for time-text QSD-TS t = no-column refl
+column-for flavor-text QSD-TS t = a-column _ refl refl
+column-for low-text QSD-TS t = no-column refl
+column-for high-text QSD-TS t = no-column refl
+column-for x MO t = clash (cc)
+column-for x II t = clash (cc)
+column-for x CD t = clash (cc)
+column-for x EN t = clash (cc)
+column-for x DisplayName t = clash (cc)
+column-for x Part t = clash (cc)
 
-      of-kind : (p : Standing) (o : Option Kind) → ((j : Kind) → o ≡ some j → isTimed j ≡ true)
-          → ((j : Kind) → isTimed j ≡ true → IsClean (childFaults shift j (isNull attrs) 0 kids) → HasFault (valuesIn kids) → List·Memᴰ r (childFaults shift j (isNull attrs) 0 kids))
-          → IsClean (elementFaults shift p o attrs kids (λ j. childFaults shift j (isNull attrs) 0 kids)) → HasFault (valuesOf attrs ++ valuesIn kids)
-          → List·Memᴰ r (elementFaults shift p o attrs kids (λ j. childFaults shift j (isNull attrs) 0 kids))
-      of-kind p none timed below (f, g) h = absurd (f (List·Memᴰ·head refl))
-      of-kind p (some j) timed below c h = fault-in-element p j attrs kids (λ j. childFaults shift j (isNull attrs) 0 kids) (timed j refl) (below j (timed j refl)) c h
+module _ (shift : ℕ) where
+  -- an attribute that is neither `xsi:type` nor `xmlns..` is judged by that column
+  column-faults : (p : Standing) (k : Kind) (a : Attribute) (name : List ℕ) → same (bytes "xsi:type") name ≡ false → begins (bytes "xmlns") name ≡ false → a .name ≡ name
+      → attributeFaults shift p k a ≡ ifSome (columnFor name k) (λ c. formFaults shift (c .form) (a .value)) (SHAPE ∷ [])
+  unfolding attributeFaults find
+  column-faults top k a name f g e = rw (e, f, g) refl
+  column-faults member k a name f g e = rw (e, f) refl
+  column-faults inside k a name f g e = rw e refl
 
-      go : (o : Option Child) → nextChild k stage n ≡ o
-          → ((j : Kind) → isTimed j ≡ true → IsClean (childFaults shift j (isNull attrs) 0 kids) → HasFault (valuesIn kids) → List·Memᴰ r (childFaults shift j (isNull attrs) 0 kids))
-          → IsClean (this o) → HasFault (valuesOf attrs ++ valuesIn kids) → List·Memᴰ r (this o)
-      go none e below (f, g) h = absurd (g (List·Memᴰ·head refl))
-      go (some c) e below d h = of-kind (standingOf (c .kind)) (kindOf (c .kind) attrs) (λ j f. child-timed k stage n attrs c j e f ∙ t) below d h
+  text-faults : {name : List ℕ} {form : Form} → IsText name form → (p : Standing) (k : Kind) (a : Attribute) → a .name ≡ name
+      → attributeFaults shift p k a ≡ ifSome (columnFor name k) (λ c. formFaults shift (c .form) (a .value)) (SHAPE ∷ [])
+  unfolding same begins
+  text-faults time-text p k a e = column-faults p k a (bytes "value") refl refl e
+  text-faults flavor-text p k a e = column-faults p k a (bytes "nullFlavor") refl refl e
+  text-faults low-text p k a e = column-faults p k a (bytes "lowClosed") refl refl e
+  text-faults high-text p k a e = column-faults p k a (bytes "highClosed") refl refl e
+
+  module _ (q : Refusal) where
+    fault-in-attribute : {name : List ℕ} {form : Form} → IsText name form → (p : Standing) (k : Kind) → isTimed k ≡ true → (a : Attribute) → a .name ≡ name
+        → (List·Memᴰ SHAPE (attributeFaults shift p k a) → ⊥) → List·Memᴰ q (formFaults shift form (a .value)) → List·Memᴰ q (attributeFaults shift p k a)
+    fault-in-attribute x p k t a e n m = elim (column-for x k t) [
+      | no-column f ↦ absurd (n (rw (text-faults x p k a e, f) (List·Memᴰ·head refl)))
+      | a-column c f g ↦ rw (text-faults x p k a e, f, g) m
+    ]
+
+    in-texts : {name : List ℕ} (a : Attribute) {text : List ℕ} → List·Memᴰ text (cond (same (a .name) name) (a .value ∷ []) []) → (a .name ≡ name) × (text ≡ a .value)
+    in-texts {name} a {text} m = go (same (a .name) name) refl m
+      where
+        go : (b : Bool) → same (a .name) name ≡ b → List·Memᴰ text (cond b (a .value ∷ []) []) → (a .name ≡ name) × (text ≡ a .value)
+        go true e m = (same-true (a .name) name e, List·Memᴰ·eq-of-singleton m)
+        go false e m = absurd (List·Memᴰ·not-nil m)
+
+    fault-in-attributes : (p : Standing) (k : Kind) (attrs : List Attribute) → isTimed k ≡ true → IsClean (flatMap (attributeFaults shift p k) attrs)
+        → HasFault shift q (λ name. ownTexts name attrs) → List·Memᴰ q (flatMap (attributeFaults shift p k) attrs)
+    fault-in-attributes p k attrs t (c, d) h =
+        let (a, j, m) = in-flatMap (λ a. cond (same (a .name) (h .name)) (a .value ∷ []) []) attrs (h .stands) in
+        let (e, f) = in-texts a m in
+        flatMap-in (attributeFaults shift p k) j
+        (fault-in-attribute (h .is-text) p k t a e (λ n. d (flatMap-in (attributeFaults shift p k) j n)) (subst (λ v. List·Memᴰ q (formFaults shift (h .form) v)) f (h .fault)))
+
+    -- which texts of two have the fault
+    either : {s t : List ℕ → List (List ℕ)} → HasFault shift q (λ name. s name ++ t name) → HasFault shift q s ⊎ HasFault shift q t
+    either {s} h = elim (List·Memᴰ·append-cases (s (h .name)) (h .stands)) [
+      | inl i ↦ inl (record { name = h .name; form = h .form; is-text = h .is-text; text = h .text; stands = i; fault = h .fault })
+      | inr i ↦ inr (record { name = h .name; form = h .form; is-text = h .is-text; text = h .text; stands = i; fault = h .fault })
+    ]
+
+    pub fault-in-element : (p : Standing) (k : Kind) (attrs : List Attribute) (kids : Nodes) (within : Kind → List Refusal) → isTimed k ≡ true
+        → (IsClean (within k) → HasFault shift q (λ name. textsIn name kids) → List·Memᴰ q (within k)) → IsClean (elementFaults shift p (some k) attrs kids within)
+        → HasFault shift q (λ name. ownTexts name attrs ++ textsIn name kids) → List·Memᴰ q (elementFaults shift p (some k) attrs kids within)
+    unfolding elementFaults
+    fault-in-element p k attrs kids within t below c h =
+        Memᴰ·append-left {s = own ++ missing ++ within k} broken (elim (either {s = λ name. ownTexts name attrs} {t = λ name. textsIn name kids} h) [
+          | inl h ↦ Memᴰ·append-left (within k) (Memᴰ·append-left missing (fault-in-attributes p k attrs t (clean-first missing (clean-first (within k) (clean-first broken c))) h))
+          | inr h ↦ Memᴰ·append-right (own ++ missing) (below (clean-last (own ++ missing) (clean-first broken c)) h)
+        ])
+      where
+        own : List Refusal
+        own = flatMap (attributeFaults shift p k) attrs
+
+        missing : List Refusal
+        missing = SHAPE when exists (lacks attrs) (lineOf k .columns)
+
+        broken : List Refusal
+        broken = RULE when (lineOf k .invariant shift attrs kids || breaksNull k attrs kids)
+
+    pub fault-in-children : (k : Kind) (null : Bool) (stage : ℕ) (ns : Nodes) → isTimed k ≡ true → IsClean (childFaults shift k null stage ns)
+        → HasFault shift q (λ name. textsIn name ns) → List·Memᴰ q (childFaults shift k null stage ns)
+    unfolding childFaults textsIn elementFaults
+    fault-in-children k null stage end t c h = absurd (List·Memᴰ·not-nil (h .stands))
+    fault-in-children k null stage (node n attrs kids rest) t c h =
+        elim (either {s = λ name. ownTexts name attrs ++ textsIn name kids} {t = λ name. textsIn name rest} h) [
+          | inl h ↦ Memᴰ·append-left after (by-name (nextChild k stage n) refl (λ j. fault-in-children j (isNull attrs) 0 kids) (clean-first after c) h)
+          | inr h ↦ Memᴰ·append-right (this (nextChild k stage n)) (fault-in-children k null _ rest t (clean-last (this (nextChild k stage n)) c) h)
+        ]
+      where
+        this : Option Child → List Refusal
+        this o = ifSome o (λ c. faultsAs shift attrs kids (c .kind)) (SHAPE ∷ [])
+
+        after : List Refusal
+        after = childFaults shift k null (ifSome (nextChild k stage n) (λ c. c .to) stage) rest
+
+        Below : Type 0
+        Below = (j : Kind) → isTimed j ≡ true → IsClean (kidsAs shift attrs kids j) → HasFault shift q (λ name. textsIn name kids) → List·Memᴰ q (kidsAs shift attrs kids j)
+
+        by-kind : (p : Standing) (o : Option Kind) → ((j : Kind) → o ≡ some j → isTimed j ≡ true) → Below → IsClean (elementFaults shift p o attrs kids (kidsAs shift attrs kids))
+            → HasFault shift q (λ name. ownTexts name attrs ++ textsIn name kids) → List·Memᴰ q (elementFaults shift p o attrs kids (kidsAs shift attrs kids))
+        by-kind p none timed below (f, g) h = absurd (f (List·Memᴰ·head refl))
+        by-kind p (some j) timed below c h = fault-in-element p j attrs kids (kidsAs shift attrs kids) (timed j refl) (below j (timed j refl)) c h
+
+        by-name : (o : Option Child) → nextChild k stage n ≡ o → Below → IsClean (this o) → HasFault shift q (λ name. ownTexts name attrs ++ textsIn name kids) → List·Memᴰ q (this o)
+        by-name none e below (f, g) h = absurd (g (List·Memᴰ·head refl))
+        by-name (some c) e below d h = by-kind (standingOf (c .kind)) (kindOf (c .kind) attrs) (λ j f. child-timed k stage n attrs c j e f ∙ t) below d h

@@ -5,15 +5,16 @@ use mathlib.Core.Logic.{_⊎_, inl, inr, _↔_}
 use mathlib.Core.Bool.{Bool, true, false, not, cond}
 use mathlib.Core.List.{List, [], _∷_, _++_, append-nil, List·Memᴰ, List·Memᴰ·head, List·Memᴰ·tail, List·Memᴰ·not-nil, List·Memᴰ·cases-cons, List·Memᴰ·append-cases, List·Memᴰ·eq-of-singleton, Memᴰ·append-left, Memᴰ·append-right}
 use mathlib.Core.Option.{Option, none, some}
-use native.Mathlib.Decide.{decLe}
+use native.Mathlib.Decide.{decLe, decLt}
 use native.Mathlib.Omega.{arith}
 use borrow.Author.Tests.{le-ltb}
 use lib.ListN.{length}
 use lib.IntN.{ℤ, pos}
 use Rattle.rules.specs.Basics.{isSome, ifSome, find, exists, every, bytes, same}
-use Rattle.rules.specs.Refusal.{Refusal, OFFSET, TOO-LONG, NOT-UTF-8, MARKUP, TYPE, SHAPE, DATE, RULE, UNKNOWN-BOUND, TOO-MANY, NO-ROOM, number, rankIn, rank, firstOf, Outcome, answered, refused, faultsIn, faultsOf, _when_}
+use Rattle.rules.specs.Refusal.{Refusal, OFFSET, TOO-LONG, NOT-UTF-8, MARKUP, TYPE, SHAPE, VALUE, DATE, RULE, UNKNOWN-BOUND, TOO-MANY, NO-ROOM, number, rankIn, rank, firstOf, Outcome, answered, refused, faultsIn, faultsOf, _when_}
 use Rattle.rules.specs.Markup.{Attribute, Nodes, end, node, Element, document}
 use Rattle.rules.specs.Timestamp.{Moment, readTimestamp}
+use Rattle.rules.specs.Forms.{Form, isFlavor, isFlag, formFaults}
 use Rattle.rules.specs.Invariants.{isNull}
 use Rattle.rules.specs.Types.{Kind, TS, IVL-TS, QSU-TS, QSI-TS, QSD-TS, MO, II, CD, EN, DisplayName, Part, nameOf, memberTypes, allTypes, hasType, typeAmong}
 use Rattle.rules.specs.Judge.{top, childFaults, topFaults}
@@ -24,7 +25,7 @@ use Rattle.rules.specs.Listing.{unlisted}
 use Rattle.rules.specs.Comparison.{Answer, Comparer}
 use Rattle.rules.specs.ListingPromise.{numberIn, isListed, Refuses, ListingPromise}
 use Rattle.rules.specs.ComparisonPromise.{Names, Says}
-use Rattle.rules.proofs.Tests.{clash, found}
+use Rattle.rules.proofs.Tests.{clash, every-true, found}
 use Rattle.rules.proofs.Precedence.{number-injective, first-is, check-refused, check-answered}
 use Rattle.rules.proofs.Opened.{opened}
 use Rattle.rules.proofs.Members.{type-is}
@@ -35,12 +36,12 @@ use Rattle.rules.specs.Totals.{Entry}
 use Rattle.rules.specs.TotalDays.{Call, readingOf}
 use Rattle.demands.specs.Services.{Services}
 use Rattle.demands.specs.Totals.{Reads}
-use Rattle.demands.specs.WrongTimes.{IsWrong, valuesOf, valuesIn, HasWrongTime, timeParts, WrongTimesPromise}
+use Rattle.demands.specs.WrongTimes.{IsWrongBy, textsIn, textsOf, HasWrongTime, partRefusals, WrongTimesPromise}
 use Rattle.demands.specs.Demands.{IsFirst, timeFaults, Demand2, Demand3}
 use Rattle.demands.proofs.Answers.{iff-trans}
 use Rattle.demands.proofs.TotalsReadings.{reads}
-use Rattle.demands.proofs.WrongTexts.{is-wrong}
-use Rattle.demands.proofs.TimesWithin.{isTimed, IsPart, is-part, HasFault, IsClean, element-fault, children-fault, fault-in-element, fault-in-children}
+use Rattle.demands.proofs.WrongTexts.{is-wrong-by}
+use Rattle.demands.proofs.TimesWithin.{IsOfText, IsPart, is-part, in-when, isTimed, IsText, time-text, flavor-text, low-text, high-text, record-timed, ownTexts, HasFault, among, element-fault, IsClean, fault-in-element, fault-in-children}
 
 -- the faults that don't lie in the element
 abbrev outerFaults : (offset : ℤ) → List ℕ → List Refusal
@@ -75,57 +76,79 @@ all-true : every (λ k. true) allTypes ≡ true
 unfolding every
 all-true = refl
 
-module _ (r : Refusal) (part : IsPart r) where
-  unlike : {A : Type 0} (q : Refusal) → (IsPart q → ⊥) → r ≡ q → A
-  unlike q n e = absurd (n (subst IsPart e part))
+of-part : (r : Refusal) → IsPart r → IsOfText r
+of-part r part = omega (arith, part)
 
-  unlike-when : {A : Type 0} (q : Refusal) (b : Bool) → (IsPart q → ⊥) → List·Memᴰ r (q when b) → A
-  unlike-when q true n m = unlike q n (List·Memᴰ·eq-of-singleton m)
-  unlike-when q false n m = absurd (List·Memᴰ·not-nil m)
+every-of : {A : Type 0} (p : A → Bool) (l : List A) → ((a : A) → List·Memᴰ a l → p a ≡ true) → every p l ≡ true
+unfolding every
+every-of p [] h = refl
+every-of p (a ∷ l) h = rw (h a (List·Memᴰ·head refl), every-of p l (λ b m. h b (List·Memᴰ·tail m))) refl
 
-  -- a record with such a fault has it in its element
-  record-fault : (offset : ℤ) (input : List ℕ) → List·Memᴰ r (recordFaults offset input) → (e : Element) × (document input ≡ some e) × List·Memᴰ r (topFaults (shiftBy offset) e)
+of-every : {A : Type 0} (p : A → Bool) {l : List A} {a : A} → every p l ≡ true → List·Memᴰ a l → p a ≡ true
+of-every p h (List·Memᴰ·head {x = x} {xs = xs} e) = rw e (every-true p x xs h .0)
+of-every p h (List·Memᴰ·tail {x = x} {xs = xs} m) = of-every p (every-true p x xs h .1) m
+
+-- a fault of a text stands in the record's element
+module _ (q : Refusal) (of-text : IsOfText q) where
+  other : {A : Type 0} (p : Refusal) → (IsOfText p → ⊥) → q ≡ p → A
+  other p n e = absurd (n (subst IsOfText e of-text))
+
+  record-fault : (offset : ℤ) (input : List ℕ) → List·Memᴰ q (recordFaults offset input) → (e : Element) × (document input ≡ some e) × List·Memᴰ q (topFaults (shiftBy offset) e)
   unfolding recordFaults rankIn
   record-fault offset input m = elim (List·Memᴰ·append-cases (outerFaults offset input) m) [
     | inl m ↦ elim (List·Memᴰ·append-cases (OFFSET when not (isOffset offset) ++ TOO-LONG when isTooLong input) m) [
       | inl m ↦ elim (List·Memᴰ·append-cases (OFFSET when not (isOffset offset)) m) [
-        | inl m ↦ unlike-when OFFSET (not (isOffset offset)) (λ p. omega (arith, p)) m
-        | inr m ↦ unlike-when TOO-LONG (isTooLong input) (λ p. omega (arith, p)) m
+        | inl m ↦ other OFFSET (λ p. omega (arith, p)) (in-when (not (isOffset offset)) m)
+        | inr m ↦ other TOO-LONG (λ p. omega (arith, p)) (in-when (isTooLong input) m)
       ]
-      | inr m ↦ unlike-when NOT-UTF-8 (not (isUtf8 input)) (λ p. omega (arith, p)) m
+      | inr m ↦ other NOT-UTF-8 (λ p. omega (arith, p)) (in-when (not (isUtf8 input)) m)
     ]
     | inr m ↦ go (document input) refl m
   ]
     where
-      go : (o : Option Element) → document input ≡ o → List·Memᴰ r (faultsIn (topFaults (shiftBy offset)) (ifSome o answered (refused MARKUP)))
-          → (e : Element) × (document input ≡ some e) × List·Memᴰ r (topFaults (shiftBy offset) e)
-      go none d m = unlike MARKUP (λ p. omega (arith, p)) (List·Memᴰ·eq-of-singleton m)
+      go : (o : Option Element) → document input ≡ o → List·Memᴰ q (faultsIn (topFaults (shiftBy offset)) (ifSome o answered (refused MARKUP)))
+          → (e : Element) × (document input ≡ some e) × List·Memᴰ q (topFaults (shiftBy offset) e)
+      go none d m = other MARKUP (λ p. omega (arith, p)) (List·Memᴰ·eq-of-singleton m)
       go (some e) d m = (e, d, m)
 
-  -- the element of a record has it exactly if one of its times has, where nothing is wrong by TYPE or SHAPE
-  module _ (shift : ℕ) (e : Element) where
-    abbrev texts : List (List ℕ)
-    texts = valuesIn (node (e .name) (e .attrs) (e .kids) end)
+-- a record's element of a type that has times: it has a fault of a text exactly if one of its texts has, where nothing is wrong by TYPE or SHAPE
+module _ (shift : ℕ) (e : Element) where
+  abbrev texts : (name : List ℕ) → List (List ℕ)
+  texts name = textsIn name (node (e .name) (e .attrs) (e .kids) end)
 
-    top-fault : List·Memᴰ r (topFaults shift e) → (isSome (typeAmong (TS ∷ memberTypes) (e .attrs)) ≡ true) × HasFault shift r part texts
-    unfolding valuesIn
-    top-fault m =
-        let (k, f, t, (text, i, h)) = element-fault shift r part top (typeAmong allTypes (e .attrs)) (e .attrs) (e .kids) _ (λ k. children-fault shift r part k (isNull (e .attrs)) 0 (e .kids)) m in
-        let g = type-timed (e .attrs) k t (found (hasType (e .attrs)) (λ k. true) allTypes k all-true f .0) in
-        (ap isSome (g .1), (text, Memᴰ·append-left [] i, h))
+  abbrev IsOfTimes : Type 0
+  IsOfTimes = isSome (typeAmong (TS ∷ memberTypes) (e .attrs)) ≡ true
 
-    fault-at-top : isSome (typeAmong (TS ∷ memberTypes) (e .attrs)) ≡ true → IsClean shift r part (topFaults shift e) → HasFault shift r part texts → List·Memᴰ r (topFaults shift e)
-    unfolding valuesIn
-    fault-at-top t c (text, i, h) = go (typeAmong (TS ∷ memberTypes) (e .attrs)) refl t
-      where
-        go : (o : Option Kind) → typeAmong (TS ∷ memberTypes) (e .attrs) ≡ o → isSome o ≡ true → List·Memᴰ r (topFaults shift e)
-        go none f t = clash (cc)
-        go (some k) f t =
-            let (g, l) = found (hasType (e .attrs)) isTimed (TS ∷ memberTypes) k all-timed f in
-            let n = type-timed (e .attrs) k l g .0 in
-            rw n
-            (fault-in-element shift r part top k (e .attrs) (e .kids) _ l (fault-in-children shift r part k (isNull (e .attrs)) 0 (e .kids) l) (rw n at c)
-            (text, subst (List·Memᴰ text) (append-nil (valuesOf (e .attrs) ++ valuesIn (e .kids))) i, h))
+  kind-of-times : IsOfTimes → (k : Kind) × (typeAmong allTypes (e .attrs) ≡ some k) × (isTimed k ≡ true)
+  kind-of-times t = go (typeAmong (TS ∷ memberTypes) (e .attrs)) refl t
+    where
+      go : (o : Option Kind) → typeAmong (TS ∷ memberTypes) (e .attrs) ≡ o → isSome o ≡ true → (k : Kind) × (typeAmong allTypes (e .attrs) ≡ some k) × (isTimed k ≡ true)
+      go none f t = clash (cc)
+      go (some k) f t =
+          let (g, l) = found (hasType (e .attrs)) isTimed (TS ∷ memberTypes) k all-timed f in
+          (k, type-timed (e .attrs) k l g .0, l)
+
+  part-of-times : (r : Refusal) → IsPart r → List·Memᴰ r (topFaults shift e) → IsOfTimes
+  part-of-times r part m =
+      let (k, f, t) = record-timed shift r part top (typeAmong allTypes (e .attrs)) (e .attrs) (e .kids) m in
+      ap isSome (type-timed (e .attrs) k t (found (hasType (e .attrs)) (λ k. true) allTypes k all-true f .0) .1)
+
+  fault-of-text : IsOfTimes → (q : Refusal) → IsOfText q → List·Memᴰ q (topFaults shift e) → HasFault shift q texts
+  unfolding textsIn
+  fault-of-text t q of-text m =
+      let (k, f, l) = kind-of-times t in
+      among (λ name text i. Memᴰ·append-left [] i) (element-fault shift q of-text top k (e .attrs) (e .kids) l (rw f at m))
+
+  text-of-fault : IsOfTimes → (q : Refusal) → IsClean (topFaults shift e) → HasFault shift q texts → List·Memᴰ q (topFaults shift e)
+  unfolding textsIn
+  text-of-fault t q c h =
+      let (k, f, l) = kind-of-times t in
+      rw f (fault-in-element shift q top k (e .attrs) (e .kids) _ l (fault-in-children shift q k (isNull (e .attrs)) 0 (e .kids) l) (rw f at c)
+      (among (λ name text i. subst (List·Memᴰ text) (append-nil (ownTexts name (e .attrs) ++ textsIn name (e .kids))) i) h))
+
+module _ (r : Refusal) (part : IsPart r) where
+  unlike : {A : Type 0} (q : Refusal) → (IsPart q → ⊥) → r ≡ q → A
+  unlike q n e = absurd (n (subst IsPart e part))
 
   -- of a check's fault and TYPE for what is not allowed, the first is one of the three only if it is the check's and the record is allowed
   first-allowed : (offset : ℤ) (input : List ℕ) (allowed : Element → Bool) (q : Refusal) → check offset input ≡ refused q
@@ -145,23 +168,117 @@ module _ (r : Refusal) (part : IsPart r) where
       by-element (some e) d h = by-type e d (allowed e) refl h
 
 -- a record of money has no time, so that adding gives none of the three
-pub money-timeless : (k : Call) (r : Refusal) → readingOf k ≡ refused r → List·Memᴰ r timeParts → ⊥
+pub money-timeless : (k : Call) (r : Refusal) → readingOf k ≡ refused r → List·Memᴰ r partRefusals → ⊥
 unfolding find same rankIn
 money-timeless k r e m = go (reads k) e
   where
-    faultless : (e : Element) → isSome (typeAmong (TS ∷ memberTypes) (e .attrs)) ≡ true → hasType (e .attrs) MO ≡ true → ⊥
-    faultless e t h = clash (cc (rw (type-is (e .attrs) MO h) at t))
+    other-type-of : (e : Element) → isSome (typeAmong (TS ∷ memberTypes) (e .attrs)) ≡ true → hasType (e .attrs) MO ≡ true → ⊥
+    other-type-of e t h = clash (cc (rw (type-is (e .attrs) MO h) at t))
 
     go : {o : Outcome Entry} → Reads k o → o ≡ refused r → ⊥
     go (Reads.faulty {q = q} c f) e =
         let z : q ≡ r = cc in
         let (d, (a, g, h)) = first-allowed r (is-part m) (k .offset) (k .record′) (λ e. hasType (e .attrs) MO) _ c (rw z at f) in
-        let (b, i, n) = record-fault r (is-part m) (k .offset) (k .record′) (first-is (recordFaults (k .offset) (k .record′)) r .0 (check-refused (k .offset) (k .record′) r .0 d) .0) in
+        let (b, i, n) = record-fault r (of-part r (is-part m)) (k .offset) (k .record′) (first-is (recordFaults (k .offset) (k .record′)) r .0 (check-refused (k .offset) (k .record′) r .0 d) .0) in
         let y : b ≡ a = cc in
-        faultless b (top-fault r (is-part m) (shiftBy (k .offset)) b n .0) (rw y h)
+        other-type-of b (part-of-times (shiftBy (k .offset)) b r (is-part m) n) (rw y h)
     go (Reads.other-type c t) e = let z : r ≡ TYPE = cc in absurd (omega (arith, ap rank z, is-part m))
     go (Reads.a-null c t n) e = clash (cc)
     go (Reads.an-amount c t n l v w) e = clash (cc)
+
+-- the fault of a text that is to be of a form, by the text
+in-read : (o : Outcome Moment) (r : Refusal) → List·Memᴰ r (faultsOf o) ↔ o ≡ refused r
+in-read (answered m) r = (λ m. absurd (List·Memᴰ·not-nil m), λ e. clash (cc))
+in-read (refused q) r = (λ m. ap refused (sym (List·Memᴰ·eq-of-singleton m)), λ e. let z : q ≡ r = cc in List·Memᴰ·head (sym z))
+
+time-fault : (shift : ℕ) (text : List ℕ) (r : Refusal) → List·Memᴰ r (formFaults shift Form.timestamp text) ↔ IsWrongBy text r
+unfolding formFaults
+time-fault shift text r = iff-trans (in-read (readTimestamp shift text) r) (is-wrong-by shift text r)
+
+-- a record whose first fault is of a time, or whose first wrong text is a time
+module _ (offset : ℤ) (input : List ℕ) (r : Refusal) where
+  abbrev shift : ℕ
+  shift = shiftBy offset
+
+  -- nothing that stands before VALUE applies: so nothing is wrong by TYPE or SHAPE
+  is-clean : (e : Element) → document input ≡ some e → ((q : Refusal) → List·Memᴰ q (recordFaults offset input) → rank VALUE ≤ rank q) → IsClean (topFaults shift e)
+  unfolding rankIn
+  is-clean e d l = (λ m. omega (arith, l TYPE (in-record offset input e d m)), λ m. omega (arith, l SHAPE (in-record offset input e d m)))
+
+  wrong-first : IsOfText r → HasWrongTime offset input r → IsFirst r (recordFaults offset input)
+  unfolding formFaults
+  wrong-first of-text w = (in-record offset input e (w .read) (text-of-fault shift e (w .of-times) r (is-clean e (w .read) (w .nothing-before)) given), least)
+    where
+      e : Element
+      e = w .element
+
+      given : HasFault shift r (texts shift e)
+      given = record { name = bytes "value"; form = Form.timestamp; is-text = time-text; text = w .text; stands = w .stands; fault = time-fault shift (w .text) r .1 (w .wrong) }
+
+      flag-formed : {text : List ℕ} → List·Memᴰ text (textsOf "lowClosed" e ++ textsOf "highClosed" e) → isFlag text ≡ true
+      flag-formed = of-every isFlag (w .flags)
+
+      by-text : (q : Refusal) {name : List ℕ} {form : Form} → IsText name form → (text : List ℕ) → List·Memᴰ text (texts shift e name) → List·Memᴰ q (formFaults shift form text) → rank r ≤ rank q
+      by-text q time-text text i m = w .first text q i (time-fault shift text q .0 m)
+      by-text q flavor-text text i m = absurd (List·Memᴰ·not-nil (rw (of-every isFlavor (w .flavors) i) at m))
+      by-text q low-text text i m = absurd (List·Memᴰ·not-nil (rw (flag-formed (Memᴰ·append-left (textsOf "highClosed" e) i)) at m))
+      by-text q high-text text i m = absurd (List·Memᴰ·not-nil (rw (flag-formed (Memᴰ·append-right (textsOf "lowClosed" e) i)) at m))
+
+      by-fault : (q : Refusal) → HasFault shift q (texts shift e) → rank r ≤ rank q
+      by-fault q h = by-text q (h .is-text) (h .text) (h .stands) (h .fault)
+
+      least : (q : Refusal) → List·Memᴰ q (recordFaults offset input) → rank r ≤ rank q
+      least q m = elim (decLt (rank q) (rank RULE)) [
+        | no l ↦ omega (arith, of-text, l)
+        | yes l ↦
+            let of-q : IsOfText q = (w .nothing-before q m, l) in
+            let (f, d, n) = record-fault q of-q offset input m in
+            let z : f ≡ e = cc (d, w .read) in
+            by-fault q (fault-of-text shift e (w .of-times) q of-q (rw z at n))
+      ]
+
+  first-wrong : IsPart r → IsFirst r (recordFaults offset input) → HasWrongTime offset input r
+  unfolding formFaults
+  first-wrong part (m, least) =
+      let (e, d, n) = record-fault r (of-part r part) offset input m in
+      go e d (part-of-times shift e r part n) (fault-of-text shift e (part-of-times shift e r part n) r (of-part r part) n)
+    where
+      before : (q : Refusal) → List·Memᴰ q (recordFaults offset input) → rank VALUE ≤ rank q
+      before q m = omega (arith, part, least q m)
+
+      go : (e : Element) → document input ≡ some e → IsOfTimes shift e → HasFault shift r (texts shift e) → HasWrongTime offset input r
+      go e d t h = by-text (h .is-text) (h .text) (h .stands) (h .fault)
+        where
+          given : (q : Refusal) → HasFault shift q (texts shift e) → rank r ≤ rank q
+          given q h = least q (in-record offset input e d (text-of-fault shift e t q (is-clean e d before) h))
+
+          formed : (good : Bool) → (List·Memᴰ VALUE (VALUE when not good) → HasFault shift VALUE (texts shift e)) → good ≡ true
+          formed true f = refl
+          formed false f = absurd (omega (arith, part, given VALUE (f (List·Memᴰ·head refl))))
+
+          text-formed : {name : List ℕ} {form : Form} → IsText name form → (text : List ℕ) → List·Memᴰ text (texts shift e name) → (good : Bool)
+              → (List·Memᴰ VALUE (VALUE when not good) → List·Memᴰ VALUE (formFaults shift form text)) → good ≡ true
+          text-formed {name} {form} x text i good f = formed good (λ m. record { name = name; form = form; is-text = x; text = text; stands = i; fault = f m })
+
+          by-text : {name : List ℕ} {form : Form} → IsText name form → (text : List ℕ) → List·Memᴰ text (texts shift e name) → List·Memᴰ r (formFaults shift form text) → HasWrongTime offset input r
+          by-text time-text text i m = record {
+            element = e;
+            read = d;
+            of-times = t;
+            nothing-before = before;
+            flavors = every-of isFlavor _ (λ text i. text-formed flavor-text text i (isFlavor text) (λ m. m));
+            flags = every-of isFlag _ (λ text i. elim (List·Memᴰ·append-cases (textsOf "lowClosed" e) {t = textsOf "highClosed" e} i) [
+              | inl i ↦ text-formed low-text text i (isFlag text) (λ m. m)
+              | inr i ↦ text-formed high-text text i (isFlag text) (λ m. m)
+            ]);
+            text = text;
+            stands = i;
+            wrong = time-fault shift text r .0 m;
+            first = λ text q i w. given q (record { name = bytes "value"; form = Form.timestamp; is-text = time-text; text = text; stands = i; fault = time-fault shift text q .1 w });
+          }
+          by-text flavor-text text i m = unlike r part VALUE (λ p. omega (arith, p)) (in-when (not (isFlavor text)) m)
+          by-text low-text text i m = unlike r part VALUE (λ p. omega (arith, p)) (in-when (not (isFlag text)) m)
+          by-text high-text text i m = unlike r part VALUE (λ p. omega (arith, p)) (in-when (not (isFlag text)) m)
 
 -- a text has one fault, that of reading it
 first-of-read : (o : Outcome Moment) (r : Refusal) → IsFirst r (faultsOf o ++ []) ↔ o ≡ refused r
@@ -179,10 +296,10 @@ data Comparing (offset : ℤ) (first second : List ℕ) (answer : ℕ) : Type 0 
   an-answer : (x : Answer) → Says x answer → Comparing offset first second answer
 
 module _ (s : Services) (two : Demand2 s) (three : Demand3 s) (offset : ℤ) where
-  ticks : (text : List ℕ) → isOffset offset ≡ true → length text ≤ 16_384 → (r : Refusal) → numberIn (s .tick-says offset text) ≡ number r ↔ IsWrong text r
+  ticks : (text : List ℕ) → isOffset offset ≡ true → length text ≤ 16_384 → (r : Refusal) → numberIn (s .tick-says offset text) ≡ number r ↔ IsWrongBy text r
   ticks text e l r =
       iff-trans (rw (e, le-ltb 16_384 (length text) l) at (two .time-refused offset text r))
-      (iff-trans (first-of-read (readTimestamp (shiftBy offset) text) r) (is-wrong (shiftBy offset) text r))
+      (iff-trans (first-of-read (readTimestamp (shiftBy offset) text) r) (is-wrong-by (shiftBy offset) text r))
 
   -- checking says what is refused, and what is accepted
   checked : (input : List ℕ) (r : Refusal) → numberIn (s .check-says offset input) ≡ number r ↔ check offset input ≡ refused r
@@ -213,21 +330,7 @@ module _ (s : Services) (two : Demand2 s) (three : Demand3 s) (offset : ℤ) whe
 
   module _ (r : Refusal) (part : IsPart r) where
     checks : (input : List ℕ) → numberIn (s .check-says offset input) ≡ number r ↔ HasWrongTime offset input r
-    unfolding rankIn
-    checks input = (λ n. there (two .refused offset input r .0 n), λ h. two .refused offset input r .1 (back h, h .first))
-      where
-        there : IsFirst r (recordFaults offset input) → HasWrongTime offset input r
-        there (m, l) =
-            let (e, d, n) = record-fault r part offset input m in
-            let (t, (text, i, h)) = top-fault r part (shiftBy offset) e n in
-            record { element = e; read = d; of-times = t; text = text; stands = i; wrong = is-wrong (shiftBy offset) text r .0 h; first = l }
-
-        back : HasWrongTime offset input r → List·Memᴰ r (recordFaults offset input)
-        back w =
-            let clean : (q : Refusal) → rank q < rank r → List·Memᴰ q (topFaults (shiftBy offset) (w .element)) → ⊥ = λ q l m. omega (arith, l, w .first q (in-record offset input (w .element) (w .read) m)) in
-            in-record offset input (w .element) (w .read)
-            (fault-at-top r part (shiftBy offset) (w .element) (w .of-times) (clean TYPE (omega (arith, part)), clean SHAPE (omega (arith, part)))
-            (w .text, w .stands, is-wrong (shiftBy offset) (w .text) r .1 (w .wrong)))
+    checks input = iff-trans (two .refused offset input r) (first-wrong offset input r part, wrong-first offset input r (of-part r part))
 
     module _ (first second : List ℕ) where
       -- two refusals that an answer names are one
@@ -293,16 +396,17 @@ unfolding rankIn opened
 wrong-times-kept s two three = record {
   ticks = ticks s two three;
   checks = λ offset input r m. checks s two three offset r (is-part m) input;
+  stays = λ offset input h. two .refused offset input VALUE .1 (wrong-first offset input VALUE (omega arith) h);
   compares-first = λ offset first second r m. compares-first s two three offset r (is-part m) first second;
   compares-second = λ offset first second r m. compares-second s two three offset r (is-part m) first second;
   lists = λ offset input list r m. lists s two three offset r (is-part m) input list;
-  example = ticks s two three (pos 0) (bytes "19000229") refl (omega arith) DATE .1 (is-wrong 840 (bytes "19000229") DATE .0 refl);
+  example = ticks s two three (pos 0) (bytes "19000229") refl (omega arith) DATE .1 (is-wrong-by 840 (bytes "19000229") DATE .0 refl);
   numbers = (refl, refl, refl);
   order = (refl, refl, refl, refl);
   not-by-size = λ r m. by-part m;
 }
   where
-    by-part : {r : Refusal} → List·Memᴰ r timeParts → (number RULE < number r) × (rank r < rank RULE)
+    by-part : {r : Refusal} → List·Memᴰ r partRefusals → (number RULE < number r) × (rank r < rank RULE)
     by-part m = elim (List·Memᴰ·cases-cons m) [
       | inl e ↦ rw e (omega arith)
       | inr m ↦ elim (List·Memᴰ·cases-cons m) [ inl e ↦ rw e (omega arith) | inr m ↦ rw (List·Memᴰ·eq-of-singleton m) (omega arith) ]

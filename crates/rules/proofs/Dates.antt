@@ -115,7 +115,8 @@ date-of days h = go (yearAt days) (monthAt days) (is-year days) (is-month days)
           days-are = rw (z, w) (omega (arith, a .days-are, b .days-are));
         }
 
-digits-read : (n k : ℕ) (r : List ℕ) → k < 10 ^ n → digits n (digitsOf n k ++ r) ≡ ok k r
+-- a number of n digits is read
+pub digits-read : (n k : ℕ) (r : List ℕ) → k < 10 ^ n → digits n (digitsOf n k ++ r) ≡ ok k r
 unfolding digits
 digits-read n k r h =
     let t : times n isDigit (digitsOf n k ++ r) ≡ ok (digitsOf n k) r = rw (digitsOf-length n k) at (times-read isDigit (digitsOf n k) r (digitsOf-digits n k)) in

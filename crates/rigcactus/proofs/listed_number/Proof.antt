@@ -32,7 +32,7 @@ returns c = rw (c .before .listed .given .1)
 
 -- src/lib.rt:87:1
 returns-2 : tie.Need-returns-2
-returns-2 c = search needs
+returns-2 c = rw (c .before .before .listed2 .given .1) (c .number .ensures)
 
 pub listed-number-spec : {M : Type 1} → statement M
 listed-number-spec =

@@ -16,7 +16,7 @@ returns : tie.Need-returns
 returns c = rw (c .enum-told .given .1)
 
 returns-2 : tie.Need-returns-2
-returns-2 c = search needs
+returns-2 c = rw (c .before .before .v .given .1) (c .number .ensures)
 
 pub verdict-number-spec : {M : Type 1} → statement M
 verdict-number-spec = tie.close (tie.spec enum-told enum-known-v number-requires returns returns-2)
