@@ -2,17 +2,18 @@
 use Prim.Native.Nat.{ℕ, zero, suc, _^_, _≤_, _<_}
 use mathlib.Core.Path.{_≡_, refl, sym, _∙_, ap, subst}
 use mathlib.Core.Logic.{_⊎_, inl, inr, _↔_}
-use mathlib.Core.Bool.{Bool, true, false, cond}
+use mathlib.Core.Bool.{Bool, true, false}
 use mathlib.Core.List.{List, [], _∷_, _++_, flatMap, append-assoc, append-nil}
 use mathlib.Core.Option.{some}
 use native.Mathlib.Omega.{arith}
 use borrow.Author.Tests.{leb-true, lt-ltb, ltb-true, le-leb}
 use lib.Dec.{ltb, leb}
 use lib.ListN.{length}
-use Rattle.rules.specs.Basics.{every, bytes, isDigit, decimal, digitsOf}
+use Rattle.rules.specs.Basics.{every, isDigit, decimal, digitsOf}
 use Rattle.rules.specs.Parsers.{Parsed, bad, ok, next, else, pure, guard, _>>=_, one, times, upTo, byte, finish, whole}
 use Rattle.rules.specs.Timestamp.{Zone, noZone, plus, minus, Written, digits, twoDigits, point, hours, zone, timestamp}
 use Rattle.rules.proofs.Tests.{clash, every-true}
+use Rattle.rules.proofs.Beginnings.{upTo-read}
 use Rattle.rules.proofs.Parsers.{next-ok, map-ok, cons-ok, else-ok, one-ok, byte-ok, whole-ok}
 use Rattle.rules.proofs.Digits.{decimal-below, decimal-injective, digitsOf-length, digitsOf-digits, digitsOf-decimal}
 use Rattle.rules.proofs.Dates.{digits-read}
@@ -190,13 +191,6 @@ parts-read (suc k) (p ∷ ps) {r} l h n =
     let (f, g) = every-true (λ n. ltb n 100) p ps h in
     rw (append-assoc (digitsOf 2 p) (flatMap (digitsOf 2) ps) r, digits-read 2 p (flatMap (digitsOf 2) ps ++ r) (ltb-true p 100 f), parts-read k ps (omega arith) g n) refl
 
-digits-up-to : (k : ℕ) (ds : List ℕ) {r : List ℕ} → length ds ≤ k → every isDigit ds ≡ true → one isDigit r ≡ bad → upTo k isDigit (ds ++ r) ≡ ok ds r
-unfolding upTo one
-digits-up-to zero [] l h e = refl
-digits-up-to zero (d ∷ ds) l h e = absurd (omega arith)
-digits-up-to (suc k) [] l h e = rw e refl
-digits-up-to (suc k) (d ∷ ds) l h e = let (f, g) = every-true isDigit d ds h in rw (f, digits-up-to k ds (omega arith) g e) refl
-
 fraction-read : (n : ℕ) (f : List ℕ) {s : List ℕ} {z : Zone} → AreDigits 0 4 f → (f ≡ []) ⊎ (n ≡ 5) → SpellsZone s z
     → else (next (guard (leb 5 n) (pointed f ++ s)) (λ u. point)) (ok [] (pointed f ++ s)) ≡ ok f s
 unfolding point one
@@ -208,7 +202,7 @@ fraction-read n [] {s} a o z = go (leb 5 n)
 fraction-read n (d ∷ f) a (inl e) z = clash (cc)
 fraction-read n (d ∷ f) a (inr e) z =
     let (g, h) = every-true isDigit d f (a .digits) in
-    rw (e, g, digits-up-to 3 f (omega (arith, a .few)) h (no-digits (zone-first z .0) .1)) refl
+    rw (e, g, upTo-read 3 isDigit f _ (omega (arith, a .few)) h (no-digits (zone-first z .0) .1)) refl
 
 zone-read : (n : ℕ) {s : List ℕ} {z : Zone} → SpellsZone s z → (z ≡ noZone) ⊎ (3 ≤ n) → else (next (guard (leb 3 n) s) (λ u. zone)) (ok noZone s) ≡ ok z []
 unfolding zone hours one

@@ -24,6 +24,7 @@ use Rattle.rules.specs.Totals.{isInRange, money, entryOf, notMoney, reading}
 use Rattle.rules.specs.TotalDays.{Call, readingOf}
 use Rattle.rules.proofs.Tests.{clash, every-true, isFrom-true}
 use Rattle.rules.proofs.Precedence.{check-answered}
+use Rattle.rules.proofs.Beginnings.{upTo-read}
 use Rattle.rules.proofs.Parsers.{next-ok, map-ok, else-ok, one-ok, upTo-ok, whole-ok}
 use Rattle.rules.proofs.Digits.{decimal-append, decimal-below}
 use Rattle.rules.proofs.Ticks.{point-ok, fraction-in-second}
@@ -59,16 +60,6 @@ reads k = go (check (k .offset) (k .record′)) refl
     go (refused r) c = by-first r c _ refl
     go (answered e) c = rw (check-answered (k .offset) (k .record′) e .0 c .0) (by-type e c _ refl)
 
--- digits are read up to what is none
-digits-read : (k : ℕ) (ds rest : List ℕ) → length ds ≤ k → every isDigit ds ≡ true → one isDigit rest ≡ bad → upTo k isDigit (ds ++ rest) ≡ ok ds rest
-unfolding upTo one every
-digits-read zero [] rest l h e = refl
-digits-read zero (d ∷ ds) rest l h e = clash (omega arith)
-digits-read (suc k) [] rest l h e = rw e
-digits-read (suc k) (d ∷ ds) rest l h e =
-    let (f, g) = every-true isDigit d ds h in
-    rw (f, digits-read k ds rest (omega arith) g e)
-
 -- the digits of a fraction count on those before the point
 scaled : (ds fs : List ℕ) → length fs ≤ 4 → decimal ds * 10_000 + decimal fs * 10 ^ (4 - length fs) ≡ decimal (ds ++ fs) * 10 ^ (4 - length fs)
 scaled ds fs l =
@@ -93,16 +84,16 @@ amount-read negative (d ∷ ds) fs h k = go negative fs k
     go : (negative : Bool) (fs : List ℕ) → AreDigits 0 4 fs
         → whole amountText (signWritten negative ++ d ∷ ds ++ pointed fs) ≡ some (ofSign negative (decimal (d ∷ ds ++ fs) * 10 ^ (4 - length fs)))
     go true [] k =
-        rw (first .0, digits-read 11 ds [] (omega (arith, h .few)) (first .1) refl) (ap (λ n. some (negℤ (pos n))) (scaled (d ∷ ds) [] (omega arith)))
+        rw (first .0, upTo-read 11 isDigit ds [] (omega (arith, h .few)) (first .1) refl) (ap (λ n. some (negℤ (pos n))) (scaled (d ∷ ds) [] (omega arith)))
     go false [] k =
-        rw (no-sign, first .0, digits-read 11 ds [] (omega (arith, h .few)) (first .1) refl) (ap (λ n. some (pos n)) (scaled (d ∷ ds) [] (omega arith)))
+        rw (no-sign, first .0, upTo-read 11 isDigit ds [] (omega (arith, h .few)) (first .1) refl) (ap (λ n. some (pos n)) (scaled (d ∷ ds) [] (omega arith)))
     go true (f ∷ fs) k =
         let (i, j) = every-true isDigit f fs (k .digits) in
-        rw (first .0, digits-read 11 ds (46 ∷ f ∷ fs) (omega (arith, h .few)) (first .1) refl, i, rw append-nil at (digits-read 3 fs [] (omega (arith, k .few)) j refl))
+        rw (first .0, upTo-read 11 isDigit ds (46 ∷ f ∷ fs) (omega (arith, h .few)) (first .1) refl, i, rw append-nil at (upTo-read 3 isDigit fs [] (omega (arith, k .few)) j refl))
         (ap (λ n. some (negℤ (pos n))) (scaled (d ∷ ds) (f ∷ fs) (k .few)))
     go false (f ∷ fs) k =
         let (i, j) = every-true isDigit f fs (k .digits) in
-        rw (no-sign, first .0, digits-read 11 ds (46 ∷ f ∷ fs) (omega (arith, h .few)) (first .1) refl, i, rw append-nil at (digits-read 3 fs [] (omega (arith, k .few)) j refl))
+        rw (no-sign, first .0, upTo-read 11 isDigit ds (46 ∷ f ∷ fs) (omega (arith, h .few)) (first .1) refl, i, rw append-nil at (upTo-read 3 isDigit fs [] (omega (arith, k .few)) j refl))
         (ap (λ n. some (pos n)) (scaled (d ∷ ds) (f ∷ fs) (k .few)))
 
 -- an amount that is read is of at most 16 digits, and so within the range

@@ -1,6 +1,6 @@
 -- What is wrong with a text as a timestamp: reading refuses it by what request A5 says.
-use Prim.Native.Nat.{ℕ, _+_, _*_, _<_}
-use mathlib.Core.Path.{_≡_, refl, sym, _∙_, ap}
+use Prim.Native.Nat.{ℕ, _+_, _*_}
+use mathlib.Core.Path.{_≡_, refl, sym, _∙_}
 use mathlib.Core.Logic.{_⊎_, inl, inr, _↔_}
 use mathlib.Core.Bool.{Bool, true, false, _&&_, cond}
 use mathlib.Core.List.{List}
@@ -11,8 +11,7 @@ use lib.Dec.{leb}
 use Rattle.rules.specs.Basics.{isFrom}
 use Rattle.rules.specs.Refusal.{Refusal, VALUE, DATE, CLOCK, ZONE, answered, refused}
 use Rattle.rules.specs.Parsers.{whole}
-use Rattle.rules.specs.Calendar.{monthLength}
-use Rattle.rules.specs.Timestamp.{Zone, noZone, plus, minus, Written, timestamp, monthOf, dayOf, hourOf, minuteOf, secondOf, isDate, isClock, isOffsetTime, isZone, momentOf, readTimestamp}
+use Rattle.rules.specs.Timestamp.{Zone, noZone, plus, minus, Written, timestamp, monthOf, hourOf, minuteOf, secondOf, isDate, isClock, isOffsetTime, isZone, momentOf, readTimestamp}
 use Rattle.rules.proofs.Tests.{clash, both-true, isFrom-true}
 use Rattle.rules.proofs.Ticks.{read-wrong-form, read-right-form}
 use Rattle.demands.specs.WrongTimes.{Spells, Outside, ImpossibleDate, no-year, no-month, no-day, ImpossibleClock, no-hour, no-minute, no-second, OverOffset, ImpossibleOffset, no-plus, no-minus, IsWrongBy, wrong-form, wrong-date, wrong-clock, wrong-zone}

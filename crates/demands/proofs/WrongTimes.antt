@@ -1,8 +1,8 @@
 -- Request A5 is kept, by whatever meets the user's demands.
 use Prim.Native.Nat.{ℕ, _≤_, _<_}
 use mathlib.Core.Path.{_≡_, refl, sym, _∙_, ap, subst}
-use mathlib.Core.Logic.{_⊎_, inl, inr, _↔_}
-use mathlib.Core.Bool.{Bool, true, false, not, cond}
+use mathlib.Core.Logic.{inl, inr, _↔_}
+use mathlib.Core.Bool.{Bool, true, false, not}
 use mathlib.Core.List.{List, [], _∷_, _++_, append-nil, List·Memᴰ, List·Memᴰ·head, List·Memᴰ·tail, List·Memᴰ·not-nil, List·Memᴰ·cases-cons, List·Memᴰ·append-cases, List·Memᴰ·eq-of-singleton, Memᴰ·append-left, Memᴰ·append-right}
 use mathlib.Core.Option.{Option, none, some}
 use native.Mathlib.Decide.{decLe, decLt}
@@ -12,16 +12,15 @@ use lib.ListN.{length}
 use lib.IntN.{ℤ, pos}
 use Rattle.rules.specs.Basics.{isSome, ifSome, find, exists, every, bytes, same}
 use Rattle.rules.specs.Refusal.{Refusal, OFFSET, TOO-LONG, NOT-UTF-8, MARKUP, TYPE, SHAPE, VALUE, DATE, RULE, UNKNOWN-BOUND, TOO-MANY, NO-ROOM, number, rankIn, rank, firstOf, Outcome, answered, refused, faultsIn, faultsOf, _when_}
-use Rattle.rules.specs.Markup.{Attribute, Nodes, end, node, Element, document}
+use Rattle.rules.specs.Markup.{Attribute, end, node, Element, document}
 use Rattle.rules.specs.Timestamp.{Moment, readTimestamp}
 use Rattle.rules.specs.Forms.{Form, isFlavor, isFlag, formFaults}
 use Rattle.rules.specs.Invariants.{isNull}
-use Rattle.rules.specs.Types.{Kind, TS, IVL-TS, QSU-TS, QSI-TS, QSD-TS, MO, II, CD, EN, DisplayName, Part, nameOf, memberTypes, allTypes, hasType, typeAmong}
-use Rattle.rules.specs.Judge.{top, childFaults, topFaults}
+use Rattle.rules.specs.Types.{Kind, TS, IVL-TS, QSU-TS, QSI-TS, QSD-TS, MO, II, CD, EN, DisplayName, Part, memberTypes, allTypes, hasType, typeAmong}
+use Rattle.rules.specs.Judge.{top, topFaults}
 use Rattle.rules.specs.Utf8.{isUtf8}
 use Rattle.rules.specs.Check.{isOffset, shiftBy, isTooLong, elementOf, recordFaults, check}
 use Rattle.rules.specs.Services.{roomOf}
-use Rattle.rules.specs.Listing.{unlisted}
 use Rattle.rules.specs.Comparison.{Answer, Comparer}
 use Rattle.rules.specs.ListingPromise.{numberIn, isListed, Refuses, ListingPromise}
 use Rattle.rules.specs.ComparisonPromise.{Names, Says}
@@ -37,7 +36,7 @@ use Rattle.rules.specs.TotalDays.{Call, readingOf}
 use Rattle.demands.specs.Services.{Services}
 use Rattle.demands.specs.Totals.{Reads}
 use Rattle.demands.specs.WrongTimes.{IsWrongBy, textsIn, textsOf, HasWrongTime, partRefusals, WrongTimesPromise}
-use Rattle.demands.specs.Demands.{IsFirst, timeFaults, Demand2, Demand3}
+use Rattle.demands.specs.Demands.{IsFirst, Demand2, Demand3}
 use Rattle.demands.proofs.Answers.{iff-trans}
 use Rattle.demands.proofs.TotalsReadings.{reads}
 use Rattle.demands.proofs.WrongTexts.{is-wrong-by}

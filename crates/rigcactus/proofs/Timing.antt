@@ -1,15 +1,13 @@
 -- The ways through the timestamp service.
 use Prim.Native.Nat.{ℕ, _≤_, _<_}
 use mathlib.Core.Path.{_≡_, refl, sym, _∙_}
-use mathlib.Core.Logic.{_⊎_, inl, inr}
-use mathlib.Core.Bool.{Bool, true, false}
-use mathlib.Core.List.{List, [], _∷_, _++_}
-use borrow.Author.Tests.{lt-ltb, le-ltb}
+use mathlib.Core.Bool.{true, false}
+use mathlib.Core.List.{List}
 use lib.ListN.{length}
 use lib.IntN.{ℤ}
-use Rattle.rules.specs.Refusal.{OFFSET, TOO-LONG, VALUE, Outcome, answered, refused, rankIn, firstOf, _unless_, _when_}
+use Rattle.rules.specs.Refusal.{OFFSET, TOO-LONG, Outcome, answered, refused}
 use Rattle.rules.specs.Timestamp.{Moment, readTimestamp}
-use Rattle.rules.specs.Check.{isOffset, shiftBy, isTooLong}
+use Rattle.rules.specs.Check.{isOffset, shiftBy}
 use Rattle.timestamp.specs.Moments.{momentOf as moment, outcomeOf}
 use Rattle.timestamp.specs.declared.Moment.{Moment as CodeMoment}
 use Rattle.timestamp.specs.declared.Timestamp.{Timestamp}

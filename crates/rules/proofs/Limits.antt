@@ -12,7 +12,7 @@ use lib.Dec.{ltb, leb·suc-suc}
 use lib.ListN.{length}
 use lib.IntN.{ℤ, pos, negsuc}
 use lib.Signed.{leZ}
-use Rattle.rules.specs.Refusal.{Refusal, OFFSET, TOO-LONG, NOT-UTF-8, MARKUP, TYPE, SHAPE, VALUE, DATE, CLOCK, ZONE, RULE, rankIn, rank, earlier, firstOf, answered, refused, faultsIn, faultsOf, _unless_, _when_}
+use Rattle.rules.specs.Refusal.{Refusal, OFFSET, TOO-LONG, NOT-UTF-8, MARKUP, TYPE, SHAPE, VALUE, DATE, CLOCK, ZONE, RULE, rankIn, rank, earlier, firstOf, answered, refused, faultsIn, faultsOf, _when_}
 use Rattle.rules.specs.Judge.{topFaults}
 use Rattle.rules.specs.Timestamp.{readTimestamp}
 use Rattle.rules.specs.Utf8.{isUtf8, cutLength}

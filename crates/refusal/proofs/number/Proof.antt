@@ -1,5 +1,4 @@
 -- `refusal::number` meets its contract: the numbers stand in the order of the ladder.
-use native.Mathlib.Omega.{arith}
 use borrow.Author.Needs.{needs}
 use Rattle.refusal.proofs.Ranks.{place-below, numbers-at}
 use Rattle.refusal.proofs.number.Statement.{statement}
