@@ -1,10 +1,13 @@
 //! `rigcactus_check` against a second judge of records (faults.rs).
 
-use crate::faults::{self, Fault, NAMES, TYPES};
+use crate::faults::{self, TYPES};
 use crate::lent::{Fenced, Guarded};
 use crate::markup::{self, Spelling};
 use crate::random::Random;
 use crate::records::{Maker, LONGEST};
+use crate::refusals::{
+    self, ACCEPTED, CLOCK, DATE, MARKUP, NOT_UTF8, NUMBERS, OFFSET, RULE, SHAPE, TOO_LONG, TYPE, VALUE, ZONE,
+};
 use crate::table;
 use crate::tick::{agreed_offset, Calendar};
 use crate::Options;
@@ -32,12 +35,48 @@ const PRINTED: u64 = 10;
 /// What guards are made of: bytes that would go on with a record, and one that stands in none.
 const GUARDS: [u8; 6] = [b' ', b'>', b'"', b'a', 0x80, 0xFF];
 
-/// Of a thousand answers, how many at least are to be each number, from 0 to 8.
-const LEAST_SHARES: [u64; 9] = [200, 10, 3, 10, 50, 30, 80, 80, 80];
+/// The answers there are; of a thousand, how many at least are to be each.
+const LEAST_SHARES: [(u64, u64); 12] = [
+    (ACCEPTED, 200),
+    (OFFSET, 10),
+    (TOO_LONG, 3),
+    (NOT_UTF8, 10),
+    (MARKUP, 50),
+    (TYPE, 30),
+    (SHAPE, 80),
+    (VALUE, 80),
+    (DATE, 18),
+    (CLOCK, 12),
+    (ZONE, 8),
+    (RULE, 80),
+];
 
-/// Of a million records that got as far as to have a type, how many at least are to be accepted, or refused for VALUE, SHAPE or RULE,
-/// with each type.
+/// Of a million records that got as far as to have a type, how many at least are to be accepted, or refused for SHAPE, VALUE or RULE,
+/// with each type; and for DATE, CLOCK or ZONE with each that can have times in it.
 const LEAST_OF_TYPE: u64 = 2_000;
+
+/// Answers that are counted by type.
+const BY_TYPE: [u64; 8] = [ACCEPTED, TYPE, SHAPE, VALUE, DATE, CLOCK, ZONE, RULE];
+
+/// Two faults of one record, of which the first is the answer; of a million records, how many at least are to have both, and none that comes
+/// before.
+const TOGETHER: [([u64; 2], u64); 15] = [
+    ([TYPE, DATE], 100),
+    ([TYPE, CLOCK], 100),
+    ([TYPE, ZONE], 100),
+    ([SHAPE, DATE], 500),
+    ([SHAPE, CLOCK], 500),
+    ([SHAPE, ZONE], 500),
+    ([VALUE, DATE], 400),
+    ([VALUE, CLOCK], 400),
+    ([VALUE, ZONE], 400),
+    ([DATE, CLOCK], 5_000),
+    ([DATE, ZONE], 5_000),
+    ([CLOCK, ZONE], 2_500),
+    ([DATE, RULE], 500),
+    ([CLOCK, RULE], 400),
+    ([ZONE, RULE], 200),
+];
 
 // ---- Counting and comparing ----------------------------------------------------------------------------------------
 
@@ -45,8 +84,9 @@ const LEAST_OF_TYPE: u64 = 2_000;
 #[derive(Default)]
 struct Counts {
     records: u64,
-    by_number: [u64; 9],
-    by_type: [[u64; 9]; TYPES.len()],
+    by_number: [u64; NUMBERS],
+    by_type: [[u64; NUMBERS]; TYPES.len()],
+    together: [u64; TOGETHER.len()],
     differences: u64,
 }
 
@@ -58,39 +98,49 @@ impl Counts {
         if let Some(of_type) = TYPES.iter().position(|t| written == Some(t)) {
             self.by_type[of_type][number] += 1;
         }
+        for (count, ([first, other], _)) in self.together.iter_mut().zip(TOGETHER) {
+            *count += u64::from(judged.number() == first && judged.faults.contains(&other));
+        }
     }
 
     fn print(&self, what: &str) {
         println!("check: {what}");
         println!("  {:<32}{:>12}", "records", self.records);
-        for (number, count) in self.by_number.iter().enumerate() {
-            println!("  {:<32}{count:>12}", format!("{} ({number})", NAMES[number]));
+        for (number, _) in LEAST_SHARES {
+            println!("  {:<32}{:>12}", refusals::name(number), self.by_number[number as usize]);
         }
         println!("  {:<32}{:>12}", "differences", self.differences);
-        println!("  {:<12}{:>12}{:>12}{:>12}{:>12}{:>12}", "by type", "ACCEPTED", "TYPE", "SHAPE", "VALUE", "RULE");
+        for (([first, other], _), count) in TOGETHER.iter().zip(self.together) {
+            println!("  {:<32}{count:>12}", format!("{}, also {}", refusals::name(*first), refusals::name(*other)));
+        }
+        println!("  {:<12}{}", "by type", BY_TYPE.map(|number| format!("{:>14}", refusals::name(number))).concat());
         for (of_type, counts) in TYPES.iter().zip(self.by_type) {
-            println!("  {of_type:<12}{:>12}{:>12}{:>12}{:>12}{:>12}", counts[0], counts[5], counts[6], counts[7], counts[8]);
+            println!("  {of_type:<12}{}", BY_TYPE.map(|number| format!("{:>14}", counts[number as usize])).concat());
         }
     }
 
     /// Whether every number occurred in good measure. A run that hardly gave some answer has not tried what it should.
     fn is_broad(&self) -> bool {
-        let mut broad = true;
-        for (number, least) in LEAST_SHARES.iter().enumerate() {
-            if self.by_number[number] * 1000 < self.records * least {
-                println!("check: under {least} of 1000 answers were {} ({number})", NAMES[number]);
-                broad = false;
+        let mut rare = Vec::new();
+        let mut ask = |what: String, count: u64, least: u64| {
+            if count * 1_000_000 < self.records * least {
+                rare.push(format!("check: under {least} of 1000000 answers were {what}"));
             }
+        };
+        for (number, least) in LEAST_SHARES {
+            ask(refusals::name(number), self.by_number[number as usize], 1_000 * least);
         }
         for (of_type, counts) in TYPES.iter().zip(self.by_type) {
-            for number in [0, 6, 7, 8] {
-                if counts[number] * 1_000_000 < self.records * LEAST_OF_TYPE {
-                    println!("check: under {LEAST_OF_TYPE} of 1000000 answers were {} for {of_type}", NAMES[number]);
-                    broad = false;
-                }
+            let has_times = of_type.ends_with("TS");
+            for number in BY_TYPE.into_iter().filter(|number| *number != TYPE && (has_times || ![DATE, CLOCK, ZONE].contains(number))) {
+                ask(format!("{} for {of_type}", refusals::name(number)), counts[number as usize], LEAST_OF_TYPE);
             }
         }
-        broad
+        for (([first, other], least), count) in TOGETHER.iter().zip(self.together) {
+            ask(format!("{}, also {}", refusals::name(*first), refusals::name(*other)), count, *least);
+        }
+        rare.iter().for_each(|what| println!("{what}"));
+        rare.is_empty()
     }
 }
 
@@ -175,7 +225,7 @@ fn good_records(options: &Options) -> bool {
         let spelling = Spelling::any(&mut random);
         let record = markup::write(&tree, spelling, &mut random);
         let judged = faults::judge(&record, offset, &calendar);
-        if judged.tree != Some(tree) || !judged.faults.iter().all(|fault| *fault == Fault::TooLong) {
+        if judged.tree != Some(tree) || !judged.faults.iter().all(|fault| *fault == TOO_LONG) {
             eprintln!("check: the second judge refuses [{}], offset {offset}: {:?}", record.escape_ascii(), judged.faults);
             return false;
         }

@@ -1,10 +1,12 @@
 //! `rigcactus_compare` against a second comparer of records (likeness.rs).
 
-use crate::faults::NAMES;
 use crate::lent::{Fenced, Guarded};
 use crate::likeness::{self, Answer, Compared, Due, COMPARED};
 use crate::random::Random;
 use crate::records::{Maker, LONGEST};
+use crate::refusals::{
+    self, CLOCK, DATE, MARKUP, NOT_UTF8, NUMBERS, OFFSET, RULE, SHAPE, TOO_LONG, TYPE, VALUE, ZONE,
+};
 use crate::table;
 use crate::tick::{agreed_offset, Calendar};
 use crate::Options;
@@ -37,8 +39,20 @@ const ANSWERS: [Answer; 3] = [Answer::Yes, Answer::No, Answer::Unknown];
 /// Of a thousand answers, how many at least are to be yes, no and unknown with each type that can be compared.
 const LEAST_OF_ANSWER: u64 = 10;
 
-/// Of ten thousand answers, how many at least are to refuse the first record, and the second, by each number from 1 to 8.
-const LEAST_REFUSED: [[u64; 8]; 2] = [[80, 1, 5, 80, 80, 100, 100, 120], [0, 1, 5, 60, 500, 80, 80, 100]];
+/// The refusals there are; of ten thousand answers, how many at least are to refuse the first record by each, and the second.
+const LEAST_REFUSED: [(u64, [u64; 2]); 11] = [
+    (OFFSET, [80, 0]),
+    (TOO_LONG, [1, 1]),
+    (NOT_UTF8, [5, 5]),
+    (MARKUP, [80, 60]),
+    (TYPE, [80, 500]),
+    (SHAPE, [100, 80]),
+    (VALUE, [100, 80]),
+    (DATE, [60, 60]),
+    (CLOCK, [50, 50]),
+    (ZONE, [40, 40]),
+    (RULE, [120, 100]),
+];
 
 // ---- Counting and comparing ----------------------------------------------------------------------------------------
 
@@ -47,7 +61,7 @@ const LEAST_REFUSED: [[u64; 8]; 2] = [[80, 1, 5, 80, 80, 100, 100, 120], [0, 1, 
 struct Counts {
     pairs: u64,
     by_answer: [[u64; 3]; COMPARED.len()],
-    refused: [[u64; 8]; 2],
+    refused: [[u64; NUMBERS]; 2],
     differences: u64,
 }
 
@@ -58,7 +72,7 @@ impl Counts {
                 let of_type = COMPARED.iter().position(|t| compared.of_type.as_deref() == Some(t)).unwrap();
                 self.by_answer[of_type][answer as usize - 1] += 1;
             }
-            Due::Refused(record, number) => self.refused[record as usize - 1][number as usize - 1] += 1,
+            Due::Refused(record, number) => self.refused[record as usize - 1][number as usize] += 1,
         }
     }
 
@@ -70,9 +84,9 @@ impl Counts {
             println!("  {of_type:<12}{yes:>12}{no:>12}{unknown:>12}");
         }
         println!("  {:<20}{:>12}{:>12}", "refused", "the first", "the second");
-        for number in 1..=8 {
-            let [first, second] = self.refused.map(|counts| counts[number - 1]);
-            println!("  {:<20}{first:>12}{second:>12}", format!("{} ({number})", NAMES[number]));
+        for (number, _) in LEAST_REFUSED {
+            let [first, second] = self.refused.map(|counts| counts[number as usize]);
+            println!("  {:<20}{first:>12}{second:>12}", refusals::name(number));
         }
         println!("  {:<32}{:>12}", "differences", self.differences);
     }
@@ -88,10 +102,10 @@ impl Counts {
                 }
             }
         }
-        for (record, (counts, least)) in self.refused.iter().zip(LEAST_REFUSED).enumerate() {
-            for (i, (count, least)) in counts.iter().zip(least).enumerate() {
-                if count * 10_000 < self.pairs * least {
-                    println!("compare: under {least} of 10000 answers refused record {} with {}", record + 1, NAMES[i + 1]);
+        for (number, least) in LEAST_REFUSED {
+            for (record, (counts, least)) in self.refused.iter().zip(least).enumerate() {
+                if counts[number as usize] * 10_000 < self.pairs * least {
+                    println!("compare: under {least} of 10000 answers refused record {} with {}", record + 1, refusals::name(number));
                     broad = false;
                 }
             }

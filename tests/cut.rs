@@ -2,6 +2,7 @@
 
 use crate::lent::{Fenced, Guarded};
 use crate::random::Random;
+use crate::refusals::{NOT_UTF8, TOO_LONG};
 use crate::Options;
 
 extern "C" {
@@ -9,8 +10,6 @@ extern "C" {
 }
 
 const MOST_BYTES: usize = 16_384;
-const TOO_LONG: u64 = 2;
-const NOT_UTF8: u64 = 3;
 
 /// The longest text that is made, in bytes.
 const LONGEST: usize = MOST_BYTES + 8;

@@ -4,7 +4,8 @@
 
 use std::collections::BTreeSet;
 
-use crate::faults::{self, is_null, ten_thousandths, Fault};
+use crate::faults::{self, is_null, ten_thousandths};
+use crate::refusals::{DAMAGED, DAY_FULL, NO_DESK, NO_ROW, TOTAL, TYPE};
 use crate::tick::Calendar;
 
 /// How many rows are held; for desk 1, then desk 2, the counts of records added, null and refused; then rows of a desk, a currency and a
@@ -27,12 +28,6 @@ pub const MOST_ROWS: usize = 16;
 pub const MOST_COUNTED: u128 = 1_000_000;
 pub const MOST_TOTAL: i128 = 9_000_000_000_000_000_000;
 
-pub const NO_ROW: u64 = 16;
-pub const TOTAL: u64 = 17;
-pub const DAMAGED: u64 = 21;
-pub const NO_DESK: u64 = 23;
-pub const DAY_FULL: u64 = 25;
-
 /// The answers for a record that is added, and for one that is null.
 pub const ADDED: u64 = 1 << 8;
 pub const NULL: u64 = 2 << 8;
@@ -51,7 +46,7 @@ pub enum Record {
 pub fn read(record: &[u8], offset: i64, calendar: &Calendar) -> Record {
     let mut judged = faults::judge(record, offset, calendar);
     if judged.tree.as_ref().is_some_and(|top| top.get("xsi:type") != Some("MO")) {
-        judged.faults.insert(Fault::Type);
+        judged.faults.insert(TYPE);
     }
     match &judged.tree {
         Some(top) if judged.faults.is_empty() => match (top.get("currency"), top.get("value")) {

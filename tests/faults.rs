@@ -1,28 +1,13 @@
-//! A second judge of records, written from the rules page alone: it goes through the tree that a record is and collects all its faults.
-//! The number that is due is the smallest.
+//! A second judge of records, written from the rules page and the request to say which part of a time is wrong alone: it goes through the
+//! tree that a record is and collects all its faults. The number that is due is the one that comes first (refusals.rs).
 
 use std::collections::BTreeSet;
 
 use crate::markup::{self, Element};
+use crate::refusals::{self, MARKUP, NOT_UTF8, OFFSET, RULE, SHAPE, TOO_LONG, TYPE, VALUE};
 use crate::tick::{self, Calendar};
 
-/// The refusals that a record can get by itself, with the page's numbers, in the page's order.
-#[derive(Clone, Copy, PartialEq, Eq, PartialOrd, Ord, Debug)]
-pub enum Fault {
-    Offset = 1,
-    TooLong = 2,
-    NotUtf8 = 3,
-    Markup = 4,
-    Type = 5,
-    Shape = 6,
-    Value = 7,
-    Rule = 8,
-}
-
 pub const MOST_BYTES: usize = 16_384;
-
-/// The names of refusals, by number.
-pub const NAMES: [&str; 9] = ["ACCEPTED", "OFFSET", "TOO LONG", "NOT UTF-8", "MARKUP", "TYPE", "SHAPE", "VALUE", "RULE"];
 
 pub const TYPES: [&str; 9] = ["TS", "IVL_TS", "QSU_TS", "QSI_TS", "QSD_TS", "MO", "II", "CD", "EN"];
 
@@ -41,16 +26,16 @@ enum Standing {
     Elsewhere,
 }
 
-/// All that is wrong with a record; its tree, where it has one.
+/// All that is wrong with a record, by the numbers of refusals; its tree, where it has one.
 pub struct Judged {
-    pub faults: BTreeSet<Fault>,
+    pub faults: BTreeSet<u64>,
     pub tree: Option<Element>,
 }
 
 impl Judged {
     /// The number that is due.
     pub fn number(&self) -> u64 {
-        self.faults.first().map_or(0, |fault| *fault as u64)
+        refusals::first(&self.faults)
     }
 }
 
@@ -59,11 +44,11 @@ pub fn judge(record: &[u8], offset: i64, calendar: &Calendar) -> Judged {
     let mut judge = Judge { faults: BTreeSet::new(), offset, calendar };
     let text = std::str::from_utf8(record);
     let tree = text.ok().and_then(markup::read);
-    judge.claim((-840..=840).contains(&offset), Fault::Offset);
-    judge.claim(record.len() <= MOST_BYTES, Fault::TooLong);
-    judge.claim(text.is_ok(), Fault::NotUtf8);
-    judge.claim(tree.is_some(), Fault::Markup);
-    if let Some(top) = tree.as_ref().filter(|_| !judge.faults.contains(&Fault::Offset)) {
+    judge.claim((-840..=840).contains(&offset), OFFSET);
+    judge.claim(record.len() <= MOST_BYTES, TOO_LONG);
+    judge.claim(text.is_ok(), NOT_UTF8);
+    judge.claim(tree.is_some(), MARKUP);
+    if let Some(top) = tree.as_ref().filter(|_| !judge.faults.contains(&OFFSET)) {
         judge.top(top);
     }
     Judged { faults: judge.faults, tree }
@@ -74,14 +59,14 @@ pub fn is_null(element: &Element) -> bool {
 }
 
 struct Judge<'a> {
-    faults: BTreeSet<Fault>,
+    faults: BTreeSet<u64>,
     offset: i64,
     calendar: &'a Calendar,
 }
 
 impl Judge<'_> {
     /// Notes a fault unless the claim holds.
-    fn claim(&mut self, holds: bool, otherwise: Fault) {
+    fn claim(&mut self, holds: bool, otherwise: u64) {
         if !holds {
             self.faults.insert(otherwise);
         }
@@ -89,7 +74,7 @@ impl Judge<'_> {
 
     /// The text of an attribute, if there is one, has its form.
     fn form(&mut self, element: &Element, name: &str, has_form: impl Fn(&str) -> bool) {
-        self.claim(element.get(name).is_none_or(has_form), Fault::Value);
+        self.claim(element.get(name).is_none_or(has_form), VALUE);
     }
 
     // ---- What all elements have in common ----------------------------------------------------------------------------
@@ -103,11 +88,11 @@ impl Judge<'_> {
                 n if n.starts_with("xmlns") => standing == Standing::Top,
                 n => own.contains(&n),
             };
-            self.claim(allowed, Fault::Shape);
+            self.claim(allowed, SHAPE);
         }
         self.form(element, "nullFlavor", |text| FLAVORS.contains(&text));
         let carries_own = own.iter().any(|name| element.get(name).is_some());
-        self.claim(!(is_null(element) && carries_own), Fault::Rule);
+        self.claim(!(is_null(element) && carries_own), RULE);
     }
 
     /// The children that are allowed, from left to right: `may_follow` is asked of the allowed ones before and of a name.
@@ -117,10 +102,10 @@ impl Judge<'_> {
             if may_follow(&allowed, &child.name) {
                 allowed.push(child);
             } else {
-                self.claim(false, Fault::Shape);
+                self.claim(false, SHAPE);
             }
         }
-        self.claim(!(is_null(element) && !allowed.is_empty()), Fault::Rule);
+        self.claim(!(is_null(element) && !allowed.is_empty()), RULE);
         allowed
     }
 
@@ -148,16 +133,17 @@ impl Judge<'_> {
             Some("IVL_TS") => self.interval(element, standing),
             Some("QSU_TS" | "QSI_TS") => self.terms(element, standing),
             Some("QSD_TS") => self.difference(element, standing),
-            _ => self.claim(false, Fault::Type),
+            _ => self.claim(false, TYPE),
         }
     }
 
     fn point(&mut self, element: &Element, standing: Standing) {
         self.attributes(element, standing, &["value"]);
         self.no_children(element);
-        let (offset, calendar) = (self.offset, self.calendar);
-        self.form(element, "value", |text| tick::read(text, offset, calendar).is_some());
-        self.claim(element.get("value").is_some() || is_null(element), Fault::Rule);
+        if let Some(Err(faults)) = element.get("value").map(|text| tick::read(text, self.offset, self.calendar)) {
+            self.faults.extend(faults);
+        }
+        self.claim(element.get("value").is_some() || is_null(element), RULE);
     }
 
     fn interval(&mut self, element: &Element, standing: Standing) {
@@ -176,25 +162,25 @@ impl Judge<'_> {
                 _ => (element.get("highClosed"), "PINF", "NINF"),
             };
             let flavor = bound.get("nullFlavor");
-            self.claim(flavor.is_some() || flag.is_some(), Fault::Rule);
-            self.claim(!(flavor == Some(unbounded) && flag == Some("true")), Fault::Rule);
-            self.claim(flavor != Some(never), Fault::Rule);
+            self.claim(flavor.is_some() || flag.is_some(), RULE);
+            self.claim(!(flavor == Some(unbounded) && flag == Some("true")), RULE);
+            self.claim(flavor != Some(never), RULE);
         }
         if let [low, high] = bounds[..] {
             let crossed = self.tick(low).zip(self.tick(high)).is_some_and(|(low, high)| low > high);
-            self.claim(!crossed, Fault::Rule);
+            self.claim(!crossed, RULE);
         }
     }
 
     /// The tick of a bound that has a value.
     fn tick(&self, bound: &Element) -> Option<i64> {
-        tick::read(bound.get("value")?, self.offset, self.calendar).map(|(tick, _)| tick)
+        tick::read(bound.get("value")?, self.offset, self.calendar).ok().map(|(tick, _)| tick)
     }
 
     fn terms(&mut self, element: &Element, standing: Standing) {
         self.attributes(element, standing, &[]);
         let terms = self.children(element, |_, name| name == "term");
-        self.claim(is_null(element) || !terms.is_empty(), Fault::Shape);
+        self.claim(is_null(element) || !terms.is_empty(), SHAPE);
         for term in terms {
             self.set(term, Standing::InSet);
         }
@@ -207,7 +193,7 @@ impl Judge<'_> {
             1 => name == "subtrahend",
             _ => false,
         });
-        self.claim(is_null(element) || sides.len() == 2, Fault::Shape);
+        self.claim(is_null(element) || sides.len() == 2, SHAPE);
         for side in sides {
             self.set(side, Standing::InSet);
         }
@@ -219,7 +205,7 @@ impl Judge<'_> {
         self.form(element, "value", |text| ten_thousandths(text).is_some());
         self.form(element, "currency", |text| text.len() == 3 && text.bytes().all(|b| b.is_ascii_uppercase()));
         let (value, currency) = (element.get("value").is_some(), element.get("currency").is_some());
-        self.claim(value == currency && (value || is_null(element)), Fault::Rule);
+        self.claim(value == currency && (value || is_null(element)), RULE);
     }
 
     fn identifier(&mut self, element: &Element) {
@@ -227,7 +213,7 @@ impl Judge<'_> {
         self.no_children(element);
         self.form(element, "root", is_oid);
         self.form(element, "extension", is_filled);
-        self.claim(element.get("root").is_some() || is_null(element), Fault::Rule);
+        self.claim(element.get("root").is_some() || is_null(element), RULE);
     }
 
     fn code(&mut self, element: &Element) {
@@ -235,36 +221,36 @@ impl Judge<'_> {
         self.form(element, "codeSystem", is_oid);
         for name in ["code", "codeSystemName", "codeSystemVersion"] {
             self.form(element, name, is_filled);
-            self.claim(element.get(name).is_none() || element.get("codeSystem").is_some(), Fault::Rule);
+            self.claim(element.get(name).is_none() || element.get("codeSystem").is_some(), RULE);
         }
         let display_names = self.children(element, |before, name| name == "displayName" && before.is_empty());
         for display_name in &display_names {
             self.display_name(display_name);
-            self.claim(element.get("code").is_some(), Fault::Rule);
+            self.claim(element.get("code").is_some(), RULE);
         }
         let says_something = element.get("code").is_some() || element.get("codeSystem").is_some();
-        self.claim(is_null(element) || says_something, Fault::Rule);
+        self.claim(is_null(element) || says_something, RULE);
     }
 
     /// This one takes no `nullFlavor`.
     fn display_name(&mut self, element: &Element) {
-        self.claim(element.attributes.len() == 1 && element.get("value").is_some(), Fault::Shape);
-        self.claim(element.children.is_empty(), Fault::Shape);
+        self.claim(element.attributes.len() == 1 && element.get("value").is_some(), SHAPE);
+        self.claim(element.children.is_empty(), SHAPE);
         self.form(element, "value", is_filled);
     }
 
     fn name(&mut self, element: &Element) {
         self.attributes(element, Standing::Top, &[]);
         let parts = self.children(element, |_, name| name == "part");
-        self.claim(is_null(element) || !parts.is_empty(), Fault::Shape);
+        self.claim(is_null(element) || !parts.is_empty(), SHAPE);
         for part in parts {
             self.attributes(part, Standing::Elsewhere, &["value", "type", "qualifier"]);
             self.no_children(part);
             self.form(part, "type", |text| PART_TYPES.contains(&text));
             self.form(part, "qualifier", |text| text.split(' ').all(|q| QUALIFIERS.contains(&q)));
             let qualifiers: Vec<&str> = part.get("qualifier").unwrap_or("").split(' ').collect();
-            self.claim(is_null(part) || part.get("value").is_some_and(is_filled), Fault::Rule);
-            self.claim(!(qualifiers.contains(&"PFX") && qualifiers.contains(&"SFX")), Fault::Rule);
+            self.claim(is_null(part) || part.get("value").is_some_and(is_filled), RULE);
+            self.claim(!(qualifiers.contains(&"PFX") && qualifiers.contains(&"SFX")), RULE);
         }
     }
 }

@@ -1,7 +1,8 @@
 //! A second comparer of records, written from the rules page alone, over the trees that they are.
 
-use crate::faults::{self, is_null, ten_thousandths, Fault};
+use crate::faults::{self, is_null, ten_thousandths};
 use crate::markup::Element;
+use crate::refusals::TYPE;
 use crate::tick::{self, Calendar};
 
 #[derive(Clone, Copy, PartialEq, Debug)]
@@ -51,7 +52,7 @@ pub fn compare(first: &[u8], second: &[u8], offset: i64, calendar: &Calendar) ->
     }
     let types = [trees[0].get("xsi:type").unwrap(), trees[1].get("xsi:type").unwrap()];
     let due = if types[0] != types[1] || !COMPARED.contains(&types[0]) {
-        Due::Refused(2, Fault::Type as u64)
+        Due::Refused(2, TYPE)
     } else {
         let comparer = Comparer { offset, calendar };
         Due::Answered(comparer.values(types[0], &trees[0], &trees[1]))

@@ -241,10 +241,15 @@ const MONEY: [&str; 16] = [
     "<t xsi:type=\"MO\" nullFlavor=\"NI\" value=\"1\" currency=\"EUR\"/>",
 ];
 
-/// Other types: accepted by themselves, null, and with a further reason; and no type at all.
-const OTHER_TYPES: [&str; 14] = [
+/// Other types: accepted by themselves, null, and with a further reason, as an impossible time; and no type at all.
+const OTHER_TYPES: [&str; 19] = [
     "<t xsi:type=\"TS\" value=\"2024\"/>",
     "<t xsi:type=\"TS\" value=\"2024x\"/>",
+    "<t xsi:type=\"TS\" value=\"19000229\"/>",
+    "<t xsi:type=\"TS\" value=\"2024022924\"/>",
+    "<t xsi:type=\"TS\" value=\"2024022923+1401\"/>",
+    "<t xsi:type=\"IVL_TS\" lowClosed=\"true\"><low value=\"0000010124+15\"/></t>",
+    "<t xsi:type=\"QSU_TS\"><term xsi:type=\"IVL_TS\" highClosed=\"true\"><high value=\"202413\"/></term></t>",
     "<t xsi:type=\"TS\" nullFlavor=\"NI\"/>",
     "<t xsi:type=\"TS\" value=\"2024\" currency=\"EUR\"/>",
     "<t xsi:type=\"TS\"/>",

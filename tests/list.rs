@@ -1,10 +1,12 @@
 //! `rigcactus_list` against a second lister of sets of times (places.rs).
 
-use crate::faults::NAMES;
 use crate::lent::{Fenced, Guarded};
 use crate::places::{self, Listed, Stretch, MOST_INTERVALS, STRETCH_BYTES};
 use crate::random::Random;
 use crate::records::{Maker, LONGEST};
+use crate::refusals::{
+    self, ACCEPTED, CLOCK, DATE, MARKUP, NOT_UTF8, NO_ROOM, NUMBERS, OFFSET, RULE, SHAPE, TOO_LONG, TOO_MANY, TYPE, UNKNOWN_BOUND, VALUE, ZONE,
+};
 use crate::table;
 use crate::tick::{agreed_offset, Calendar};
 use crate::Options;
@@ -36,8 +38,24 @@ const GUARDS: [u8; 6] = [b' ', b'>', b'"', b'a', 0x80, 0xFF];
 /// The longest list that is lent, in bytes.
 const LONGEST_LIST: usize = 8192;
 
-/// Of a thousand answers, how many at least are to be each number, from 0 to 11.
-const LEAST_SHARES: [u64; 12] = [350, 8, 3, 2, 20, 40, 15, 15, 15, 60, 15, 90];
+/// The answers there are; of a thousand, how many at least are to be each.
+const LEAST_SHARES: [(u64, u64); 15] = [
+    (ACCEPTED, 350),
+    (OFFSET, 8),
+    (TOO_LONG, 3),
+    (NOT_UTF8, 2),
+    (MARKUP, 20),
+    (TYPE, 40),
+    (SHAPE, 15),
+    (VALUE, 15),
+    (DATE, 20),
+    (CLOCK, 12),
+    (ZONE, 8),
+    (RULE, 15),
+    (UNKNOWN_BOUND, 60),
+    (TOO_MANY, 15),
+    (NO_ROOM, 90),
+];
 
 /// Of a thousand accepted records, how many at least are to be of each kind.
 const KINDS: [(&str, u64); 14] = [
@@ -57,22 +75,13 @@ const KINDS: [(&str, u64); 14] = [
     ("stretches that an instant parts", 40),
 ];
 
-fn name_of(number: usize) -> &'static str {
-    match number {
-        9 => "UNKNOWN BOUND",
-        10 => "TOO MANY",
-        11 => "NO ROOM",
-        _ => NAMES[number],
-    }
-}
-
 // ---- Counting and comparing ----------------------------------------------------------------------------------------
 
 /// Counts of answers, by number, and of accepted records by kind. Only answers that were due are counted here.
 #[derive(Default)]
 struct Counts {
     calls: u64,
-    by_number: [u64; 12],
+    by_number: [u64; NUMBERS],
     by_kind: [u64; KINDS.len()],
     below_zero: u64,
     differences: u64,
@@ -117,8 +126,8 @@ impl Counts {
     fn print(&self, what: &str) {
         println!("list: {what}");
         println!("  {:<46}{:>12}", "calls", self.calls);
-        for (number, count) in self.by_number.iter().enumerate() {
-            println!("  {:<46}{count:>12}", format!("{} ({number})", name_of(number)));
+        for (number, _) in LEAST_SHARES {
+            println!("  {:<46}{:>12}", refusals::name(number), self.by_number[number as usize]);
         }
         for ((kind, _), count) in KINDS.iter().zip(self.by_kind) {
             println!("  {:<46}{count:>12}", format!("accepted, {kind}"));
@@ -130,9 +139,9 @@ impl Counts {
     /// Whether every number and kind occurred in good measure. A run that hardly gave some answer has not tried what it should.
     fn is_broad(&self) -> bool {
         let mut broad = self.below_zero > 0;
-        for (number, least) in LEAST_SHARES.iter().enumerate() {
-            if self.by_number[number] * 1000 < self.calls * least {
-                println!("list: under {least} of 1000 answers were {} ({number})", name_of(number));
+        for (number, least) in LEAST_SHARES {
+            if self.by_number[number as usize] * 1000 < self.calls * least {
+                println!("list: under {least} of 1000 answers were {}", refusals::name(number));
                 broad = false;
             }
         }

@@ -1,12 +1,13 @@
 //! Histories of two desks that share a table of daily totals: their calls are mixed in any order, and then each desk's are made again with
 //! a table of its own, where they are to come to the same.
 
-use crate::day::{Days, Report, Table, ADDED, DESKS, MOST_ROWS, NO_ROW};
+use crate::day::{Days, Report, Table, ADDED, DESKS, MOST_ROWS};
 use crate::lender::{Outcome, HAS_SERVICE};
 use crate::limits;
 use crate::money::{self, Given, Style};
 use crate::random::Random;
 use crate::records::Maker;
+use crate::refusals::NO_ROW;
 use crate::rows::{self, NO_DESKS};
 use crate::trial::Trial;
 

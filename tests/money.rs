@@ -172,6 +172,12 @@ impl Maker<'_> {
             _ => self.good_of(of_type),
         };
         let other = self.random.one_of(&["TS", "II", "CD", "EN", "IVL_TS", "QSU_TS", "mo", "MO ", "M", "MOO", "PQ", ""]);
+        if self.random.once_in(3) {
+            let of_type = self.random.one_of(&["TS", "IVL_TS", "QSU_TS", "QSD_TS"]);
+            tree = self.good_of(of_type);
+            self.damage_times(&mut tree);
+            return self.any_spelling(tree);
+        }
         match self.random.below(6) {
             0 => tree.attributes.retain(|(name, _)| name != "xsi:type"),
             1..=3 => tree.attributes[0].1 = other.to_string(),

@@ -272,6 +272,17 @@ impl Maker<'_> {
         if self.random.once_in(2) { (first, second) } else { (second, first) }
     }
 
+    /// A timestamp or an interval with an impossible time, and now and then another fault.
+    fn impossible_time(&mut self) -> Element {
+        let of_type = self.random.one_of(&["TS", "IVL_TS"]);
+        let mut record = self.good_of(of_type);
+        self.damage_times(&mut record);
+        if self.random.once_in(4) {
+            self.damage(&mut record);
+        }
+        record
+    }
+
     fn spelled(&mut self, tree: &Element) -> Vec<u8> {
         let spelling = Spelling::any(self.random);
         write(tree, spelling, self.random)
@@ -292,6 +303,14 @@ impl Maker<'_> {
             }
             7 => self.damage(&mut first),
             8 => self.damage(&mut second),
+            9 => {
+                first = self.impossible_time();
+                second = if self.random.once_in(2) { first.clone() } else { second };
+            }
+            10 => {
+                second = self.impossible_time();
+                first = if self.random.once_in(2) { self.good_of("TS") } else { first };
+            }
             _ => {}
         }
         (self.spelled(&first), self.spelled(&second))

@@ -2,8 +2,9 @@
 
 use std::collections::BTreeSet;
 
-use crate::faults::{self, is_null, Fault};
+use crate::faults::{self, is_null};
 use crate::markup::Element;
+use crate::refusals::{self, NO_ROOM, TOO_MANY, TYPE, UNKNOWN_BOUND};
 use crate::tick::{self, Calendar};
 
 /// A place of the line: a tick is twice its number, the gap after it is one more.
@@ -28,10 +29,6 @@ enum Set {
 const TIMES: [&str; 4] = ["IVL_TS", "QSU_TS", "QSI_TS", "QSD_TS"];
 
 pub const MOST_INTERVALS: usize = 32;
-
-pub const UNKNOWN_BOUND: u64 = 9;
-pub const TOO_MANY: u64 = 10;
-pub const NO_ROOM: u64 = 11;
 
 /// How many bytes of a list a stretch takes.
 pub const STRETCH_BYTES: usize = 32;
@@ -71,11 +68,11 @@ impl Listed {
 /// Lists a record. Whether a set is known, and how many intervals it has, is asked of one with no other fault, since those come first.
 pub fn list(record: &[u8], offset: i64, calendar: &Calendar) -> Listed {
     let judged = faults::judge(record, offset, calendar);
-    let mut numbers: BTreeSet<u64> = judged.faults.iter().map(|fault| *fault as u64).collect();
+    let mut numbers = judged.faults;
     let mut stretches = Vec::new();
     if let Some(top) = &judged.tree {
         if !top.get("xsi:type").is_some_and(|t| TIMES.contains(&t)) {
-            numbers.insert(Fault::Type as u64);
+            numbers.insert(TYPE);
         }
         if numbers.is_empty() {
             let set = read(top, offset, calendar);
@@ -90,7 +87,7 @@ pub fn list(record: &[u8], offset: i64, calendar: &Calendar) -> Listed {
             }
         }
     }
-    Listed { number: numbers.first().copied().unwrap_or(0), tree: judged.tree, stretches }
+    Listed { number: refusals::first(&numbers), tree: judged.tree, stretches }
 }
 
 // ---- From a record to its set --------------------------------------------------------------------------------------
@@ -129,7 +126,7 @@ fn bound(interval: &Element, name: &str, flag: &str, unbounded: &str, offset: i6
     if let Some(flavor) = bound.get("nullFlavor") {
         return (flavor == unbounded).then_some(Unbounded);
     }
-    let (tick, _) = tick::read(bound.get("value")?, offset, calendar)?;
+    let (tick, _) = tick::read(bound.get("value")?, offset, calendar).ok()?;
     Some(if interval.get(flag) == Some("true") { Closed(tick) } else { Open(tick) })
 }
 

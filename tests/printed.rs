@@ -3,7 +3,8 @@
 
 use std::collections::BTreeSet;
 
-use crate::places::{Stretch, NO_ROOM, STRETCH_BYTES};
+use crate::places::{Stretch, STRETCH_BYTES};
+use crate::refusals::{NOT_WRITABLE, NO_ROOM};
 use crate::tick::month_length;
 
 /// What can be wrong with a list: the ways of being improper, in the order of the request's sentence, and a tick that no timestamp has.
@@ -34,8 +35,6 @@ pub const FAULTS: [&str; 10] = [
     "stretches with no place between",
     "a tick outside years 0001 to 9999",
 ];
-
-pub const NOT_WRITABLE: u64 = 12;
 
 pub const MOST_STRETCHES: usize = 32;
 

@@ -156,7 +156,7 @@ impl Maker<'_> {
     /// The tick of a bound that has a value.
     pub fn tick(&self, bound: &Element) -> Option<i64> {
         let text = bound.get("value")?;
-        tick::read(text, self.offset.clamp(-840, 840), self.calendar).map(|(tick, _)| tick)
+        tick::read(text, self.offset.clamp(-840, 840), self.calendar).ok().map(|(tick, _)| tick)
     }
 
     pub fn interval(&mut self, name: &str) -> Element {
@@ -347,6 +347,21 @@ impl Maker<'_> {
         }
     }
 
+    /// Has times of a record be impossible, one or several; another value is damaged where it has none.
+    pub fn damage_times(&mut self, record: &mut Element) {
+        let mut times = Vec::new();
+        find_times(record, &mut times);
+        if times.is_empty() {
+            return self.damage_value(record);
+        }
+        let at = self.random.below(times.len());
+        *times[at] = tick::impossible(self.random);
+        while self.random.once_in(3) {
+            let at = self.random.below(times.len());
+            *times[at] = tick::impossible(self.random);
+        }
+    }
+
     /// Changes the children of an element, or moves or renames one.
     fn damage_children(&mut self, record: &mut Element) {
         let stranger = match self.random.below(4) {
@@ -434,11 +449,12 @@ impl Maker<'_> {
     }
 
     pub fn damage(&mut self, record: &mut Element) {
-        match self.random.below(32) {
+        match self.random.below(44) {
             0..=4 => self.damage_attributes(record),
             5..=15 => self.damage_value(record),
             16..=19 => self.damage_children(record),
             20..=21 => self.damage_type(record),
+            22..=29 => self.damage_times(record),
             _ => self.damage_invariant(record),
         }
     }
@@ -522,6 +538,14 @@ impl Maker<'_> {
         }
         record
     }
+}
+
+/// Collects the texts of a record that are times: the values of timestamps and of bounds.
+fn find_times<'e>(element: &'e mut Element, times: &mut Vec<&'e mut String>) {
+    let is_time = element.get("xsi:type") == Some("TS") || ["low", "high"].contains(&element.name.as_str());
+    let values = element.attributes.iter_mut().filter(|(name, _)| is_time && name == "value");
+    times.extend(values.map(|(_, value)| value));
+    element.children.iter_mut().for_each(|child| find_times(child, times));
 }
 
 /// A text that is nearly good for an attribute, or is.

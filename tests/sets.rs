@@ -268,6 +268,12 @@ impl Maker<'_> {
         if kind < 20 {
             self.damage(&mut tree);
         }
+        if (25..30).contains(&kind) {
+            self.damage_times(&mut tree);
+            if self.random.once_in(3) {
+                self.damage(&mut tree);
+            }
+        }
         if kind == 20 {
             let of_type = self.random.one_of(&SET_TYPES);
             tree.attributes[0].1 = of_type.to_string();

@@ -1,28 +1,40 @@
 //! Counts of what adding to daily totals answered, and starting and reporting them, and whether every answer occurred in good measure.
 
-use crate::day::{
-    Days, Record, ADDED, ALL_ROWS, DAMAGED, DAMAGES, DAY_FULL, DESKS, MOST_COUNTED, MOST_ROWS, MOST_TOTAL, NO_DESK, NO_ROW, NULL, TOTAL,
-};
+use crate::day::{Days, Record, ADDED, ALL_ROWS, DAMAGES, DESKS, MOST_COUNTED, MOST_ROWS, MOST_TOTAL, NULL};
 use crate::money::MOST_AMOUNT;
+use crate::refusals::{
+    self, DAMAGED, DAY_FULL, MARKUP, NOT_UTF8, NO_DESK, NO_ROW, OFFSET, RULE, SHAPE, TOO_LONG, TOTAL, TYPE, VALUE,
+};
 
 /// Of ten thousand answers to a record, how many at least are to be each.
-const ANSWERS: [(u64, &str, u64); 15] = [
-    (ADDED, "added", 2_500),
-    (NULL, "null", 300),
-    (1, "OFFSET (1)", 150),
-    (2, "TOO LONG (2)", 2),
-    (3, "NOT UTF-8 (3)", 50),
-    (4, "MARKUP (4)", 80),
-    (5, "TYPE (5)", 300),
-    (6, "SHAPE (6)", 150),
-    (7, "VALUE (7)", 150),
-    (8, "RULE (8)", 150),
-    (NO_ROW, "NO ROW (16)", 200),
-    (TOTAL, "TOTAL (17)", 100),
-    (DAMAGED, "DAMAGED (21)", 1_000),
-    (NO_DESK, "NO DESK (23)", 100),
-    (DAY_FULL, "DAY FULL (25)", 200),
+const ANSWERS: [(u64, u64); 15] = [
+    (ADDED, 2_500),
+    (NULL, 300),
+    (NO_DESK, 100),
+    (DAMAGED, 1_000),
+    (DAY_FULL, 200),
+    (OFFSET, 150),
+    (TOO_LONG, 2),
+    (NOT_UTF8, 50),
+    (MARKUP, 80),
+    (TYPE, 300),
+    (SHAPE, 150),
+    (VALUE, 150),
+    (RULE, 150),
+    (NO_ROW, 200),
+    (TOTAL, 100),
 ];
+
+fn name_of(answer: u64) -> String {
+    match answer {
+        ADDED => "added".to_string(),
+        NULL => "null".to_string(),
+        refusal => refusals::name(refusal),
+    }
+}
+
+/// Of ten thousand answers to a record, how many at least are to be TYPE with an impossible time in the record, which is not told then.
+const LEAST_OF_TIMES: u64 = 40;
 
 /// Of ten thousand answers to a record, how many at least are to be of each kind that one desk's part decides.
 const KINDS: [(&str, u64); 22] = [
@@ -89,6 +101,7 @@ pub struct Counts {
     pub opened: u64,
     pub records: u64,
     by_answer: [u64; ANSWERS.len()],
+    pub impossible_times: u64,
     by_kind: [u64; KINDS.len()],
     by_kind_of_two: [u64; KINDS_OF_TWO.len()],
     /// By the desk in whose part the damage is, or 0, and by its reason.
@@ -128,7 +141,7 @@ fn kinds(days: &Days, desk: u64, record: Record, answer: u64) -> [bool; KINDS.le
         added && last,
         answer == NULL && last,
         answer & 0xFF != 0 && last,
-        by_itself && answer < NO_ROW && all_held,
+        record == Record::Refused(answer) && all_held,
         answer == NO_ROW && amount == 0,
         answer == NO_ROW && rows.iter().all(|row| row.1.abs() == MOST_TOTAL),
         answer == TOTAL && total == MOST_TOTAL + 1,
@@ -246,9 +259,10 @@ impl Counts {
     /// What occurred, how often, and how often of so many times ten thousand it has to at least.
     fn rows(&self) -> Vec<(String, u64, u64, u64)> {
         let mut rows = Vec::new();
-        for ((_, name, least), count) in ANSWERS.iter().zip(self.by_answer) {
-            rows.push((name.to_string(), count, self.records, *least));
+        for ((answer, least), count) in ANSWERS.iter().zip(self.by_answer) {
+            rows.push((name_of(*answer), count, self.records, *least));
         }
+        rows.push(("TYPE, and an impossible time".to_string(), self.impossible_times, self.records, LEAST_OF_TIMES));
         let by_kind = self.by_kind.iter().chain(&self.by_kind_of_two);
         for ((kind, least), count) in KINDS.iter().chain(&KINDS_OF_TWO).zip(by_kind) {
             rows.push((kind.to_string(), *count, self.records, *least));

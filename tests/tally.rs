@@ -1,8 +1,9 @@
 //! Counts of what printing lists answered, and whether every answer occurred in good measure.
 
 use crate::lists::LAST_TICK;
-use crate::places::{Stretch, NO_ROOM};
-use crate::printed::{self, Dates, Printed, FAULTS, MOST_STRETCHES, NOT_WRITABLE};
+use crate::places::Stretch;
+use crate::printed::{self, Dates, Printed, FAULTS, MOST_STRETCHES};
+use crate::refusals::{NOT_WRITABLE, NO_ROOM};
 
 /// Of a thousand answers, how many at least are to be accepted, NO ROOM and NOT WRITABLE, in this order.
 const LEAST_SHARES: [(u64, &str, u64); 3] = [(0, "ACCEPTED", 200), (NO_ROOM, "NO ROOM", 120), (NOT_WRITABLE, "NOT WRITABLE", 300)];

@@ -1,7 +1,9 @@
-//! `rigcactus_tick` against a second reader of timestamps, which counts the days of the calendar one by one.
+//! `rigcactus_tick` against a second reader of timestamps, which counts the days of the calendar one by one and says which parts of a time
+//! are impossible.
 
 use crate::lent::{Fenced, Guarded};
 use crate::random::Random;
+use crate::refusals::{self, CLOCK, DATE, NUMBERS, OFFSET, TOO_LONG, VALUE, ZONE};
 use crate::Options;
 
 extern "C" {
@@ -9,9 +11,6 @@ extern "C" {
 }
 
 const MOST_BYTES: usize = 16_384;
-const OFFSET: u64 = 1;
-const TOO_LONG: u64 = 2;
-const VALUE: u64 = 7;
 
 /// How many ticks a day has, and a minute.
 const DAY: i64 = 864_000_000;
@@ -126,20 +125,18 @@ fn number(digits: &str) -> i64 {
     digits.parse().unwrap()
 }
 
-/// The minutes of a written offset.
-fn zone_minutes(zone: &str) -> Option<i64> {
-    let digits = &zone[1..];
-    if !is_digits(digits) || ![2, 4].contains(&digits.len()) {
-        return None;
-    }
-    let minutes = if digits.len() == 4 { number(&digits[2..]) } else { 0 };
-    let all = number(&digits[..2]) * 60 + minutes;
-    let possible = minutes < 60 && all <= 14 * 60;
-    possible.then_some(if zone.starts_with('-') { -all } else { all })
+/// A text of the right form, in its parts.
+struct Written<'a> {
+    /// The digits before any point: a year, and what follows it up to a second at most.
+    whole: &'a str,
+    /// The digits after a point.
+    fraction: &'a str,
+    /// A sign with hours and minutes, if an offset is written.
+    zone: &'a str,
 }
 
-/// The tick and the precision of a text: it is taken apart at its sign and at its point, and missing digits are filled up.
-pub fn read(text: &str, agreed: i64, calendar: &Calendar) -> Option<(i64, u64)> {
+/// Takes a text apart at its sign and at its point. None where its form is wrong, whatever its digits say.
+fn take_apart(text: &str) -> Option<Written<'_>> {
     let (local, zone) = text.split_at(text.find(['+', '-']).unwrap_or(text.len()));
     let (whole, fraction) = match local.split_once('.') {
         Some((whole, fraction)) => (whole, Some(fraction)),
@@ -151,23 +148,39 @@ pub fn read(text: &str, agreed: i64, calendar: &Calendar) -> Option<(i64, u64)> 
     if fraction.is_some_and(|f| !is_digits(f) || f.is_empty() || f.len() > 4 || whole.len() < 14) {
         return None;
     }
-    if !zone.is_empty() && whole.len() < 10 {
+    if !zone.is_empty() && (whole.len() < 10 || !is_digits(&zone[1..]) || ![3, 5].contains(&zone.len())) {
         return None;
     }
-    let offset = if zone.is_empty() { agreed } else { zone_minutes(zone)? };
+    Some(Written { whole, fraction: fraction.unwrap_or(""), zone })
+}
 
+/// The minutes of a written offset, if there can be such a one.
+fn zone_minutes(zone: &str) -> Option<i64> {
+    let minutes = if zone.len() == 5 { number(&zone[3..]) } else { 0 };
+    let all = number(&zone[1..3]) * 60 + minutes;
+    let possible = minutes < 60 && all <= 14 * 60;
+    possible.then_some(if zone.starts_with('-') { -all } else { all })
+}
+
+/// The tick and the precision of a text; or all that is wrong with it, the form alone or any of date, clock and offset.
+pub fn read(text: &str, agreed: i64, calendar: &Calendar) -> Result<(i64, u64), Vec<u64>> {
+    let Some(Written { whole, fraction, zone }) = take_apart(text) else {
+        return Err(vec![VALUE]);
+    };
     // Digits that are written, or else those of the first value.
     let part = |from: usize, to: usize| number(whole.get(from..to).unwrap_or(&"00000101000000"[from..to]));
-    let days = calendar.days_before(part(0, 4), part(4, 6), part(6, 8))?;
+    let days = calendar.days_before(part(0, 4), part(4, 6), part(6, 8));
     let (hours, minutes, seconds) = (part(8, 10), part(10, 12), part(12, 14));
-    if hours > 23 || minutes > 59 || seconds > 59 {
-        return None;
-    }
-    let fraction = fraction.unwrap_or("");
+    let is_time_of_day = hours <= 23 && minutes <= 59 && seconds <= 59;
+    let offset = if zone.is_empty() { Some(agreed) } else { zone_minutes(zone) };
+    let (Some(days), true, Some(offset)) = (days, is_time_of_day, offset) else {
+        let parts = [(DATE, days.is_none()), (CLOCK, !is_time_of_day), (ZONE, offset.is_none())];
+        return Err(parts.into_iter().filter(|(_, is_impossible)| *is_impossible).map(|(number, _)| number).collect());
+    };
     let in_seconds = days * 86_400 + hours * 3_600 + minutes * 60 + seconds - offset * 60;
     let fraction_ticks = if fraction.is_empty() { 0 } else { number(fraction) * 10_i64.pow(4 - fraction.len() as u32) };
     let tick = in_seconds * 10_000 + fraction_ticks;
-    Some((tick, (whole.len() + fraction.len()) as u64))
+    Ok((tick, (whole.len() + fraction.len()) as u64))
 }
 
 pub fn due(text: &[u8], agreed: i64, calendar: &Calendar) -> Due {
@@ -177,13 +190,31 @@ pub fn due(text: &[u8], agreed: i64, calendar: &Calendar) -> Due {
     if text.len() > MOST_BYTES {
         return Due::Refused(TOO_LONG);
     }
-    match std::str::from_utf8(text).ok().filter(|t| t.is_ascii()).and_then(|t| read(t, agreed, calendar)) {
-        Some((tick, precision)) => Due::At { tick, precision },
-        None => Due::Refused(VALUE),
+    let Some(text) = std::str::from_utf8(text).ok().filter(|text| text.is_ascii()) else {
+        return Due::Refused(VALUE);
+    };
+    match read(text, agreed, calendar) {
+        Ok((tick, precision)) => Due::At { tick, precision },
+        Err(faults) => Due::Refused(refusals::first(&faults)),
     }
 }
 
 // ---- Counting and comparing ----------------------------------------------------------------------------------------
+
+/// What the service can refuse a text for; of a thousand answers to made texts, how many at least are to be each.
+const LEAST_REFUSED: [(u64, u64); 6] = [(OFFSET, 80), (TOO_LONG, 2), (VALUE, 150), (DATE, 60), (CLOCK, 30), (ZONE, 30)];
+
+/// What can be impossible in a text of the right form, and a name for it; of ten thousand answers to made texts, how many at least are to
+/// be to such.
+const IMPOSSIBLE: [(&[u64], &str, u64); 7] = [
+    (&[DATE], "date alone", 400),
+    (&[CLOCK], "clock alone", 300),
+    (&[ZONE], "offset alone", 300),
+    (&[DATE, CLOCK], "date and clock", 50),
+    (&[DATE, ZONE], "date and offset", 50),
+    (&[CLOCK, ZONE], "clock and offset", 50),
+    (&[DATE, CLOCK, ZONE], "date, clock and offset", 20),
+];
 
 /// Counts of answers, by kind. Only answers that were due are counted here.
 #[derive(Default)]
@@ -191,7 +222,9 @@ struct Counts {
     texts: u64,
     by_precision: [u64; 19],
     below_zero: u64,
-    refused: [u64; 12],
+    refused: [u64; NUMBERS],
+    /// In the order of `IMPOSSIBLE`.
+    by_impossible: [u64; IMPOSSIBLE.len()],
     differences: u64,
 }
 
@@ -210,8 +243,8 @@ impl Counts {
         let mut kinds: Vec<(String, u64)> = [4, 6, 8, 10, 12, 14, 15, 16, 17, 18]
             .map(|p| (format!("accepted, precision {p}"), self.by_precision[p as usize]))
             .to_vec();
-        for (refusal, name) in [(OFFSET, "OFFSET"), (TOO_LONG, "TOO LONG"), (VALUE, "VALUE")] {
-            kinds.push((format!("refused, {name} ({refusal})"), self.refused[refusal as usize]));
+        for (refusal, _) in LEAST_REFUSED {
+            kinds.push((format!("refused, {}", refusals::name(refusal)), self.refused[refusal as usize]));
         }
         kinds
     }
@@ -226,7 +259,28 @@ impl Counts {
         }
         println!("  {:<32}{calls:>12}", "calls");
         println!("  {:<32}{:>12}", "of these with a tick below 0", self.below_zero);
+        for ((_, name, _), count) in IMPOSSIBLE.iter().zip(self.by_impossible).filter(|(_, count)| *count > 0) {
+            println!("  {:<32}{count:>12}", format!("impossible {name}"));
+        }
         println!("  {:<32}{:>12}", "differences", self.differences);
+    }
+
+    /// Whether every answer occurred in good measure among made texts. A run that hardly gave one has not tried what it should.
+    fn is_broad(&self) -> bool {
+        let below_zero = ("accepted, a tick below 0".to_string(), self.below_zero);
+        let mut rows: Vec<(String, u64, u64)> = self.kinds().into_iter().chain([below_zero]).map(|(kind, count)| (kind, count, 1)).collect();
+        let calls: u64 = self.by_precision.iter().chain(&self.refused).sum();
+        for (refusal, least) in LEAST_REFUSED {
+            rows.push((refusals::name(refusal), self.refused[refusal as usize], calls * least / 1_000));
+        }
+        for ((_, name, least), count) in IMPOSSIBLE.iter().zip(self.by_impossible) {
+            rows.push((format!("to an impossible {name}"), count, self.texts * least / 10_000));
+        }
+        rows.retain(|(_, count, least)| count < least);
+        for (kind, count, least) in &rows {
+            println!("tick: {count} answers were '{kind}', and {least} should be");
+        }
+        rows.is_empty()
     }
 }
 
@@ -357,10 +411,20 @@ pub fn zone(random: &mut Random) -> String {
     }
 }
 
-/// A written offset that no place has, or that is barely one.
-fn far_zone(random: &mut Random) -> String {
+/// A written offset that no place has.
+fn impossible_zone(random: &mut Random) -> String {
     let sign = random.one_of(&['+', '-']);
-    let digits = random.one_of(&["1400", "1401", "1359", "1360", "0059", "0060", "0090", "14", "15", "99", "9959", "0", "000", "00000", ""]);
+    let digits = random.one_of(&["1401", "1459", "1500", "2400", "9959", "15", "24", "99", "0060", "0090", "0099", "1360", "1399"]);
+    format!("{sign}{digits}")
+}
+
+/// A written offset that no place has, or that is barely one, or that is none by its form.
+fn far_zone(random: &mut Random) -> String {
+    if random.once_in(2) {
+        return impossible_zone(random);
+    }
+    let sign = random.one_of(&['+', '-']);
+    let digits = random.one_of(&["1400", "1359", "0059", "14", "00", "0", "000", "00000", ""]);
     format!("{sign}{digits}")
 }
 
@@ -372,33 +436,75 @@ pub fn parts(random: &mut Random, year: usize) -> [usize; 5] {
     [month, day, random.from(0, 23), random.from(0, 59), random.from(0, 59)]
 }
 
-/// A timestamp as it should be, or with a number in it at a limit or past it.
+/// A year and so many of the numbers that follow it, in digits.
+fn digits_of(year: usize, parts: &[usize]) -> String {
+    parts.iter().fold(format!("{year:04}"), |text, part| text + &format!("{part:02}"))
+}
+
+/// Brings a number of a time, or its written offset, to a limit or past it.
+fn spoil(random: &mut Random, year: &mut usize, parts: &mut [usize; 5], zone: &mut String) {
+    match random.below(9) {
+        0 => parts[0] = random.one_of(&[0, 1, 12, 13, 99]),
+        1 => parts[1] = random.one_of(&[0, 1, 28, 29, 30, 31, 32, 99]),
+        2 => *year = 0,
+        3 => parts[2] = random.one_of(&[0, 23, 24, 99]),
+        4 => parts[3] = random.one_of(&[0, 59, 60, 99]),
+        5 => parts[4] = random.one_of(&[0, 59, 60, 99]),
+        _ => *zone = far_zone(random),
+    }
+}
+
+/// A timestamp as it should be, or with numbers in it at a limit or past it.
 fn timestamp(random: &mut Random) -> Vec<u8> {
     let mut year = year(random);
     let mut parts = parts(random, year);
     let count = random.from(0, 5);
     let mut zone = if count >= 3 && random.once_in(2) { zone(random) } else { String::new() };
-    if random.once_in(4) {
-        match random.below(7) {
-            0 => parts[0] = random.one_of(&[0, 1, 12, 13, 99]),
-            1 => parts[1] = random.one_of(&[0, 1, 28, 29, 30, 31, 32, 99]),
-            2 => parts[2] = random.one_of(&[0, 23, 24, 99]),
-            3 => parts[3] = random.one_of(&[0, 59, 60, 99]),
-            4 => parts[4] = random.one_of(&[0, 59, 60, 99]),
-            5 => year = 0,
-            _ => zone = far_zone(random),
+    if random.once_in(3) {
+        spoil(random, &mut year, &mut parts, &mut zone);
+        while random.once_in(2) {
+            spoil(random, &mut year, &mut parts, &mut zone);
         }
     }
-    let mut text = format!("{year:04}");
-    for part in &parts[..count] {
-        text += &format!("{part:02}");
-    }
+    let mut text = digits_of(year, &parts[..count]);
     if count == 5 && !random.once_in(4) || random.once_in(50) {
         let digits = if random.once_in(8) { random.from(0, 6) } else { random.from(1, 4) };
         text.push('.');
         text.extend((0..digits).map(|_| (b'0' + random.below(10) as u8) as char));
     }
     (text + &zone).into_bytes()
+}
+
+/// A timestamp of the right form whose date, clock or offset is impossible, or several of these.
+pub fn impossible(random: &mut Random) -> String {
+    // Where several are, the first is told; so those that come later are chosen alone more often.
+    const PARTS: [[bool; 3]; 12] = {
+        let (date, clock, zone) = ([true, false, false], [false, true, false], [false, false, true]);
+        [date, date, clock, clock, clock, zone, zone, zone, [true, true, false], [true, false, true], [false, true, true], [true; 3]]
+    };
+    let [wrong_date, wrong_clock, wrong_zone] = random.one_of(&PARTS);
+    let mut year = year(random);
+    let mut parts = parts(random, year);
+    let count = random.from(if wrong_clock || wrong_zone { 3 } else { 0 }, 5);
+    if wrong_date {
+        // A month or a day counts only where it is written.
+        match random.below(3).min(count) {
+            0 => year = 0,
+            1 => parts[0] = random.one_of(&[0, 13, 99]),
+            _ => parts[1] = random.one_of(&[0, month_length(year, parts[0]) + 1, 99]),
+        }
+    }
+    if wrong_clock {
+        let at = random.from(2, count - 1);
+        parts[at] = random.one_of(if at == 2 { &[24, 25, 99] } else { &[60, 61, 99] });
+    }
+    let zone = match wrong_zone {
+        true => impossible_zone(random),
+        false if count >= 3 && random.once_in(2) => zone(random),
+        false => String::new(),
+    };
+    let fraction = if count == 5 { random.one_of(&["", ".0", ".9999"]) } else { "" };
+    digits_of(year, &parts[..count]) + fraction + &zone
 }
 
 /// Changes a text in one place.
@@ -426,9 +532,9 @@ fn lengthen(random: &mut Random, text: &mut Vec<u8>) {
     text.resize(random.from(MOST_BYTES - 4, MOST_BYTES + 4), byte);
 }
 
-/// A text: a timestamp, a damaged one, a long one, or bytes without a plan.
+/// A text: a timestamp, an impossible one, a damaged one, a long one, or bytes without a plan.
 pub fn text(random: &mut Random) -> Vec<u8> {
-    let mut text = timestamp(random);
+    let mut text = if random.once_in(6) { impossible(random).into_bytes() } else { timestamp(random) };
     match random.below(1000) {
         0..=9 => lengthen(random, &mut text),
         10..=59 => return (0..random.from(0, 24)).map(|_| random.one_of(BYTES)).collect(),
@@ -459,6 +565,10 @@ fn made_texts(options: &Options, calendar: &Calendar) -> Counts {
         let case = Case { text: &text, offset, before: random.next() as i64, due: due(&text, offset, calendar) };
         trial.guard(case, random.below(64), random.one_of(&GUARDS));
         trial.fence(case);
+        if let Due::Refused(DATE | CLOCK | ZONE) = case.due {
+            let faults = read(std::str::from_utf8(&text).unwrap(), offset, calendar).unwrap_err();
+            trial.counts.by_impossible[IMPOSSIBLE.iter().position(|(of, _, _)| *of == faults).unwrap()] += 1;
+        }
     }
     trial.counts
 }
@@ -478,7 +588,7 @@ fn every_day() -> Counts {
             let date = format!("{year:04}{month:02}{number:02}");
             if (day.year, day.month, day.day) != (year, month, number) {
                 let text = format!("{date}235959.9999+1400");
-                let case = |end: usize| Case { text: &text.as_bytes()[..end], offset, before, due: Due::Refused(VALUE) };
+                let case = |end: usize| Case { text: &text.as_bytes()[..end], offset, before, due: Due::Refused(DATE) };
                 trial.guard(case(8), shift, b'0');
                 for end in [10, 12, 14, 16, 17, 18, 19, 24] {
                     trial.ask(case(end));
@@ -699,15 +809,8 @@ pub fn run(options: &Options) -> bool {
     let made = made_texts(options, &calendar);
     made.print(&format!("{} texts made from seed {}", options.cases, options.seed));
     let mut alike = made.differences == 0;
-    // A run of some size that never gave one of the answers has not tried what it should.
     if options.cases >= 100_000 {
-        let below_zero = ("accepted, a tick below 0".to_string(), made.below_zero);
-        for (kind, count) in made.kinds().into_iter().chain([below_zero]) {
-            if count == 0 {
-                println!("tick: no answer was '{kind}'");
-                alike = false;
-            }
-        }
+        alike &= made.is_broad();
     }
     if !options.only_made {
         let days = every_day();

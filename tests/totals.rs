@@ -1,13 +1,14 @@
 //! `rigcactus_totals_open`, `rigcactus_totals_start`, `rigcactus_totals_add` and `rigcactus_totals_report` against a second keeper of the
 //! daily totals of two desks (day.rs).
 
-use crate::day::{self, Days, Record, Report, Table, ADDED, DAY_FULL, DESKS, NO_ROW, NULL, TOTAL};
+use crate::day::{self, Days, Record, Report, Table, ADDED, DESKS, NULL};
 use crate::lender::HAS_SERVICE;
 use crate::limits;
 use crate::mixed;
 use crate::money::{self, Given};
 use crate::random::Random;
 use crate::records::Maker;
+use crate::refusals::{DAY_FULL, NO_ROW, TOTAL};
 use crate::rows::{self, NO_DESKS};
 use crate::shares::Counts;
 use crate::table;

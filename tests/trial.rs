@@ -2,9 +2,11 @@
 //! the table and of the report.
 
 use crate::day::{self, Days, Record, Report, Table, DESKS};
+use crate::faults;
 use crate::lender::{Lender, Outcome};
 use crate::money::Given;
 use crate::random::Random;
+use crate::refusals::{CLOCK, DATE, TYPE, ZONE};
 use crate::shares::Counts;
 use crate::tick::Calendar;
 
@@ -62,7 +64,12 @@ impl Trial {
     /// Gives a record of a desk to the days and to their table. The days are what is due, so that one difference does not bring others.
     pub fn add(&mut self, days: &mut Days, desk: u64, given: &Given) -> u64 {
         let read = day::read(&given.0, given.1, &self.calendar);
-        self.add_read(days, desk, given, read)
+        let answer = self.add_read(days, desk, given, read);
+        if answer == TYPE {
+            let faults = faults::judge(&given.0, given.1, &self.calendar).faults;
+            self.counts.impossible_times += u64::from([DATE, CLOCK, ZONE].iter().any(|fault| faults.contains(fault)));
+        }
+        answer
     }
 
     /// The same with a record that was read before.

@@ -24,6 +24,8 @@ mod places;
 mod printed;
 #[path = "../random.rs"]
 mod random;
+#[path = "../refusals.rs"]
+mod refusals;
 #[path = "../tick.rs"]
 mod tick;
 
