@@ -5,15 +5,17 @@
 //!
 //! N is how many texts, records, pairs or lists are tried with each service (500000), made from the seed S (1); a record to list is tried
 //! with two lists, and half as many are made. The same N and S make the same ones. Besides, every text and list of some kinds is tried, as
-//! every short one and every day, unless --only-made is given. NAME is the one service to try. A table says how often each answer
-//! occurred. The exit status is 1 where a service and the other implementation differ, or where some answer hardly occurred, and 2 for bad
-//! usage.
+//! every short one, every day and every impossible time, unless --only-made is given. NAME is the one service to try, or `impossible` for
+//! the impossible times alone. A table says how often each answer occurred. The exit status is 1 where a service and the other
+//! implementation differ, or where some answer hardly occurred, and 2 for bad usage.
 
+mod built;
 mod check;
 mod compare;
 mod cut;
 mod day;
 mod faults;
+mod impossible;
 mod lender;
 mod lent;
 mod likeness;
@@ -45,8 +47,8 @@ use std::process::ExitCode;
 
 use options::Options;
 
-/// What tries each service, and says whether it agrees with the other implementation.
-const SERVICES: [(&str, fn(&Options) -> bool); 7] = [
+/// What tries each service, and says whether it agrees with the other implementation; and what tries impossible times with all of them.
+const SERVICES: [(&str, fn(&Options) -> bool); 8] = [
     ("cut", cut::run),
     ("tick", tick::run),
     ("check", check::run),
@@ -54,6 +56,7 @@ const SERVICES: [(&str, fn(&Options) -> bool); 7] = [
     ("compare", compare::run),
     ("print", print::run),
     ("totals", totals::run),
+    ("impossible", impossible::run),
 ];
 
 fn options() -> Option<Options> {
