@@ -34,6 +34,16 @@ static volatile uint8_t last_read;
 /* Where the byte after a table is. A compiler that knew it would warn. */
 static volatile size_t after_table = 8 * RIGCACTUS_TABLE_NUMBERS;
 
+/* Whether a record has a text in it. */
+static int has(const uint8_t *record, size_t record_len, const char *text)
+{
+    size_t length = strlen(text);
+    for (size_t i = 0; i + length <= record_len; i++)
+        if (memcmp(record + i, text, length) == 0)
+            return 1;
+    return 0;
+}
+
 static int planted(void)
 {
     static int fault = -1;
@@ -69,6 +79,11 @@ uint64_t __wrap_rigcactus_tick(const uint8_t *text, size_t text_len, int64_t off
     case 9: last_read = text[text_len]; break;                             /* a byte after the text is read */
     case 10: last_read = text[-1]; break;                                  /* a byte before it */
     case 11: return text_len == 14 && text[13] == ':' ? 14 << 8 : answer;  /* the byte after 9 is taken for a digit */
+    case 63: return answer == RIGCACTUS_DATE && text_len >= 10 ? RIGCACTUS_CLOCK : answer;
+    case 64: return answer == RIGCACTUS_ZONE ? RIGCACTUS_VALUE : answer;
+    case 65: return answer == RIGCACTUS_VALUE && has(text, text_len, "19000229") ? RIGCACTUS_DATE : answer; /* whatever the form */
+    case 66: return answer == RIGCACTUS_CLOCK && has(text, text_len, "+15") ? RIGCACTUS_ZONE : answer; /* the last that applies */
+    case 67: *tick += answer == RIGCACTUS_ZONE; break;                     /* written though it is refused */
     }
     return answer;
 }
@@ -81,6 +96,11 @@ uint64_t __wrap_rigcactus_check(const uint8_t *record, size_t record_len, int64_
     case 12: return answer == RIGCACTUS_RULE ? RIGCACTUS_ACCEPTED : answer;
     case 13: return answer == RIGCACTUS_VALUE && record_len > 200 ? RIGCACTUS_SHAPE : answer;
     case 14: return answer == RIGCACTUS_ACCEPTED && record[record_len - 1] == '\n' ? RIGCACTUS_MARKUP : answer;
+    case 68: return answer == RIGCACTUS_DATE && has(record, record_len, "nullFlavor") ? RIGCACTUS_RULE : answer;
+    case 69: return answer == RIGCACTUS_DATE && has(record, record_len, "24\"/>") ? RIGCACTUS_CLOCK : answer;
+    case 70: return answer == RIGCACTUS_VALUE && has(record, record_len, "20240230\"") ? RIGCACTUS_DATE : answer;
+    case 71: return answer == RIGCACTUS_ZONE ? RIGCACTUS_VALUE : answer;
+    case 72: return answer == RIGCACTUS_CLOCK ? RIGCACTUS_ACCEPTED : answer;
     }
     return answer;
 }
@@ -96,6 +116,9 @@ uint64_t __wrap_rigcactus_list(const uint8_t *record, size_t record_len, int64_t
     case 17: return count > 1 ? answer - 256 : answer;                                  /* a stretch is left out */
     case 18: if (count > 0 && list[0] == RIGCACTUS_CLOSED) list[0] = RIGCACTUS_OPEN; break;
     case 19: return answer == RIGCACTUS_TOO_MANY ? RIGCACTUS_UNKNOWN_BOUND : answer;
+    case 73: return answer == RIGCACTUS_CLOCK && list_len < 32 ? RIGCACTUS_NO_ROOM : answer;
+    case 74: return answer == RIGCACTUS_DATE && !has(record, record_len, "<high") ? RIGCACTUS_UNKNOWN_BOUND : answer;
+    case 75: return answer == RIGCACTUS_TYPE && has(record, record_len, "19000229") ? RIGCACTUS_DATE : answer;
     }
     return answer;
 }
@@ -108,6 +131,8 @@ uint64_t __wrap_rigcactus_compare(const uint8_t *first, size_t first_len, const 
     case 20: return answer == RIGCACTUS_UNKNOWN << 16 ? RIGCACTUS_YES << 16 : answer;
     case 21: return rigcactus_refused_record(answer) == 2 ? answer - 256 : answer;      /* the first is named for the second */
     case 22: return answer == RIGCACTUS_NO << 16 && first_len > second_len ? RIGCACTUS_UNKNOWN << 16 : answer;
+    case 76: return answer == (2 << 8 | RIGCACTUS_DATE) ? 2 << 8 | RIGCACTUS_TYPE : answer;
+    case 77: return rigcactus_refusal(answer) == RIGCACTUS_ZONE ? answer - RIGCACTUS_ZONE + RIGCACTUS_VALUE : answer;
     }
     return answer;
 }
@@ -221,6 +246,8 @@ uint64_t __wrap_rigcactus_totals_add(uint64_t table[RIGCACTUS_TABLE_NUMBERS], ui
     memcpy(before, table, sizeof before);
     uint64_t answer = __real_rigcactus_totals_add(table, desk, record, record_len, offset);
 
+    if (planted() == 78 && answer == RIGCACTUS_TYPE && has(record, record_len, "19000229"))
+        return RIGCACTUS_DATE; /* an impossible time of another type is told */
     if (answer != RIGCACTUS_NO_DESK) {
         answer = with_fault_of_one(table, before, table + 3 * desk - 2, record, record_len, answer);
         return with_fault_of_two(table, before, desk, answer);

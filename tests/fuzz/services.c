@@ -131,7 +131,35 @@ static uint64_t check(struct lent record, int64_t offset)
     return rigcactus_check(record.bytes, record.length, offset);
 }
 
-/* OFFSET, TOO LONG and NOT UTF-8 are given exactly where they apply: the smallest of them, and before anything else. */
+/* The refusals from the one that comes first, where several apply, to the last. */
+static const int precedence[] = {
+    RIGCACTUS_NO_DESK, RIGCACTUS_DAMAGED, RIGCACTUS_DAY_FULL, RIGCACTUS_OFFSET, RIGCACTUS_TOO_LONG, RIGCACTUS_NOT_UTF8, RIGCACTUS_MARKUP,
+    RIGCACTUS_TYPE, RIGCACTUS_SHAPE, RIGCACTUS_VALUE, RIGCACTUS_DATE, RIGCACTUS_CLOCK, RIGCACTUS_ZONE, RIGCACTUS_RULE,
+    RIGCACTUS_UNKNOWN_BOUND, RIGCACTUS_TOO_MANY, RIGCACTUS_NOT_WRITABLE, RIGCACTUS_NO_ROOM, RIGCACTUS_NO_ROW, RIGCACTUS_TOTAL,
+};
+
+/* Where a refusal stands in that list. */
+static size_t rank_of(int refusal)
+{
+    size_t rank = 0, count = sizeof precedence / sizeof precedence[0];
+    while (rank < count && precedence[rank] != refusal)
+        rank++;
+    CLAIM(rank < count);
+    return rank;
+}
+
+static int comes_before(int refusal, int other)
+{
+    return rank_of(refusal) < rank_of(other);
+}
+
+/* Whether checking can give a number. */
+static int is_of_check(int refusal)
+{
+    return refusal == RIGCACTUS_ACCEPTED || (!comes_before(refusal, RIGCACTUS_OFFSET) && !comes_before(RIGCACTUS_RULE, refusal));
+}
+
+/* OFFSET, TOO LONG and NOT UTF-8 are given exactly where they apply: the first of them, and before anything else. */
 static void claim_first_refusals(struct lent record, int64_t offset, int refusal)
 {
     int is_text = rigcactus_refusal(rigcactus_cut(record.bytes, record.length, 0)) != RIGCACTUS_NOT_UTF8;
@@ -143,7 +171,7 @@ static void claim_first_refusals(struct lent record, int64_t offset, int refusal
     else if (!is_text)
         CLAIM(refusal == RIGCACTUS_NOT_UTF8);
     else
-        CLAIM(refusal == RIGCACTUS_ACCEPTED || refusal >= RIGCACTUS_MARKUP);
+        CLAIM(refusal == RIGCACTUS_ACCEPTED || comes_before(RIGCACTUS_NOT_UTF8, refusal));
 }
 
 /* ---- Cut ---------------------------------------------------------------------------------------------------------- */
@@ -218,22 +246,86 @@ static void claim_tick(struct lent text, int64_t offset, uint64_t answer, int64_
     CLAIM(tick == (has_offset(text) ? at_zero : at_zero - offset * 60 * RIGCACTUS_TICKS_PER_SECOND));
 }
 
-/* A text is a timestamp exactly if a record of type TS with that value is accepted, and else its value is to blame. */
-static void claim_as_record(struct lent text, int64_t offset, int refusal)
+/* The parts of a timestamp: 8 digits of a date, 6 of a clock before any point, and those after a sign. */
+enum { DATE_PART = 1, CLOCK_PART = 2, ZONE_PART = 4 };
+
+static int part_of(size_t digits_before, int is_after_point, int is_after_sign)
 {
-    static const char before[] = "<t xsi:type=\"TS\" value=\"", after[] = "\"/>";
-    size_t head = sizeof before - 1, tail = sizeof after - 1, length = head + text.length + tail;
+    if (is_after_sign)
+        return ZONE_PART;
+    if (is_after_point || digits_before >= 14)
+        return 0;
+    return digits_before < 8 ? DATE_PART : CLOCK_PART;
+}
+
+/* What a text is refused for if of its parts only those given keep their digits, and the others get those of the first time. */
+static int refusal_of_parts(struct lent text, int64_t offset, int kept)
+{
+    static const char first[] = "00010101000000";
+    uint8_t *changed = two.start + ROOM - text.length;
+    int is_after_point = 0, is_after_sign = 0;
+    size_t digits = 0;
+    int64_t tick = 0;
+
+    for (size_t i = 0; i < text.length; i++) {
+        changed[i] = text.bytes[i];
+        is_after_point |= text.bytes[i] == '.';
+        is_after_sign |= text.bytes[i] == '+' || text.bytes[i] == '-';
+        if ('0' <= text.bytes[i] && text.bytes[i] <= '9') {
+            int part = part_of(digits, is_after_point, is_after_sign);
+            if (part != 0 && !(part & kept))
+                changed[i] = part == ZONE_PART ? '0' : (uint8_t)first[digits];
+            digits++;
+        }
+    }
+    return rigcactus_refusal(rigcactus_tick(changed, text.length, offset, &tick));
+}
+
+/* VALUE does not go by the digits. A text that is not VALUE is refused for the first of its date, clock and offset that is impossible, and each
+   of these is so whatever the others are. */
+static void claim_parts(struct lent text, int64_t offset, int refusal)
+{
+    if (!is_offset(offset) || text.length > RIGCACTUS_MOST_BYTES)
+        return;
+    int form = refusal_of_parts(text, offset, 0), date = refusal_of_parts(text, offset, DATE_PART);
+    int clock = refusal_of_parts(text, offset, CLOCK_PART), zone = refusal_of_parts(text, offset, ZONE_PART);
+
+    if (refusal == RIGCACTUS_VALUE) {
+        CLAIM(form == RIGCACTUS_VALUE && date == RIGCACTUS_VALUE && clock == RIGCACTUS_VALUE && zone == RIGCACTUS_VALUE);
+        return;
+    }
+    CLAIM(form == RIGCACTUS_ACCEPTED);
+    CLAIM(date == RIGCACTUS_ACCEPTED || date == RIGCACTUS_DATE);
+    CLAIM(clock == RIGCACTUS_ACCEPTED || clock == RIGCACTUS_CLOCK);
+    CLAIM(zone == RIGCACTUS_ACCEPTED || zone == RIGCACTUS_ZONE);
+    CLAIM(refusal == (date != RIGCACTUS_ACCEPTED ? date : clock != RIGCACTUS_ACCEPTED ? clock : zone));
+}
+
+/* What checking says of an element that a text is put into, if it can stand in a value and the record is not too long; else the number given. */
+static int check_around(const char *before, struct lent text, const char *after, int64_t offset, int otherwise)
+{
+    size_t head = strlen(before), tail = strlen(after), length = head + text.length + tail;
     uint8_t *record = two.start + ROOM - length;
 
     for (size_t i = 0; i < text.length; i++)
         if (text.bytes[i] < ' ' || text.bytes[i] > '~' || strchr("<&\"", text.bytes[i]))
-            return;
+            return otherwise;
     if (length > RIGCACTUS_MOST_BYTES)
-        return;
+        return otherwise;
     memcpy(record, before, head);
     memcpy(record + head, text.bytes, text.length);
     memcpy(record + head + text.length, after, tail);
-    CLAIM(rigcactus_check(record, length, offset) == (uint64_t)refusal);
+    return rigcactus_refusal(rigcactus_check(record, length, offset));
+}
+
+/* A text is refused for the same in a record, as a value and as a bound; beside a nullFlavor, where it may not stand, too. */
+static void claim_as_record(struct lent text, int64_t offset, int refusal)
+{
+    int rule = refusal == RIGCACTUS_ACCEPTED ? RIGCACTUS_RULE : refusal;
+
+    CLAIM(check_around("<t xsi:type=\"TS\" value=\"", text, "\"/>", offset, refusal) == refusal);
+    CLAIM(check_around("<t xsi:type=\"IVL_TS\" lowClosed=\"true\"><low value=\"", text, "\"/></t>", offset, refusal) == refusal);
+    CLAIM(check_around("<t xsi:type=\"TS\" nullFlavor=\"NI\" value=\"", text, "\"/>", offset, rule) == rule);
 }
 
 static void try_tick(const uint8_t *bytes, size_t length, int64_t offset, uint8_t fill)
@@ -253,9 +345,11 @@ static void try_tick(const uint8_t *bytes, size_t length, int64_t offset, uint8_
     if (refusal == RIGCACTUS_ACCEPTED) {
         claim_tick(text, offset, answer, *tick);
     } else {
-        CLAIM(answer == RIGCACTUS_OFFSET || answer == RIGCACTUS_TOO_LONG || answer == RIGCACTUS_VALUE);
+        CLAIM(answer == RIGCACTUS_OFFSET || answer == RIGCACTUS_TOO_LONG || answer == RIGCACTUS_VALUE || answer == RIGCACTUS_DATE ||
+              answer == RIGCACTUS_CLOCK || answer == RIGCACTUS_ZONE);
         CLAIM(memcmp(tick, before, 8) == 0);
     }
+    claim_parts(text, offset, refusal);
     claim_as_record(text, offset, refusal);
     CLAIM(length == 0 || memcmp(text.bytes, bytes, length) == 0);
     text = place(one, bytes, length, 0);
@@ -287,7 +381,7 @@ static void try_check(const uint8_t *bytes, size_t length, int64_t offset)
 
     see(2, answer, 0);
     CLAIM(answer == second_check(record.bytes, record.length, offset));
-    CLAIM(answer <= RIGCACTUS_RULE);
+    CLAIM(answer == (uint64_t)refusal && is_of_check(refusal));
     claim_first_refusals(record, offset, refusal);
     /* The agreed offset decides OFFSET, and whether bounds are crossed, which is RULE; nothing else. */
     if (is_offset(offset)) {
@@ -365,7 +459,7 @@ static void claim_checked(struct lent record, int64_t offset, int refusal)
     if (checked == RIGCACTUS_ACCEPTED)
         CLAIM(refusal == RIGCACTUS_ACCEPTED || refusal == RIGCACTUS_TYPE || refusal == RIGCACTUS_UNKNOWN_BOUND ||
               refusal == RIGCACTUS_TOO_MANY || refusal == RIGCACTUS_NO_ROOM);
-    else if (checked <= RIGCACTUS_TYPE)
+    else if (!comes_before(RIGCACTUS_TYPE, checked))
         CLAIM(refusal == checked);
     else
         CLAIM(refusal == checked || refusal == RIGCACTUS_TYPE);
@@ -405,7 +499,7 @@ static void try_list(const uint8_t *bytes, size_t length, int64_t offset, size_t
     see(3, answer, count);
     CLAIM(answer == second_list(record.bytes, record.length, offset, due, list_length));
     CLAIM(memcmp(list.bytes, due, list_length) == 0);
-    CLAIM(refusal <= RIGCACTUS_NO_ROOM);
+    CLAIM(is_of_check(refusal) || refusal == RIGCACTUS_UNKNOWN_BOUND || refusal == RIGCACTUS_TOO_MANY || refusal == RIGCACTUS_NO_ROOM);
     CLAIM(refusal == RIGCACTUS_ACCEPTED ? answer == (uint64_t)count << 8 : answer == (uint64_t)refusal);
     CLAIM(count <= RIGCACTUS_MOST_INTERVALS && written <= list.length);
     CLAIM(is_all(list.bytes + written, list.length - written, fill) && is_all(list.bytes - 64, 64, 0x69));
@@ -668,7 +762,9 @@ static uint64_t add_alone(uint64_t desk, struct lent record, int64_t offset, uin
     if (checked == RIGCACTUS_ACCEPTED)
         CLAIM(refusal == RIGCACTUS_ACCEPTED || refusal == RIGCACTUS_TYPE);
     else
-        CLAIM(refusal == checked || (refusal == RIGCACTUS_TYPE && checked > RIGCACTUS_TYPE));
+        CLAIM(refusal == checked || (refusal == RIGCACTUS_TYPE && comes_before(RIGCACTUS_TYPE, checked)));
+    /* Money has no times. */
+    CLAIM(refusal != RIGCACTUS_DATE && refusal != RIGCACTUS_CLOCK && refusal != RIGCACTUS_ZONE);
     return answer;
 }
 
