@@ -136,6 +136,10 @@ function glances() {
   glance("tick", "years 2020 to 2029", "desk", "glibc", "strptime, timegm")
   glance("tick", "years 1 to 9", "early", "glibc", "strptime, timegm")
   glance("tick", "years 9990 to 9999", "late", "glibc", "strptime, timegm")
+  glance("tick", "read part by part", "parts", "glibc", "strptime, timegm by parts")
+  glance("tick", "an impossible date", "date", "glibc", "strptime, timegm by parts")
+  glance("tick", "an impossible clock", "clock", "glibc", "strptime, timegm by parts")
+  glance("tick", "an impossible offset", "zone", "glibc", "strptime, timegm by parts")
   glance("check", "an amount", "money", "expat", "expat, bare parse")
   glance("check", "a name", "name-100", "expat", "expat, bare parse")
   glance("check", "a name", "name-1000", "expat", "expat, bare parse")
@@ -186,6 +190,13 @@ function cuts(  texts) {
   by_set("cut", "mbrtowc", texts)
 }
 
+function ticks() {
+  title("Beside glibc's `strptime` and `timegm`:")
+  by_set("tick", "glibc", "desk early late all year month day hour minute offset fraction")
+  title("Beside the same part by part, which says what is wrong:")
+  by_set("tick", "glibc", "parts date clock zone form")
+}
+
 function lists(  records) {
   records = "flat-1 flat-32 deep-32 both-32 less-32"
   title("Beside expat and Boost.ICL:")
@@ -230,7 +241,7 @@ END {
   else if (part == "shares") all_shares()
   else if (part == "growth") growths()
   else if (part == "cut") cuts()
-  else if (part == "tick") by_set("tick", "glibc", "desk early late all year month day hour minute offset fraction")
+  else if (part == "tick") ticks()
   else if (part == "list") lists()
   else if (part == "compare") compares()
   else if (part == "print") by_set("print", "glibc", "open-1 open-32")

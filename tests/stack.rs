@@ -286,7 +286,9 @@ fn long_records() -> Vec<Input> {
             format!("<t xsi:type=\"CD\" code=\"a\" codeSystem=\"{oid}\" codeSystemName=\"a\" codeSystemVersion=\"a\"><displayName value=\"a\"/></t>"),
         ),
         input("a timestamp", "<t xsi:type=\"TS\" value=\"99991231235959.9999-1400\"/>"),
+        input("an impossible timestamp", "<t xsi:type=\"TS\" value=\"20241332246060.9999-9999\"/>"),
         input("an interval", interval("t", 1)),
+        input("an interval of impossible times", interval("t", 1).replace("0229", "0230").replace("-1400", "-1401")),
         input("many terms", filled("<t xsi:type=\"QSU_TS\">", &interval("term", 1), "</t>")),
         input("siblings at the eighth level", filled(&deep, "<b/>", &end)),
         input("siblings at the ninth level", filled(&format!("{deep}<a>"), "<b/>", &format!("</a>{end}"))),
@@ -307,6 +309,7 @@ fn long_texts() -> Vec<Input> {
         .into_iter()
         .collect();
     inputs.extend(["0001", "99991231235959.9999+1400", "20000229", "2024050112-14", "20240501123059.1+0530"].map(|text| input(text, text)));
+    inputs.extend(["19000229", "20240501123060", "2024050112+1401", "20241332246060.9999-9999"].map(|text| input(text, text)));
     inputs.push(input("too long", vec![b'a'; faults::MOST_BYTES + 1]));
     inputs.push(input("none", ""));
     inputs
