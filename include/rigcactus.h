@@ -105,8 +105,8 @@ extern "C" {
 
 /*
  * The refusals of all services, and their numbers. Where several apply, a service gives the one that comes first in this
- * list. The list is the order, and the numbers are only names: 23 stands before 1 and 12 before 11, and a refusal that is added
- * later may stand anywhere. So ask whether a number equals one of these, and not whether it is smaller.
+ * list. The list is the order, and the numbers are only names: 23 stands before 1, 13 before 8 and 12 before 11, and a refusal
+ * that is added later may stand anywhere. So ask whether a number equals one of these, and not whether it is smaller.
  */
 enum rigcactus_refusals {
     RIGCACTUS_ACCEPTED = 0,       /* no refusal */
@@ -120,6 +120,9 @@ enum rigcactus_refusals {
     RIGCACTUS_TYPE = 5,           /* a type is missing, unknown or not allowed at its place */
     RIGCACTUS_SHAPE = 6,          /* attributes or children are not allowed, missing or out of order */
     RIGCACTUS_VALUE = 7,          /* an attribute's text is not of its form */
+    RIGCACTUS_DATE = 13,          /* a timestamp of the right form has a year, month or day that is on no calendar */
+    RIGCACTUS_CLOCK = 14,         /* a timestamp of the right form has an hour over 23, or a minute or second over 59 */
+    RIGCACTUS_ZONE = 15,          /* a timestamp of the right form has an offset over 14:00, or with minutes over 59 */
     RIGCACTUS_RULE = 8,           /* an invariant of the data types is broken */
     RIGCACTUS_UNKNOWN_BOUND = 9,  /* a listed set or interval is null, or has a bound that is not known */
     RIGCACTUS_TOO_MANY = 10,      /* a listed set has over 32 intervals */
@@ -147,6 +150,9 @@ static inline const char *rigcactus_refusal_name(int refusal)
     case RIGCACTUS_TYPE: return "TYPE";
     case RIGCACTUS_SHAPE: return "SHAPE";
     case RIGCACTUS_VALUE: return "VALUE";
+    case RIGCACTUS_DATE: return "DATE";
+    case RIGCACTUS_CLOCK: return "CLOCK";
+    case RIGCACTUS_ZONE: return "ZONE";
     case RIGCACTUS_RULE: return "RULE";
     case RIGCACTUS_UNKNOWN_BOUND: return "UNKNOWN BOUND";
     case RIGCACTUS_TOO_MANY: return "TOO MANY";
@@ -291,9 +297,10 @@ static inline struct rigcactus_total rigcactus_total_at(const uint64_t *report, 
 uint64_t rigcactus_cut(const uint8_t *text, size_t text_len, uint64_t room);
 
 /*
- * Turns a timestamp into a tick. The text is YYYY, then MM, DD, hh, mm, ss, each only after the one before; after ss
- * optionally `.` and 1 to 4 digits; after hh or finer optionally an offset from UTC, `+` or `-` with hh or hhmm, 14:00 at
- * most. Nothing may stand before it or after it. Parts that are missing take their first value. Years are 0001 to 9999.
+ * Turns a timestamp into a tick. Its form is YYYY, then MM, DD, hh, mm, ss, digits alone and each only after the one before; after
+ * ss optionally `.` and 1 to 4 digits; after hh or finer optionally an offset from UTC, `+` or `-` with hh or hhmm. Nothing may
+ * stand before it or after it. Parts that are missing take their first value. Years are 0001 to 9999, months 01 to 12, days those
+ * of the month; hours 00 to 23, minutes and seconds 00 to 59; an offset is 14:00 at most, and its minutes are 00 to 59.
  *
  * text, text_len    the text. It need not end in a zero byte, and one inside it makes it no timestamp.
  * offset            the agreed offset, in minutes east of UTC, -RIGCACTUS_MOST_OFFSET to RIGCACTUS_MOST_OFFSET. It stands for
@@ -305,9 +312,12 @@ uint64_t rigcactus_cut(const uint8_t *text, size_t text_len, uint64_t room);
  * point not: 4, 6, 8, 10, 12 or 14 to 18. The offset is subtracted, so that a tick is a time in UTC, and the tick of a text
  * in the year 0001 can be below zero: ticks are from -504000000 to 3155379479999999.
  *
- * Refusals: RIGCACTUS_OFFSET; RIGCACTUS_TOO_LONG; RIGCACTUS_VALUE for a text that is no timestamp, whatever its bytes.
+ * Refusals: RIGCACTUS_OFFSET; RIGCACTUS_TOO_LONG; RIGCACTUS_VALUE for a text that is not of the form, whatever its bytes; for one
+ * that is, RIGCACTUS_DATE if there is no such year, month or day, RIGCACTUS_CLOCK if there is no such hour, minute or second, and
+ * RIGCACTUS_ZONE if there is no such offset.
  *
- * 19700101 with agreed offset 0 has precision 8 and tick 621355968000000, with agreed offset 60 an hour less.
+ * 19700101 with agreed offset 0 has precision 8 and tick 621355968000000, with agreed offset 60 an hour less. 19000229 is
+ * RIGCACTUS_DATE, 1970010124 RIGCACTUS_CLOCK, 1970010100+1401 RIGCACTUS_ZONE; 1970-01-01 is RIGCACTUS_VALUE.
  */
 uint64_t rigcactus_tick(const uint8_t *text, size_t text_len, int64_t offset, int64_t *tick);
 
@@ -325,10 +335,12 @@ uint64_t rigcactus_tick(const uint8_t *text, size_t text_len, int64_t offset, in
  * The answer has a refusal and nothing else: it is 0 if the record is accepted.
  *
  * Refusals: RIGCACTUS_OFFSET, RIGCACTUS_TOO_LONG, RIGCACTUS_NOT_UTF8, RIGCACTUS_MARKUP, RIGCACTUS_TYPE, RIGCACTUS_SHAPE,
- * RIGCACTUS_VALUE, RIGCACTUS_RULE: the first that applies anywhere in the record.
+ * RIGCACTUS_VALUE, RIGCACTUS_DATE, RIGCACTUS_CLOCK, RIGCACTUS_ZONE, RIGCACTUS_RULE: the first that applies anywhere in the record.
+ * rigcactus_tick says when a timestamp is which; one that stands beside a nullFlavor is judged too. A wrong form anywhere in the
+ * record comes before an impossible date anywhere, and that before an impossible clock.
  *
  * <t xsi:type="MO" value="12.50" currency="EUR"/> is accepted; with value="12,50" it is RIGCACTUS_VALUE, without currency
- * RIGCACTUS_RULE.
+ * RIGCACTUS_RULE. <t xsi:type="TS" value="20240230"/> is RIGCACTUS_DATE.
  */
 uint64_t rigcactus_check(const uint8_t *record, size_t record_len, int64_t offset);
 
@@ -493,9 +505,10 @@ uint64_t rigcactus_totals_start(uint64_t table[RIGCACTUS_TABLE_NUMBERS], uint64_
  * table has over 32 rows or one of neither desk, or if either desk, whichever is given, has over RIGCACTUS_MOST_CURRENCIES rows,
  * in one of them a currency that is not three letters A to Z or stands in another of them too, or a total out of range, or counts
  * whose sum is over RIGCACTUS_MOST_COUNTED; RIGCACTUS_DAY_FULL exactly if that sum is RIGCACTUS_MOST_COUNTED for the desk given;
- * then those of rigcactus_check, with RIGCACTUS_TYPE also for a record of another type, null or not; then RIGCACTUS_NO_ROW for a
- * currency that is new to the desk where it holds RIGCACTUS_MOST_CURRENCIES; RIGCACTUS_TOTAL if the new total would be out of
- * range. No calls of these services damage a table that was opened.
+ * then those of rigcactus_check, with RIGCACTUS_TYPE also for a record of another type, null or not, and so never RIGCACTUS_DATE,
+ * RIGCACTUS_CLOCK or RIGCACTUS_ZONE, since money has no timestamp; then RIGCACTUS_NO_ROW for a currency that is new to the desk
+ * where it holds RIGCACTUS_MOST_CURRENCIES; RIGCACTUS_TOTAL if the new total would be out of range. No calls of these services
+ * damage a table that was opened.
  *
  * A day of desk 1 of five records of type MO: value="12.50" currency="EUR", value="3" currency="USD", nullFlavor="NASK",
  * value="12,50" currency="EUR", value="-12.5" currency="EUR". They are added, added, null, refused as RIGCACTUS_VALUE, and added.
