@@ -4,6 +4,7 @@
 #include "text.h"
 #include "times.h"
 #include "words.h"
+#include "wrong_time.h"
 
 #include <stdio.h>
 
@@ -22,8 +23,19 @@ static void print_words(const char *words, const struct paper *paper)
     print_wrapped(&text, paper->width);
 }
 
+/* Adds what to tell the clinic that sent a record, for the refusal that it got. What is wrong with a time is named. */
+static void add_advice(struct text *text, int refusal, struct slice record)
+{
+    struct slice timestamp;
+    find_wrong_time(record, refusal, &timestamp);
+    if (add_wrong_time(text, refusal, timestamp))
+        add_words(text, ". Please send the right one.");
+    else
+        add_words(text, refusal_advice(refusal));
+}
+
 /* Prints the refusal of a record, and what to tell the clinic: for TYPE also the types that belong here. Gives 1 back, for a count. */
-static int print_refusal(int refusal, const char *types, const struct paper *paper)
+static int print_refusal(int refusal, struct slice record, const char *types, const struct paper *paper)
 {
     struct text text = {.length = 0};
     add(&text, "Refused: %s (%d)", rigcactus_refusal_name(refusal), refusal);
@@ -31,7 +43,7 @@ static int print_refusal(int refusal, const char *types, const struct paper *pap
 
     struct text advice = {.length = 0};
     add_words(&advice, "Tell the clinic: ");
-    add_words(&advice, refusal_advice(refusal));
+    add_advice(&advice, refusal, record);
     if (refusal == RIGCACTUS_TYPE)
         add(&advice, " This record is to be of type %s.", types);
     print_wrapped(&advice, paper->width);
@@ -119,7 +131,7 @@ static int print_section(const struct section *section, struct slice record, con
     print_words(section->heading, paper);
     int refusal = refusal_of(record, section->type, paper->offset);
     if (refusal != RIGCACTUS_ACCEPTED)
-        return print_refusal(refusal, section->type, paper);
+        return print_refusal(refusal, record, section->type, paper);
 
     struct slice rest = record, tag, flavor;
     take_tag(&rest, &tag);
@@ -152,7 +164,7 @@ static int print_pass(struct slice record, const struct paper *paper)
 
     print_words("Pass holds", paper);
     if (refusal != RIGCACTUS_ACCEPTED)
-        return print_refusal(refusal, "IVL_TS, QSU_TS, QSI_TS or QSD_TS", paper);
+        return print_refusal(refusal, record, "IVL_TS, QSU_TS, QSI_TS or QSD_TS", paper);
     if (count == 0)
         print_words("at no time", paper);
     for (size_t i = 0; i < count; i++)

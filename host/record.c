@@ -11,8 +11,7 @@ static bool is_one_of(uint8_t byte, const char *letters)
     return memchr(letters, byte, strlen(letters)) != NULL;
 }
 
-/* Takes so many bytes from the front, or all if there are fewer. */
-static struct slice take(struct slice *rest, size_t length)
+struct slice take(struct slice *rest, size_t length)
 {
     struct slice taken = {rest->bytes, length < rest->length ? length : rest->length};
     rest->bytes += taken.length;
@@ -20,8 +19,7 @@ static struct slice take(struct slice *rest, size_t length)
     return taken;
 }
 
-/* Takes the bytes before the first that is one of these letters, or all if none is. */
-static struct slice take_until(struct slice *rest, const char *letters)
+struct slice take_until(struct slice *rest, const char *letters)
 {
     size_t length = 0;
     while (length < rest->length && !is_one_of(rest->bytes[length], letters))

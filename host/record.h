@@ -2,8 +2,9 @@
  * Texts out of a record, for printing.
  *
  * The services answer questions about a record and hand no texts of it back. A receipt needs some: these functions find them in a record
- * that rigcactus_check accepted, and rely on it for what they find: that `<` begins tags alone, that attributes stand in double quotes, and
- * that `&` begins one of the five references. Any other bytes are safe to give them too. No byte outside the record is read.
+ * that rigcactus_check accepted, or refused for a time alone, and rely on it for what they find: that `<` begins tags alone, that attributes
+ * stand in double quotes, and that `&` begins one of the five references. Any other bytes are safe to give them too. No byte outside the
+ * record is read.
  */
 #ifndef HOST_RECORD_H
 #define HOST_RECORD_H
@@ -17,6 +18,12 @@ struct slice {
     const uint8_t *bytes;
     size_t length;
 };
+
+/* Takes so many bytes from the front, or all if there are fewer. */
+struct slice take(struct slice *rest, size_t length);
+
+/* Takes the bytes before the first that is one of these letters, or all if none is. */
+struct slice take_until(struct slice *rest, const char *letters);
 
 /*
  * Takes the next start tag, or empty-element tag, from the front of what is left of a record, with all that comes before it. Gives false

@@ -9,6 +9,7 @@
 #include "text.h"
 #include "totals.h"
 #include "words.h"
+#include "wrong_time.h"
 
 #include <inttypes.h>
 #include <string.h>
@@ -68,6 +69,32 @@ static const char *unit_name(int precision)
     case 17: return "thousandth of a second";
     default: return "ten-thousandth of a second";
     }
+}
+
+/* ---- Refusals ----------------------------------------------------------------------------------------------------- */
+
+/* Adds what follows a refusal in its line: after a colon what is wrong with the timestamp, if it is refused for that, else nothing. */
+static void add_detail(struct text *text, int refusal, struct slice timestamp)
+{
+    if (!is_for_time(refusal))
+        return;
+    add(text, ": ");
+    if (!add_wrong_time(text, refusal, timestamp))
+        add_words(text, refusal_advice(refusal));
+}
+
+/* Adds the same for a record that is refused, with the timestamp in it that it is refused for. */
+static void add_record_detail(struct text *text, int refusal, struct slice record)
+{
+    struct slice timestamp;
+    find_wrong_time(record, refusal, &timestamp);
+    add_detail(text, refusal, timestamp);
+}
+
+/* Says on standard error what is refused, and what follows that, and gives REFUSED back. */
+static int say_detailed(int refusal, const struct text *detail)
+{
+    return say(REFUSED, "refused: %s (%d)%.*s", rigcactus_refusal_name(refusal), refusal, (int)detail->length, (const char *)detail->bytes);
 }
 
 /* ---- Desks -------------------------------------------------------------------------------------------------------- */
@@ -145,9 +172,13 @@ static int run_tick(int argument_count, char **arguments, const struct options *
 {
     (void)argument_count;
     int64_t tick;
-    uint64_t answer = rigcactus_tick((const uint8_t *)arguments[0], strlen(arguments[0]), options->offset, &tick);
-    if (rigcactus_refusal(answer) != RIGCACTUS_ACCEPTED)
-        return say_refused(answer);
+    struct slice timestamp = {(const uint8_t *)arguments[0], strlen(arguments[0])};
+    uint64_t answer = rigcactus_tick(timestamp.bytes, timestamp.length, options->offset, &tick);
+    if (rigcactus_refusal(answer) != RIGCACTUS_ACCEPTED) {
+        struct text detail = {.length = 0};
+        add_detail(&detail, rigcactus_refusal(answer), timestamp);
+        return say_detailed(rigcactus_refusal(answer), &detail);
+    }
 
     int precision = rigcactus_precision(answer);
     printf("tick       %" PRId64 "\n", tick);
@@ -173,7 +204,9 @@ static int check_file(const char *name, int64_t offset)
         putchar('\n');
         return ACCEPTED;
     }
-    printf(" (%d)\n", refusal);
+    struct text detail = {.length = 0};
+    add_record_detail(&detail, refusal, (struct slice){input.bytes, input.length});
+    printf(" (%d)%.*s\n", refusal, (int)detail.length, (const char *)detail.bytes);
     return REFUSED;
 }
 
@@ -223,8 +256,11 @@ static int list_file(const char *name, int64_t offset, uint8_t list[RIGCACTUS_MO
         return status;
 
     uint64_t answer = rigcactus_list(input.bytes, input.length, offset, list, RIGCACTUS_MOST_LIST_BYTES);
-    if (rigcactus_refusal(answer) != RIGCACTUS_ACCEPTED)
-        return say_refused(answer);
+    if (rigcactus_refusal(answer) != RIGCACTUS_ACCEPTED) {
+        struct text detail = {.length = 0};
+        add_record_detail(&detail, rigcactus_refusal(answer), (struct slice){input.bytes, input.length});
+        return say_detailed(rigcactus_refusal(answer), &detail);
+    }
     *count = rigcactus_count(answer);
     return ACCEPTED;
 }
@@ -275,6 +311,16 @@ static const char *comparison_name(int comparison)
     }
 }
 
+/* Says on standard error what a comparison refuses, which record that is, and its file. Gives REFUSED back. */
+static int say_refused_record(uint64_t answer, const struct input inputs[2], char **names)
+{
+    int refusal = rigcactus_refusal(answer), index = rigcactus_refused_record(answer) == 1 ? 0 : 1;
+    struct text detail = {.length = 0};
+    add_record_detail(&detail, refusal, (struct slice){inputs[index].bytes, inputs[index].length});
+    return say(REFUSED, "refused: %s (%d), the %s record, %s%.*s", rigcactus_refusal_name(refusal), refusal, index == 0 ? "first" : "second",
+               names[index], (int)detail.length, (const char *)detail.bytes);
+}
+
 static int run_compare(int argument_count, char **arguments, const struct options *options)
 {
     (void)argument_count;
@@ -285,12 +331,8 @@ static int run_compare(int argument_count, char **arguments, const struct option
             return status;
     }
     uint64_t answer = rigcactus_compare(inputs[0].bytes, inputs[0].length, inputs[1].bytes, inputs[1].length, options->offset);
-    int refusal = rigcactus_refusal(answer);
-    if (refusal != RIGCACTUS_ACCEPTED) {
-        bool is_first = rigcactus_refused_record(answer) == 1;
-        return say(REFUSED, "refused: %s (%d), the %s record, %s", rigcactus_refusal_name(refusal), refusal, is_first ? "first" : "second",
-                   arguments[is_first ? 0 : 1]);
-    }
+    if (rigcactus_refusal(answer) != RIGCACTUS_ACCEPTED)
+        return say_refused_record(answer, inputs, arguments);
     puts(comparison_name(rigcactus_comparison(answer)));
     return finish_output();
 }
@@ -408,7 +450,8 @@ static void write_usage(FILE *to)
             "DESK is 1 or 2, and is named before FILEs of its own: each desk that is named, also with no FILE, has counts and totals of its\n"
             "own, in the order in which they are first named. With no --desk all FILEs are of desk 1, and no line says so.\n"
             "What is refused is named, with its number: by check and totals in the line of its FILE, by receipt in its place, else on\n"
-            "standard error. All of yes, no and unknown count as accepted, and so does a null record.\n"
+            "standard error. A date, a clock or an offset that cannot be is named too, after DATE, CLOCK or ZONE.\n"
+            "All of yes, no and unknown count as accepted, and so does a null record.\n"
             "\n"
             "Exit status: 0 accepted, 1 refused, 2 bad usage, 3 reading or writing failed.\n",
             RIGCACTUS_MOST_BYTES, RIGCACTUS_MOST_OFFSET, RIGCACTUS_MOST_OFFSET, LEAST_WIDTH, MOST_WIDTH, USUAL_WIDTH);

@@ -1,7 +1,5 @@
 #include "times.h"
 
-#include "moment.h"
-
 #include <inttypes.h>
 
 static const char *const weekdays[] = {"Monday", "Tuesday", "Wednesday", "Thursday", "Friday", "Saturday", "Sunday"};
@@ -9,12 +7,18 @@ static const char *const weekdays[] = {"Monday", "Tuesday", "Wednesday", "Thursd
 static const char *const months[] = {"January", "February", "March",     "April",   "May",      "June",
                                      "July",    "August",   "September", "October", "November", "December"};
 
+void add_month(struct text *text, struct moment moment)
+{
+    add(text, "%s %04d", months[moment.month - 1], moment.year);
+}
+
 /* Adds a day and a time of day. Seconds are written where they are not 0, and so is their fraction. */
 static void add_moment(struct text *text, int64_t tick, int offset)
 {
     struct moment moment = moment_at(tick, offset);
-    add(text, "%s %d %s %04d %02d:%02d", weekdays[moment.weekday], moment.day, months[moment.month - 1], moment.year, moment.hour,
-        moment.minute);
+    add(text, "%s %d ", weekdays[moment.weekday], moment.day);
+    add_month(text, moment);
+    add(text, " %02d:%02d", moment.hour, moment.minute);
     if (moment.second != 0 || moment.fraction != 0)
         add(text, ":%02d", moment.second);
     if (moment.fraction != 0)

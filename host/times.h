@@ -1,9 +1,10 @@
 /*
- * Stretches of time in plain words.
+ * Stretches of time, and months, in plain words.
  */
 #ifndef HOST_TIMES_H
 #define HOST_TIMES_H
 
+#include "moment.h"
 #include "text.h"
 
 /*
@@ -12,6 +13,9 @@
  * to and including` and `up to, not including,` are the same for its end.
  */
 void add_stretch(struct text *text, struct rigcactus_stretch stretch, int offset);
+
+/* Adds the month of a moment, by its name, and the year: February 2024. */
+void add_month(struct text *text, struct moment moment);
 
 /* Adds the words for an offset from UTC in minutes: UTC, or as UTC+02:00. */
 void add_offset(struct text *text, int offset);

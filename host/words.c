@@ -31,6 +31,19 @@ const char *null_flavor_words(struct slice flavor)
     return "no information";
 }
 
+/* The advice for refusals of a time, in general: of a record wrong_time.h says more. */
+static const char *time_advice(int refusal)
+{
+    switch (refusal) {
+    case RIGCACTUS_DATE:
+        return "a date is on no calendar. Please send the right one.";
+    case RIGCACTUS_CLOCK:
+        return "a time is on no clock. Please send the right one.";
+    default:
+        return "an offset is of no time zone. Please send the right one.";
+    }
+}
+
 /* The advice for refusals that a day's totals alone have. */
 static const char *totals_advice(int refusal)
 {
@@ -68,8 +81,12 @@ const char *refusal_advice(int refusal)
     case RIGCACTUS_SHAPE:
         return "an attribute or an inner element is missing, does not belong there, or is out of order. Please send what the type has and no more.";
     case RIGCACTUS_VALUE:
-        return "the text of an attribute is not written as it must be, like 12,50 for the amount 12.50, or a date that no calendar has. Please "
-               "write it right.";
+        return "the text of an attribute is not written as it must be, like 12,50 for the amount 12.50, or 2024-05-01 for the date 20240501. "
+               "Please write it right.";
+    case RIGCACTUS_DATE:
+    case RIGCACTUS_CLOCK:
+    case RIGCACTUS_ZONE:
+        return time_advice(refusal);
     case RIGCACTUS_RULE:
         return "what the record says does not go together, like a sum without its currency, a part of a name without a text, a time without its "
                "flag, or a start after its end. Please put it right.";
