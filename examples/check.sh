@@ -24,4 +24,7 @@ show 'A prolog is no part of a record.' refused-markup.xml
 show 'It does not say of what type it is.' refused-type.xml
 show 'The low comes before the high.' refused-shape.xml
 show 'An amount is written with a point.' refused-value.xml
+show 'April has no day 31: what is wrong with a date, a clock or an offset is named.' refused-date.xml
+show 'A day ends at 00 of the next, and not at 24.' refused-clock.xml
+show 'An offset of an hour and a half is 0130, and not 90 minutes.' refused-zone.xml
 show 'Whether the bounds belong to the pass is not said.' refused-rule.xml

@@ -20,3 +20,4 @@ show 'At a desk ten hours west that day has not begun by then.' arrival.xml arri
 show 'A name that nobody asked for may be any, and is not even known to be itself.' guest-not-asked.xml guest-not-asked.xml
 show 'A sum and a badge are not of one type.' deposit.xml badge.xml
 show 'The second record breaks a rule by itself.' pass.xml refused-rule.xml
+show 'The second record has an offset that there is not.' arrival.xml refused-zone.xml

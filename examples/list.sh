@@ -21,4 +21,5 @@ show 'The part of the pass for which someone goes along: from an hour on, as lon
 show 'A pass without an end, with one day taken out of it.' open-end.xml
 show 'Two halves of a morning that have nothing in common.' never.xml
 show 'A pass of which nobody knows when it ends.' refused-unknown-bound.xml
+show 'A pass to 31 April.' refused-date.xml
 show 'A sum of money is not a set of times.' deposit.xml

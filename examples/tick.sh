@@ -17,5 +17,7 @@ show 'A time with its own offset, five and a half hours east. What was agreed do
 show 'The start of year 1 at an hour east: a tick below zero, in the year that is written 0000.' 0001010100+01
 show 'The last second of the calendar, after 9998 years that nobody counts through.' 99991231235959
 show 'A leap day.' 20000229
-show 'There is no 29 February in 1900.' 19000229
-show 'Z is not read as an offset.' 20240501093000Z
+show 'There is no 29 February in 1900, which is no leap year.' 19000229
+show 'Midnight at the end of a day, as some write it: it is written as 00 of the day that begins.' 202405012400
+show 'An offset beyond those that there are.' 20240501093000+1530
+show 'Z is not read as an offset, and so this is not of the form of a timestamp.' 20240501093000Z
