@@ -110,9 +110,66 @@ for date in 0001-12-31 1900-02-28 1900-03-01 1999-12-31 2000-02-29 2000-03-01 20
   grep -qx "instant    $date 23:59:58.0000 UTC" out || fail "tick of $date wrote another instant"
 done
 
-# Timestamps that are refused.
-for text in '' 19000229 2024050112Z 2024050124 20240501+01 ' 2024' 2024-05-01 "$(printf '202\xD9\xA4')"; do
+# Timestamps of a wrong form, with an impossible date, clock or offset too.
+for text in '' 2024050112Z 20240501+01 20240501-1401 20240230+15 ' 2024' '2024 ' 2024-05-01 20240230Z 2024023 20240230246060. 20240230246060.12345 2024050124+ 2024050124+1 \
+  2024050124+140 2024050124+14:01 2024050124+14001 202405012400.5 0000- 00000 "$(printf '202\xD9\xA4')"; do
   expect 1 '' 'rigcactus: refused: VALUE (7)' tick "$text"
+done
+
+# The right form, and no such time: what there is not is named. expect_wrong REFUSAL WHAT TEXT..: each text is refused so, with any allowed offset.
+expect_wrong() {
+  local refusal=$1 what=$2 text offset
+  shift 2
+  for text; do
+    for offset in 0 840 -840; do expect 1 '' "rigcactus: refused: $refusal: $what" tick "$text" --offset $offset; done
+    expect 1 '' 'rigcactus: refused: OFFSET (1)' tick "$text" --offset 841
+  done
+}
+years=': years go from 0001 to 9999'
+expect_wrong 'DATE (13)' "the year 0000 is on no calendar$years" 0000 000001 00000101 0000010100 00001301 00000230 0000023025+15
+months=': months go from 01 to 12'
+expect_wrong 'DATE (13)' "the month 13 of 2024 is on no calendar$months" 202413 20241301 20241332 2024130124 20241301246060.5+1500
+expect_wrong 'DATE (13)' "the month 00 of 0001 is on no calendar$months" 000100 00010000
+expect_wrong 'DATE (13)' "the month 99 of 9999 is on no calendar$months" 999999 99999999
+expect_wrong 'DATE (13)' 'the date 30 February 2024 is on no calendar' 20240230 2024023009 202402302460 20240230093060 20240230093000.1234-1401
+expect_wrong 'DATE (13)' 'the date 29 February 1900 is on no calendar' 19000229
+expect_wrong 'DATE (13)' 'the date 29 February 2023 is on no calendar' 20230229
+expect_wrong 'DATE (13)' 'the date 29 February 0001 is on no calendar' 00010229
+expect_wrong 'DATE (13)' 'the date 30 February 2000 is on no calendar' 20000230
+number=0
+for month in January February March April May June July August September October November December; do
+  number=$((number + 1))
+  digits=$(printf %02d $number)
+  expect_wrong 'DATE (13)' "the date 32 $month 9999 is on no calendar" "9999${digits}32"
+  expect_wrong 'DATE (13)' "the date 99 $month 2024 is on no calendar" "2024${digits}99"
+  expect_wrong 'DATE (13)' "the day 00 of $month 2024 is on no calendar: days go from 01 on" "2024${digits}00" "2024${digits}0024"
+  case $month in
+    April | June | September | November) expect_wrong 'DATE (13)' "the date 31 $month 2024 is on no calendar" "2024${digits}31" ;;
+    February) ;;
+    *) "$program" tick "2024${digits}31" > out 2> err || fail "tick of 31 $month was refused" ;;
+  esac
+done
+hours=' is on no clock: hours go from 00 to 23'
+expect_wrong 'CLOCK (14)' "the hour 24$hours" 2024050124 202405012400 20240501240000 20240501240000.0+0000 202405012460 2024050124+1401 00010101246060
+expect_wrong 'CLOCK (14)' "the hour 99$hours" 9999123199 20240229995959
+minutes=' is on no clock: minutes go from 00 to 59'
+expect_wrong 'CLOCK (14)' "the time 09:60$minutes" 202405010960 20240501096000 20240501096060.5 202405010960+0060
+expect_wrong 'CLOCK (14)' "the time 23:99$minutes" 202405012399
+expect_wrong 'CLOCK (14)' 'the time 23:59:60 is on no clock: seconds go from 00 to 59' 20161231235960 20161231235960.0001 20161231235960-15
+expect_wrong 'CLOCK (14)' 'the time 00:00:99 is on no clock: seconds go from 00 to 59' 20240501000099
+offsets=' is of no time zone: offsets go up to 14:00, with minutes from 00 to 59'
+expect_wrong 'ZONE (15)' "the offset +14:01$offsets" 2024050109+1401 202405010930+1401 20240501093000+1401 20240501093000.25+1401
+expect_wrong 'ZONE (15)' "the offset -14:01$offsets" 0001010100-1401 99991231235959.9999-1401
+expect_wrong 'ZONE (15)' "the offset +15$offsets" 2024050109+15
+expect_wrong 'ZONE (15)' "the offset -99$offsets" 20240501093000-99
+expect_wrong 'ZONE (15)' "the offset +00:60$offsets" 2024050109+0060
+expect_wrong 'ZONE (15)' "the offset -13:99$offsets" 2024050109-1399
+expect_wrong 'ZONE (15)' "the offset +99:99$offsets" 202405010930+9999
+
+# Just possible, beside what is not.
+for text in 0001 9999 202401 202412 20240101 20240229 20230228 20000229 19000228 20240430 20240531 2024050100 2024050123 202405010959 20240501095959 2024050109+14 \
+  2024050109+1400 2024050109-1400 2024050109+1359 2024050109+0059 2024050109-00; do
+  "$program" tick "$text" > out 2> err || fail "tick $text was refused: $(cat err)"
 done
 expect 1 '' 'rigcactus: refused: OFFSET (1)' tick 2024 --offset 841
 expect 1 '' 'rigcactus: refused: OFFSET (1)' tick 2024 --offset -841
@@ -127,8 +184,9 @@ for type in arrival badge deposit escorted guest guest-not-asked pass reason reo
   cp "$records/$type.xml" .
   expect 0 "$type.xml: ACCEPTED\n" '' check "$type.xml"
 done
-for refusal in 'NOT UTF-8 (3)' 'MARKUP (4)' 'TYPE (5)' 'SHAPE (6)' 'VALUE (7)' 'RULE (8)'; do
-  name=${refusal% (*}
+for refusal in 'NOT UTF-8 (3)' 'MARKUP (4)' 'TYPE (5)' 'SHAPE (6)' 'VALUE (7)' 'DATE (13): the date 31 April 2024 is on no calendar' \
+  "CLOCK (14): the hour 24$hours" "ZONE (15): the offset +00:90$offsets" 'RULE (8)'; do
+  name=${refusal%% (*}
   name=${name,,}
   cp "$records/refused-${name// /-}.xml" "${name// /-}"
   expect 1 "${name// /-}: $refusal\n" '' check "${name// /-}"
@@ -153,6 +211,61 @@ expect 1 'pass.xml: OFFSET (1)\nstay.xml: OFFSET (1)\n' '' check pass.xml stay.x
 expect 3 '' 'rigcactus: cannot read none: No such file or directory' check none
 expect 3 'type: TYPE (5)\npass.xml: ACCEPTED\n' 'rigcactus: cannot read none: No such file or directory' check type none pass.xml
 expect 3 '' 'rigcactus: cannot read .: Is a directory' check .
+
+# A record with an impossible time: the first timestamp that gets the record's refusal is named, and no other. A wrong form anywhere comes first, then an impossible
+# date anywhere, then a clock, then an offset, then a broken rule. interval LOW HIGH [NAME]: a record of two bounds.
+# expect_checked REFUSAL RECORD: so the record is refused, by check, list, print and compare, on either side. print and list refuse a record that is no set otherwise.
+interval() { printf '<%s xsi:type="IVL_TS" lowClosed="true" highClosed="true"><low value="%s"/><high value="%s"/></%s>' "${3-t}" "$1" "$2" "${3-t}"; }
+expect_checked() {
+  local number=${1%%:*} what=''
+  [ "$number" = "$1" ] || what=": ${1#*: }"
+  printf '%s' "$2" > given
+  expect 1 "given: $1\\n" '' check given
+  expect 1 "pass.xml: ACCEPTED\\ngiven: $1\\n" '' check pass.xml given --offset -840
+  expect 1 '' "rigcactus: refused: $number, the first record, given$what" compare given given
+  expect 1 '' "rigcactus: refused: $number, the second record, given$what" compare pass.xml given --offset 840
+  case $2 in *'"TS"'*) set -- 'TYPE (5)' ;; esac
+  expect 1 '' "rigcactus: refused: $1" list given
+  expect 1 '' "rigcactus: refused: $1" list given --raw --offset 840
+  expect 1 '' "rigcactus: refused: $1" print given --offset -840
+}
+february='the date 30 February 2024 is on no calendar'
+expect_checked "DATE (13): $february" '<t xsi:type="TS" value="20240230"/>'
+expect_checked "CLOCK (14): the hour 24$hours" '<t xsi:type="TS" value="2024050124"/>'
+expect_checked "ZONE (15): the offset +15$offsets" '<t xsi:type="TS" value="2024050109+15"/>'
+expect_checked "DATE (13): $february" '<t xsi:type="TS" nullFlavor="UNK" value="20240230"/>'
+expect_checked "DATE (13): $february" "$(interval 20240230 20240501)"
+expect_checked "DATE (13): $february" "$(interval 20240201 20240230)"
+expect_checked "DATE (13): $february" "$(interval 20240230 20240231)"
+expect_checked "DATE (13): the date 31 February 2024 is on no calendar" "$(interval 20240231 20240230)"
+expect_checked "DATE (13): $february" "$(interval 2024020124 20240230)"
+expect_checked "DATE (13): $february" "$(interval 2024020109+15 20240230)"
+expect_checked "DATE (13): $february" "$(interval 2024023024+15 2024050124)"
+expect_checked "CLOCK (14): the hour 24$hours" "$(interval 2024050124 20240502)"
+expect_checked "CLOCK (14): the time 09:60$minutes" "$(interval 20240502 202405010960)"
+expect_checked "CLOCK (14): the time 09:60$minutes" "$(interval 2024050109+1401 202405010960)"
+expect_checked "CLOCK (14): the time 09:60$minutes" "$(interval 2024050109 202405010960+1401)"
+expect_checked "CLOCK (14): the time 09:60$minutes" "$(interval 202405010960 2024050124)"
+expect_checked "ZONE (15): the offset +00:60$offsets" "$(interval 2024050109 2024050109+0060)"
+expect_checked "ZONE (15): the offset -14:01$offsets" "$(interval 2024050109-1401 2024050109+0060)"
+for value in 20240230 2024050124 2024050109+15; do
+  expect_checked 'VALUE (7)' "$(interval $value 2024-05-01)"
+  expect_checked 'VALUE (7)' "$(interval '' $value)"
+  expect_checked 'VALUE (7)' "<t xsi:type=\"IVL_TS\" lowClosed=\"yes\"><low value=\"$value\"/></t>"
+  expect_checked 'VALUE (7)' "<t xsi:type=\"TS\" value=\"$value&amp;\"/>"
+  expect_checked 'SHAPE (6)' "<t xsi:type=\"IVL_TS\"><low value=\"$value\"/><low/></t>"
+  expect_checked 'SHAPE (6)' "<t xsi:type=\"IVL_TS\" value=\"$value\"/>"
+  expect_checked 'MARKUP (4)' "<t xsi:type=\"IVL_TS\"><low value=\"$value\"></t>"
+done
+
+# It is found wherever it stands: in a set in a set, after timestamps that are good, null or wrong in a later way, between other attributes, and spread over lines. Rules that
+# are broken beside it, bounds that are not known, and over 32 intervals, come after it.
+expect_checked "DATE (13): $february" "<t xsi:type=\"QSU_TS\">$(interval 2024 2025 term)$(interval 2024050124 2024050109+15 term)$(interval 2024 20240230 term)</t>"
+expect_checked "DATE (13): $february" "<t xsi:type=\"QSI_TS\"><term xsi:type=\"IVL_TS\"><low nullFlavor=\"UNK\"/></term><term xsi:type=\"QSD_TS\">$(interval 2025 2024 minuend)$(interval 20240230 2024 subtrahend)</term></t>"
+expect_checked "CLOCK (14): the hour 24$hours" '<t xsi:type="IVL_TS"><low value="2024"/><high value="2024050124"/></t>'
+expect_checked "CLOCK (14): the hour 24$hours" '<t xsi:type="QSU_TS" nullFlavor="NI"><term xsi:type="IVL_TS" nullFlavor="NI"><low value="2024050124" nullFlavor="NI"/></term></t>'
+expect_checked "ZONE (15): the offset +15$offsets" $'\n<t xmlns:value="20240230"\txmlns="2024050124" xsi:type = "IVL_TS">\r\n  <low\n    value\n    =\n    "2024050109+15"\n  >\n  </low >\n</t>\n'
+expect_checked "DATE (13): $february" "<t xsi:type=\"QSU_TS\">$(for i in {1..33}; do interval 2024 2025 term; done)$(interval 2024 20240230 term)</t>"
 
 # Times: a line for each stretch, with two instants.
 midnight='2024-05-01 00:00:00'
@@ -202,6 +315,7 @@ expect 1 '' 'rigcactus: refused: TOO MANY (10)' list too-many
 expect 1 '' 'rigcactus: refused: UNKNOWN BOUND (9)' list "$records/refused-unknown-bound.xml"
 expect 1 '' 'rigcactus: refused: TYPE (5)' list deposit.xml
 expect 1 '' 'rigcactus: refused: TYPE (5)' list value
+expect 1 '' 'rigcactus: refused: TYPE (5)' list zone
 expect 1 '' 'rigcactus: refused: RULE (8)' list rule --raw
 expect 1 '' 'rigcactus: refused: MARKUP (4)' list empty
 expect 1 '' 'rigcactus: refused: TOO LONG (2)' list /dev/zero
@@ -310,7 +424,7 @@ printf '<t xsi:type="QSD_TS"><minuend xsi:type="IVL_TS" lowClosed="true" highClo
 expect_printed inside 0 "$(term true 20230101000000.0000 20240101000000.0000 true)"
 printf '<t xsi:type="QSU_TS"><term xsi:type="IVL_TS" lowClosed="true" highClosed="true">%s</term><term xsi:type="IVL_TS"/></t>' "$outside" > unknown
 expect 1 '' 'rigcactus: refused: UNKNOWN BOUND (9)' print unknown
-printf '<t xsi:type="IVL_TS" lowClosed="true" highClosed="true"><low value="19000229"/><high value="2024"/></t>' > no-date
+interval 1900-02-28 2024 > no-form
 expect 1 '' 'rigcactus: refused: OFFSET (1)' print pass.xml --offset 841
 expect 1 '' 'rigcactus: refused: TOO LONG (2)' print /dev/zero
 expect 1 '' 'rigcactus: refused: NOT UTF-8 (3)' print not-utf-8
@@ -318,7 +432,9 @@ expect 1 '' 'rigcactus: refused: MARKUP (4)' print empty
 expect 1 '' 'rigcactus: refused: TYPE (5)' print deposit.xml
 expect 1 '' 'rigcactus: refused: TYPE (5)' print value
 expect 1 '' 'rigcactus: refused: SHAPE (6)' print shape
-expect 1 '' 'rigcactus: refused: VALUE (7)' print no-date
+expect 1 '' 'rigcactus: refused: VALUE (7)' print no-form
+expect 1 '' 'rigcactus: refused: DATE (13): the date 31 April 2024 is on no calendar' print date
+expect 1 '' "rigcactus: refused: CLOCK (14): the hour 24$hours" print clock
 expect 1 '' 'rigcactus: refused: RULE (8)' print rule
 expect 1 '' 'rigcactus: refused: UNKNOWN BOUND (9)' print "$records/refused-unknown-bound.xml"
 expect 1 '' 'rigcactus: refused: TOO MANY (10)' print too-many
@@ -342,6 +458,12 @@ expect 1 '' 'rigcactus: refused: TYPE (5), the second record, stay.xml' compare 
 expect 1 '' 'rigcactus: refused: VALUE (7), the first record, value' compare value rule
 expect 1 '' 'rigcactus: refused: RULE (8), the second record, rule' compare deposit.xml rule
 expect 1 '' 'rigcactus: refused: MARKUP (4), the first record, empty' compare empty empty
+expect 1 '' 'rigcactus: refused: DATE (13), the first record, date: the date 31 April 2024 is on no calendar' compare date clock
+expect 1 '' "rigcactus: refused: CLOCK (14), the first record, clock: the hour 24$hours" compare clock date
+expect 1 '' "rigcactus: refused: ZONE (15), the second record, zone: the offset +00:90$offsets" compare arrival.xml zone
+expect 1 '' "rigcactus: refused: ZONE (15), the second record, zone: the offset +00:90$offsets" compare deposit.xml zone
+expect 1 '' "rigcactus: refused: ZONE (15), the first record, zone: the offset +00:90$offsets" compare zone value
+expect 1 '' 'rigcactus: refused: VALUE (7), the first record, value' compare value zone
 expect 1 '' 'rigcactus: refused: TOO LONG (2), the second record, longer' compare longest longer
 expect 0 'yes\n' '' compare longest deposit.xml
 expect 1 '' 'rigcactus: refused: OFFSET (1), the first record, pass.xml' compare pass.xml value --offset 841
@@ -390,6 +512,7 @@ expect_totals 0 'dollars: added 1234.5678 USD\ndeposit.xml: added 12.5000 EUR\nl
 expect_totals 1 'type: TYPE (5)\nrefund: added -12.5000 EUR\nnull: null\ncent: VALUE (7)\n./null: null\nbadge.xml: TYPE (5)\nguest-not-asked.xml: TYPE (5)\nlonger: TOO LONG (2)\nlongest: added 12.5000 EUR\nempty: MARKUP (4)\n' \
   '2 2 6' '0.0000 EUR' '' type refund null cent ./null badge.xml guest-not-asked.xml longer longest empty
 expect_totals 1 'not-utf-8: NOT UTF-8 (3)\nshape: TYPE (5)\n' '0 0 2' '' '' not-utf-8 shape
+expect_totals 1 'date: TYPE (5)\nclock: TYPE (5)\nzone: TYPE (5)\n' '0 0 3' '' '' date clock zone
 printf '<s xsi:type="MO" value="1" currency="EUR" unit="1"/>' > unit
 printf '<s xsi:type="MO" value="1"/>' > no-currency
 expect_totals 1 'unit: SHAPE (6)\nno-currency: RULE (8)\n' '0 0 2' '' '' unit no-currency
