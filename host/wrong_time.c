@@ -84,21 +84,21 @@ static bool add_wrong_part(struct text *text, int refusal, struct slice timestam
 }
 
 /* Adds an offset that is wrong: its sign and hours, and its minutes if they are written. */
-static bool add_wrong_offset(struct text *text, struct slice timestamp)
+static void add_wrong_offset(struct text *text, struct slice timestamp)
 {
-    if (!is_refused(timestamp, RIGCACTUS_ZONE))
-        return false;
     struct slice minutes = timestamp, hours;
     take_until(&minutes, "+-");
     hours = take(&minutes, 3);
     add(text, "the offset %.*s%s%.*s is of no time zone: offsets go up to 14:00, with minutes from 00 to 59", (int)hours.length,
         (const char *)hours.bytes, minutes.length > 0 ? ":" : "", (int)minutes.length, (const char *)minutes.bytes);
-    return true;
 }
 
 bool add_wrong_time(struct text *text, int refusal, struct slice timestamp)
 {
-    if (refusal == RIGCACTUS_ZONE)
-        return add_wrong_offset(text, timestamp);
-    return is_for_time(refusal) && add_wrong_part(text, refusal, timestamp);
+    if (!is_for_time(refusal) || !is_refused(timestamp, refusal))
+        return false;
+    if (refusal != RIGCACTUS_ZONE)
+        return add_wrong_part(text, refusal, timestamp);
+    add_wrong_offset(text, timestamp);
+    return true;
 }

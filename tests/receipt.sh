@@ -37,6 +37,8 @@ expect_receipt 0 chinese chinese --offset 480
 expect_receipt 0 hindi hindi --offset 330 --width 100
 expect_receipt 0 hindi hindi-16 --offset 330 --width 16
 expect_receipt 1 cut-letter cut-letter
+expect_receipt 1 no-such-day no-such-day
+expect_receipt 1 no-such-day no-such-day --offset -840
 expect_receipt 1 refused refused --width 48
 
 # Good records, for the places that a test is not about.
@@ -224,7 +226,7 @@ expect_pass "$(union "${moments[@]}")" "${due}Clock: UTC"
 awk '/^```text$/ { n++; inside = n == 1; next } /^```$/ { inside = 0 } inside' "$repository/docs/HOST.md" | cmp -s - "$receipts/french.txt" ||
   fail 'docs/HOST.md shows another receipt'
 
-# Refusals, from 1 to 10, with what to tell the clinic. 12 is for `rigcactus print` alone, and 16, 17, 21, 23 and 25 are for totals. The program lends a list that is
+# Refusals of records, from OFFSET to TOO MANY, with what to tell the clinic. 12 is for `rigcactus print` alone, and 16, 17, 21, 23 and 25 are for totals. The program lends a list that is
 # long enough for every set, so 11 does not occur.
 offset='nothing. The offset that this desk was set to is not from -840 to 840 minutes. Set it right and read the record again.'
 too_long='the record is longer than 16,384 bytes. Please send a shorter one.'
@@ -233,12 +235,19 @@ markup='the record is not one whole XML element as this desk reads it. Please se
 type='an xsi:type is missing, is not known here, or does not belong where it stands. This record is to be of type'
 sets='IVL_TS, QSU_TS, QSI_TS or QSD_TS.'
 shape='an attribute or an inner element is missing, does not belong there, or is out of order. Please send what the type has and no more.'
-value='the text of an attribute is not written as it must be, like 12,50 for the amount 12.50, or a date that no calendar has. Please write it right.'
+value='the text of an attribute is not written as it must be, like 12,50 for the amount 12.50, or 2024-05-01 for the date 20240501. Please write it right.'
 rule='what the record says does not go together, like a sum without its currency, a part of a name without a text, a time without its flag, or a start after its end. Please put it right.'
 unknown='it is not said when the pass starts or ends. Please send each start and each end, or NINF and PINF where there is none.'
 too_many='the pass is written with more than 32 intervals. Please write it with fewer, or as two passes.'
 not_writable='a time lies outside years 0001 to 9999 in UTC. Please send times within them.'
-for advice in "$offset" "$too_long" "$not_utf8" "$markup" "$type .." "$shape" "$value" "$rule" "$unknown" "$too_many" "$not_writable"; do
+right='Please send the right one.'
+hours="is on no clock: hours go from 00 to 23. $right"
+minutes="is on no clock: minutes go from 00 to 59. $right"
+seconds="is on no clock: seconds go from 00 to 59. $right"
+offsets="is of no time zone: offsets go up to 14:00, with minutes from 00 to 59. $right"
+april="the date 31 April 2024 is on no calendar. $right"
+for advice in "$offset" "$too_long" "$not_utf8" "$markup" "$type .." "$shape" "$value" "$april" "the hour 24 $hours" "the offset +14:01 $offsets" "$rule" "$unknown" \
+  "$too_many" "$not_writable"; do
   grep -qF ") | $advice |" "$repository/docs/HOST.md" || fail "docs/HOST.md does not say: $advice"
 done
 spaces=$(head -c 16385 /dev/zero | tr '\0' ' ')
@@ -266,8 +275,66 @@ expect_refusal pass '<p xsi:type="QSU_TS"/>' 'SHAPE (6)' "$shape"
 expect_refusal identifier '<i xsi:type="II" root="1.2"><low/></i>' 'SHAPE (6)' "$shape"
 expect_refusal name '<n xsi:type="EN"><part value="A" type="FAMILY"/></n>' 'VALUE (7)' "$value"
 expect_refusal sum '<s xsi:type="MO" value="12,50" currency="EUR"/>' 'VALUE (7)' "$value"
-expect_refusal pass "$(interval true 20230229 20240501 true)" 'VALUE (7)' "$value"
+expect_refusal pass "$(interval true 2024-05-01 20240501 true)" 'VALUE (7)' "$value"
 expect_refusal identifier '<i xsi:type="II" root="3.2"/>' 'VALUE (7)' "$value"
+
+# Times that cannot be, in the words for each part: the year, the month, the day, the day 00, the hour, the minute, the second, the offset.
+# expect_wrong REFUSAL WHAT TIMESTAMP: so it is as the low of a pass, as its high, and in a pass that is a difference, after good times.
+wrong=0
+expect_wrong() {
+  wrong=$((wrong + 1))
+  expect_refusal pass "$(interval true "$3" 20240501 true)" "$1" "$2"
+  expect_refusal pass "$(interval false 20240501 "$3" false)" "$1" "$2"
+  expect_refusal pass "<p xsi:type=\"QSD_TS\">$(interval true 2024 - - minuend)$(interval - - "$3" true subtrahend)</p>" "$1" "$2" --offset -840
+}
+expect_wrong 'DATE (13)' "the year 0000 is on no calendar: years go from 0001 to 9999. $right" 0000
+expect_wrong 'DATE (13)' "the year 0000 is on no calendar: years go from 0001 to 9999. $right" 00001332246060+1500
+expect_wrong 'DATE (13)' "the month 13 of 2024 is on no calendar: months go from 01 to 12. $right" 202413
+expect_wrong 'DATE (13)' "the month 00 of 0987 is on no calendar: months go from 01 to 12. $right" 0987003109+01
+expect_wrong 'DATE (13)' "$april" 20240431
+expect_wrong 'DATE (13)' "the date 30 February 2024 is on no calendar. $right" 2024023024
+expect_wrong 'DATE (13)' "the date 29 February 0100 is on no calendar. $right" 01000229
+expect_wrong 'DATE (13)' "the date 32 December 9999 is on no calendar. $right" 99991232
+expect_wrong 'DATE (13)' "the day 00 of May 2024 is on no calendar: days go from 01 on. $right" 20240500
+expect_wrong 'CLOCK (14)' "the hour 24 $hours" 2024050124
+expect_wrong 'CLOCK (14)' "the hour 24 $hours" 20240501240000.0000+0200
+expect_wrong 'CLOCK (14)' "the hour 31 $hours" 202405013199
+expect_wrong 'CLOCK (14)' "the time 09:60 $minutes" 202405010960
+expect_wrong 'CLOCK (14)' "the time 00:75 $minutes" 20240501007599-1500
+expect_wrong 'CLOCK (14)' "the time 23:59:60 $seconds" 20161231235960
+expect_wrong 'CLOCK (14)' "the time 09:05:61 $seconds" 20240501090561.5
+expect_wrong 'ZONE (15)' "the offset +14:01 $offsets" 2024050109+1401
+expect_wrong 'ZONE (15)' "the offset -14:01 $offsets" 20240501093000.5-1401
+expect_wrong 'ZONE (15)' "the offset +15 $offsets" 202405010930+15
+expect_wrong 'ZONE (15)' "the offset -00:60 $offsets" 2024050109-0060
+expect_wrong 'ZONE (15)' "the offset +00:90 $offsets" 20240501093000+0090
+[ $wrong -eq 21 ] || fail "$wrong times that cannot be, and not 21"
+
+# On a narrow roll the words go on over several lines.
+expect_refusal pass "$(interval true 20240401 20240431 true)" 'DATE (13)' 'the\ndate 31 April 2024 is\non no calendar.\nPlease send the right\none.' --width 21
+expect_refusal pass "$(interval true 2024050109+1401 2024 true)" 'ZONE (15)' 'the\noffset +14:01 is of no\ntime zone: offsets go up\nto 14:00, with minutes\nfrom 00 to 59. Please\nsend the right one.' --width 24
+
+# Of several times the first that gets the refusal is named: one before it may be good, or wrong in a way that comes later. A wrong form anywhere comes before all of these.
+expect_refusal pass "$(interval true 2024040124 20240431 true)" 'DATE (13)' "$april"
+expect_refusal pass "$(interval true 2024040109+15 20240431 true)" 'DATE (13)' "$april"
+expect_refusal pass "$(interval true 20240431 20240532 true)" 'DATE (13)' "$april"
+expect_refusal pass "$(interval true 2024050109+15 202405010960 true)" 'CLOCK (14)' "the time 09:60 $minutes"
+expect_refusal pass "$(interval true 202405010960+15 2024050124 true)" 'CLOCK (14)' "the time 09:60 $minutes"
+expect_refusal pass "$(interval true 20240431 2024-05-01 true)" 'VALUE (7)' "$value"
+expect_refusal pass "$(interval yes 20240431 20240501 true)" 'VALUE (7)' "$value"
+expect_refusal pass "$(union "$(interval true 2024 2025 false term)" "$(interval true 202401 2024040109+15 false term)" "$(interval true 20240401 20240431 true term)" "$(interval true 2024040124 20240532 true term)")" \
+  'DATE (13)' "$april"
+expect_refusal pass "$(union "${moments[@]}" "$(interval true 20240401 20240431 true term)")" 'DATE (13)' "$april"
+expect_refusal pass "<p xsi:type=\"IVL_TS\" nullFlavor=\"NI\"><low value=\"20240501\"/>\\n<high nullFlavor=\"UNK\" value=\"20240431\"/></p>" 'DATE (13)' "$april"
+
+# A record with such a time is of no other section's type, but its own refusal comes first there, as for comparing. As a pass it is TYPE, as for listing.
+for place in name sum identifier; do
+  expect_refusal $place '<t xsi:type="TS" value="20240431"/>' 'DATE (13)' "$april"
+  expect_refusal $place "$(interval true 2024 2024050124 true)" 'CLOCK (14)' "the hour 24 $hours"
+  expect_refusal $place '<t xsi:type="TS" value="2024050109+1401"/>' 'ZONE (15)' "the offset +14:01 $offsets"
+done
+expect_refusal pass '<t xsi:type="TS" value="20240431"/>' 'TYPE (5)' "$type $sets"
+
 expect_refusal name '<n xsi:type="EN"><part value=""/></n>' 'RULE (8)' "$rule"
 expect_refusal sum '<s xsi:type="MO" value="12.50"/>' 'RULE (8)' "$rule"
 expect_refusal pass "$(interval true 20240502 20240501 true)" 'RULE (8)' "$rule"

@@ -1,5 +1,5 @@
 /*
- * Damaged records, given to the reader of texts, to receipts and to totals: every file that is named, cut off after every length, and with each of its
+ * Damaged records, given to the reader of texts, to the finder of wrong times, to receipts and to totals: every file that is named, cut off after every length, and with each of its
  * bytes replaced by others. Memory that is lent ends where the record does, so that a sanitizer or valgrind sees a byte read too far.
  *
  *     damage STEP FILE..    with STEP 1 every length and byte is tried, with a larger one only some are
@@ -8,13 +8,15 @@
 #include "rigcactus.h"
 #include "text.h"
 #include "totals.h"
+#include "wrong_time.h"
 
 #include <inttypes.h>
 #include <stdio.h>
 #include <stdlib.h>
 #include <string.h>
 
-static const uint8_t replacements[] = {'"', '<', '>', '&', '/', ' ', 0x00, 0xC2, 0xFF};
+/* A 9 in a timestamp makes months, days, hours, minutes and offsets that there are not. */
+static const uint8_t replacements[] = {'"', '<', '>', '&', '/', ' ', '9', 0x00, 0xC2, 0xFF};
 
 static const char *const good[RECEIPT_RECORDS] = {
     "<n xsi:type=\"EN\"><part value=\"Zo\xC3\xAB\"/></n>",
@@ -23,7 +25,7 @@ static const char *const good[RECEIPT_RECORDS] = {
     "<i xsi:type=\"II\" root=\"1.2\"/>",
 };
 
-static unsigned long receipts = 0, refusals = 0, failures = 0;
+static unsigned long receipts = 0, refusals = 0, wrong_times = 0, failures = 0;
 
 /* One table for all records, which come from the two desks in turn: what is damaged are records, and never the table. */
 static uint64_t table[RIGCACTUS_TABLE_NUMBERS];
@@ -49,6 +51,40 @@ static void read_texts(struct slice record)
         failures += decode_for_print(value, printed) > value.length;
         slice_has_word(value, "PFX");
         free(printed);
+    }
+}
+
+/* Whether something is said of a text as a timestamp that gets this refusal. Nothing is, unless it gets it. */
+static bool is_said(struct slice value, int refusal)
+{
+    int64_t tick;
+    struct text text = {.length = 0};
+    uint8_t *lent = lend(value.length);
+    memcpy(lent, value.bytes, value.length);
+    bool said = add_wrong_time(&text, refusal, (struct slice){lent, value.length});
+    bool is_refused = rigcactus_refusal(rigcactus_tick(lent, value.length, 0, &tick)) == refusal;
+    failures += said != (text.length > 0) || said != (is_refused && is_for_time(refusal));
+    free(lent);
+    return said;
+}
+
+/*
+ * Looks for a time that is wrong, whatever the record is refused for: what is found is in the record and something is said of it, and in a
+ * record that is refused for a time one is found. Then says what is wrong with every text that is named as timestamps are.
+ */
+static void name_wrong_times(struct slice record)
+{
+    static const int named[] = {RIGCACTUS_ACCEPTED, RIGCACTUS_VALUE, RIGCACTUS_DATE, RIGCACTUS_CLOCK, RIGCACTUS_ZONE};
+    int due = rigcactus_refusal(rigcactus_check(record.bytes, record.length, 0));
+    wrong_times += is_for_time(due);
+    for (size_t i = 0; i < sizeof named / sizeof named[0]; i++) {
+        struct slice rest = record, tag, value;
+        bool found = find_wrong_time(record, named[i], &value);
+        bool is_inside = value.bytes >= record.bytes && value.length <= (size_t)(record.bytes + record.length - value.bytes);
+        failures += !is_inside || is_said(value, named[i]) != found || (named[i] == due && found != is_for_time(due));
+        while (take_tag(&rest, &tag))
+            if (find_attribute(tag, "value", &value))
+                is_said(value, named[i]);
     }
 }
 
@@ -113,6 +149,7 @@ static void try_length(const uint8_t *bytes, size_t length)
     memcpy(lent, bytes, length);
     struct slice record = {lent, length};
     read_texts(record);
+    name_wrong_times(record);
     for (size_t place = 0; place < RECEIPT_RECORDS; place++)
         print_at(record, place);
     add_to_totals(record);
@@ -127,6 +164,7 @@ static void try_byte(const uint8_t *bytes, size_t length, size_t at)
     for (size_t i = 0; i < sizeof replacements; i++) {
         lent[at] = replacements[i];
         read_texts((struct slice){lent, length});
+        name_wrong_times((struct slice){lent, length});
         print_at((struct slice){lent, length}, (at + i) % RECEIPT_RECORDS);
         add_to_totals((struct slice){lent, length});
     }
@@ -167,6 +205,6 @@ int main(int argc, char **argv)
         fprintf(stderr, "totals of desk %" PRIu64 ": %" PRIu64 " added, %" PRIu64 " null, %" PRIu64 " refused\n", desk, of[0], of[1], of[2]);
         failures += of[0] == 0 || of[1] == 0 || of[2] == 0;
     }
-    fprintf(stderr, "%lu receipts, %lu refused, %lu failures\n", receipts, refusals, failures);
-    return failures > 0 || refusals == 0 || refusals == receipts;
+    fprintf(stderr, "%lu receipts, %lu refused, %lu records with a wrong time, %lu failures\n", receipts, refusals, wrong_times, failures);
+    return failures > 0 || refusals == 0 || refusals == receipts || wrong_times == 0;
 }
