@@ -41,12 +41,15 @@ static void check_refusals(void)
     CHECK(RIGCACTUS_TOO_MANY == 10 && is_name(10, "TOO MANY"));
     CHECK(RIGCACTUS_NO_ROOM == 11 && is_name(11, "NO ROOM"));
     CHECK(RIGCACTUS_NOT_WRITABLE == 12 && is_name(12, "NOT WRITABLE"));
+    CHECK(RIGCACTUS_DATE == 13 && is_name(13, "DATE"));
+    CHECK(RIGCACTUS_CLOCK == 14 && is_name(14, "CLOCK"));
+    CHECK(RIGCACTUS_ZONE == 15 && is_name(15, "ZONE"));
     CHECK(RIGCACTUS_NO_ROW == 16 && is_name(16, "NO ROW"));
     CHECK(RIGCACTUS_TOTAL == 17 && is_name(17, "TOTAL"));
     CHECK(RIGCACTUS_DAMAGED == 21 && is_name(21, "DAMAGED"));
     CHECK(RIGCACTUS_NO_DESK == 23 && is_name(23, "NO DESK"));
     CHECK(RIGCACTUS_DAY_FULL == 25 && is_name(25, "DAY FULL"));
-    static const int unlisted[] = {13, 14, 15, 18, 19, 20, 22, 24, 26, 255, -1};
+    static const int unlisted[] = {18, 19, 20, 22, 24, 26, 255, -1};
     for (size_t i = 0; i < sizeof unlisted / sizeof unlisted[0]; i++)
         CHECK(is_name(unlisted[i], "UNLISTED"));
 }
@@ -150,13 +153,73 @@ static void check_tick(void)
     CHECK(is_tick("19700101", 0, 8, INT64_C(621355968000000)));
     CHECK(is_tick("20000101000000.0001+0000", 0, 18, INT64_C(630822816000001)));
     CHECK(is_tick("0001010100+01", 0, 10, -36000000));
-    CHECK(is_refused_tick("19000229", 8, 0, RIGCACTUS_VALUE));
+    CHECK(is_refused_tick("19000229", 8, 0, RIGCACTUS_DATE));
     CHECK(is_tick("20240501", 0, 8, INT64_C(638501184000000)));
     CHECK(is_tick("2024050212", 0, 10, INT64_C(638502480000000)));
     CHECK(is_tick("20240504", 0, 8, INT64_C(638503776000000)));
     CHECK(is_refused_tick("2024\0", 5, 0, RIGCACTUS_VALUE));
     CHECK(is_refused_tick("2024\xFF", 5, 0, RIGCACTUS_VALUE));
     CHECK(is_refused_tick(NULL, 0, 0, RIGCACTUS_VALUE));
+}
+
+/* What a text of the right form, or of a wrong one, gets as a timestamp: the same with every allowed offset; -1 if it is not. */
+static int time_of(const char *text)
+{
+    int64_t tick = before;
+    int refusal = rigcactus_refusal(rigcactus_tick((const uint8_t *)text, strlen(text), 0, &tick));
+    if (refusal == RIGCACTUS_ACCEPTED)
+        return tick != before ? RIGCACTUS_ACCEPTED : -1;
+    for (int64_t offset = -840; offset <= 840; offset += 840)
+        if (!is_refused_tick(text, strlen(text), offset, refusal))
+            return -1;
+    return is_refused_tick(text, strlen(text), 841, RIGCACTUS_OFFSET) ? refusal : -1;
+}
+
+enum { FINE = RIGCACTUS_ACCEPTED, VALUE = RIGCACTUS_VALUE, DATE = RIGCACTUS_DATE, CLOCK = RIGCACTUS_CLOCK, ZONE = RIGCACTUS_ZONE };
+
+/* Years, months and days, from both sides of each limit; and that a date comes before a clock and an offset. */
+static void check_dates(void)
+{
+    CHECK(time_of("0000") == DATE && time_of("0001") == FINE && time_of("9999") == FINE);
+    CHECK(time_of("00000101") == DATE && time_of("00000230") == DATE && time_of("0000010100+00") == DATE);
+    CHECK(time_of("202400") == DATE && time_of("202401") == FINE && time_of("202412") == FINE && time_of("202413") == DATE);
+    CHECK(time_of("20240100") == DATE && time_of("20240101") == FINE && time_of("20240131") == FINE && time_of("20240132") == DATE);
+    CHECK(time_of("19000228") == FINE && time_of("19000229") == DATE && time_of("20000228") == FINE && time_of("20000229") == FINE);
+    CHECK(time_of("20000230") == DATE && time_of("20240229") == FINE && time_of("20240230") == DATE && time_of("20230229") == DATE);
+    CHECK(time_of("20240430") == FINE && time_of("20240431") == DATE && time_of("20240531") == FINE && time_of("20240532") == DATE);
+    CHECK(time_of("20240630") == FINE && time_of("20240631") == DATE && time_of("20240930") == FINE && time_of("20240931") == DATE);
+    CHECK(time_of("20241130") == FINE && time_of("20241131") == DATE && time_of("99991231") == FINE && time_of("99991232") == DATE);
+    CHECK(time_of("2024023009") == DATE && time_of("2024023024") == DATE && time_of("2024023009+1401") == DATE);
+    CHECK(time_of("20240230246060.9999-9999") == DATE && time_of("00000000000000") == DATE && time_of("99999999999999") == DATE);
+}
+
+/* Clocks and offsets, from both sides of each limit; and that a clock comes before an offset. */
+static void check_clocks(void)
+{
+    CHECK(time_of("2024050100") == FINE && time_of("2024050123") == FINE && time_of("2024050124") == CLOCK && time_of("2024050199") == CLOCK);
+    CHECK(time_of("202405010059") == FINE && time_of("202405010060") == CLOCK && time_of("202405012400") == CLOCK);
+    CHECK(time_of("20240501000059") == FINE && time_of("20240501000060") == CLOCK && time_of("20161231235960") == CLOCK);
+    CHECK(time_of("20240501235959.9999") == FINE && time_of("20240501240000.0") == CLOCK && time_of("20240501000060.5") == CLOCK);
+    CHECK(time_of("2024050124+01") == CLOCK && time_of("2024050124+1401") == CLOCK && time_of("202405010060-0060") == CLOCK);
+    CHECK(time_of("2024050112+14") == FINE && time_of("2024050112+15") == ZONE && time_of("2024050112-14") == FINE);
+    CHECK(time_of("2024050112+1400") == FINE && time_of("2024050112+1401") == ZONE && time_of("2024050112-1401") == ZONE);
+    CHECK(time_of("2024050112+0059") == FINE && time_of("2024050112+0060") == ZONE && time_of("2024050112-0099") == ZONE);
+    CHECK(time_of("2024050112+1359") == FINE && time_of("2024050112+1360") == ZONE && time_of("202405011230+1500") == ZONE);
+    CHECK(time_of("20240501123000-00") == FINE && time_of("20240501123000.5+1401") == ZONE && time_of("2024050112-99") == ZONE);
+}
+
+/* A wrong form is VALUE, whatever date, clock and offset it would have. */
+static void check_forms(void)
+{
+    static const char *const texts[] = {
+        "", "202", "20245", "2024050", "0000Z", "2024-05-01", "20240230Z", "2024023", "20240230+01", "202413-1401", "2024050124Z", "2024050124+",
+        "2024050124+1", "2024050124+140", "2024050124+14000", "2024050124+14:01", "202405012400.5", "20240501246060.", "20240501246060.00000",
+        "20240501246060.5Z", " 20240230", "20240230 ", "+0000", "20240230T24", "2024050124++14", "2024050124+1a",
+    };
+    for (size_t i = 0; i < sizeof texts / sizeof texts[0]; i++)
+        CHECK(time_of(texts[i]) == VALUE);
+    CHECK(is_refused_tick("20240230\0", 9, 0, VALUE) && is_refused_tick("20240230\xFF", 9, 0, VALUE));
+    CHECK(is_refused_tick("\xD9\xA0" "000", 5, 0, VALUE));
 }
 
 /* The constants beside it: a day after and a second after. */
@@ -331,6 +394,59 @@ static void check_list_refusals(void)
     CHECK(rigcactus_list((const uint8_t *)many, sizeof many, 0, lent, 1024) == RIGCACTUS_TOO_LONG && is_kept(0));
 }
 
+#define TIME(value) "<t xsi:type=\"TS\" value=\"" value "\"/>"
+#define NULL_TIME(value) "<t xsi:type=\"TS\" nullFlavor=\"NI\" value=\"" value "\"/>"
+#define BOUNDS(name, low, high) \
+    "<" name " xsi:type=\"IVL_TS\" lowClosed=\"true\" highClosed=\"true\"><low value=\"" low "\"/><high value=\"" high "\"/></" name ">"
+
+static uint64_t comparison_of(const char *first, const char *second, int64_t offset)
+{
+    return rigcactus_compare((const uint8_t *)first, strlen(first), (const uint8_t *)second, strlen(second), offset);
+}
+
+/*
+ * What checking and listing refuse a record for, which is the same but for a record that is no set, and comparing too, where it is the first record
+ * or the second; -1 if they do not agree. Nothing lent is written.
+ */
+static int record_of(const char *record)
+{
+    static uint8_t kept[RIGCACTUS_MOST_BYTES];
+    size_t length = strlen(record);
+    memcpy(kept, record, length);
+    uint64_t refusal = rigcactus_check((const uint8_t *)record, length, 0);
+    int is_point = strstr(record, "\"TS\"") != NULL;
+    int agrees = is_refused_list(record, 0, RIGCACTUS_MOST_LIST_BYTES, is_point ? RIGCACTUS_TYPE : (int)refusal)
+        && is_refused_list(record, 0, 0, is_point ? RIGCACTUS_TYPE : (int)refusal)
+        && comparison_of(record, record, 0) == (0x100 | refusal) && comparison_of(record, TIME("?"), 0) == (0x100 | refusal)
+        && comparison_of(TIME("2024"), record, 0) == (0x200 | refusal) && comparison_of(STAY, record, 0) == (0x200 | refusal)
+        && comparison_of(TIME("?"), record, 0) == (0x100 | RIGCACTUS_VALUE) && comparison_of(TIME("2024"), record, 841) == (0x100 | RIGCACTUS_OFFSET)
+        && is_checked(record, 840, (int)refusal) && is_checked(record, -840, (int)refusal) && memcmp(kept, record, length) == 0;
+    return agrees ? (int)refusal : -1;
+}
+
+/* An impossible time anywhere in a record: the first on the ladder, wherever it stands, after a wrong form anywhere and before a broken invariant. */
+static void check_times_of_records(void)
+{
+    CHECK(record_of(TIME("20240230")) == DATE && record_of(TIME("2024050124")) == CLOCK && record_of(TIME("2024050112+1401")) == ZONE);
+    CHECK(record_of(TIME("0000")) == DATE && record_of(TIME("2024050124+1401")) == CLOCK && record_of(TIME("2024-05-01")) == VALUE);
+    CHECK(record_of(NULL_TIME("20240230")) == DATE && record_of(NULL_TIME("2024050124")) == CLOCK && record_of(NULL_TIME("2024050112+15")) == ZONE);
+    CHECK(record_of(NULL_TIME("2024-05-01")) == VALUE && is_checked(NULL_TIME("20240501"), 0, RIGCACTUS_RULE));
+    CHECK(record_of(TIME("2024023&amp;")) == VALUE && record_of("<t xsi:type=\"TS\" value=\"20240230\" nullFlavor=\"?\"/>") == VALUE);
+    CHECK(record_of("<t xsi:type=\"IVL_TS\" value=\"20240230\"/>") == RIGCACTUS_SHAPE && record_of(BOUNDS("t", "0000", "2024") "<t/>") == RIGCACTUS_MARKUP);
+    CHECK(record_of(BOUNDS("t", "20240230", "2024")) == DATE && record_of(BOUNDS("t", "2024", "20240230")) == DATE);
+    CHECK(record_of(BOUNDS("t", "2024050124", "20240230")) == DATE && record_of(BOUNDS("t", "20240230", "2024050124")) == DATE);
+    CHECK(record_of(BOUNDS("t", "2024050112+15", "2024050124")) == CLOCK && record_of(BOUNDS("t", "2024050124", "2024050112+15")) == CLOCK);
+    CHECK(record_of(BOUNDS("t", "2024050112+15", "2024")) == ZONE && record_of(BOUNDS("t", "2025", "2024050112+15")) == ZONE);
+    CHECK(record_of(BOUNDS("t", "20240230", "2024-05-01")) == VALUE && record_of(BOUNDS("t", "", "2024050124")) == VALUE);
+    CHECK(record_of("<t xsi:type=\"IVL_TS\" lowClosed=\"yes\"><low value=\"20240230\"/></t>") == VALUE);
+    CHECK(record_of("<t xsi:type=\"IVL_TS\"><low value=\"20240230\"/></t>") == DATE); /* with its flag missing, which is RULE */
+    CHECK(record_of("<t xsi:type=\"IVL_TS\" nullFlavor=\"NI\"><low value=\"2024050124\"/></t>") == CLOCK);
+    CHECK(record_of("<t xsi:type=\"QSU_TS\">" BOUNDS("term", "2025", "2024") BOUNDS("term", "2024050112+15", "2024") "</t>") == ZONE);
+    CHECK(record_of("<t xsi:type=\"QSD_TS\">" BOUNDS("minuend", "2024050124", "2024") BOUNDS("subtrahend", "2024", "20240230") "</t>") == DATE);
+    CHECK(record_of("<t xsi:type=\"QSI_TS\"><term xsi:type=\"IVL_TS\"/>" BOUNDS("term", "2024", "2024050124") "</t>") == CLOCK);
+    CHECK(record_of("<t xsi:type=\"QSU_TS\">" BOUNDS("term", "20240230", "2024") "<term/></t>") == RIGCACTUS_TYPE);
+}
+
 /* A list to print, at an odd address, and a record, with bytes before it and after it. */
 static uint8_t to_print[1 + RIGCACTUS_MOST_LIST_BYTES + RIGCACTUS_STRETCH_BYTES];
 static uint8_t lent_record[BESIDE + RIGCACTUS_MOST_PRINTED_BYTES + BESIDE];
@@ -495,11 +611,6 @@ static void check_printed_again(void)
     }
 }
 
-static uint64_t comparison_of(const char *first, const char *second, int64_t offset)
-{
-    return rigcactus_compare((const uint8_t *)first, strlen(first), (const uint8_t *)second, strlen(second), offset);
-}
-
 /* An answer, and nothing else in it. */
 static int is_compared(const char *first, const char *second, int comparison)
 {
@@ -513,7 +624,6 @@ static int is_refused_pair(const char *first, const char *second, int64_t offset
 }
 
 #define MONEY(value) "<t xsi:type=\"MO\" value=\"" value "\" currency=\"EUR\"/>"
-#define TIME(value) "<t xsi:type=\"TS\" value=\"" value "\"/>"
 
 static void check_compare(void)
 {
@@ -717,6 +827,11 @@ static void check_totals_refusals(void)
         {"<t xsi:type=\"II\" root=\"1.2\"/>", RIGCACTUS_TYPE},
         {"<t xsi:type=\"II\" nullFlavor=\"NI\"/>", RIGCACTUS_TYPE},
         {"<t xsi:type=\"TS\" value=\"1,2\" currency=\"EUR\"/>", RIGCACTUS_TYPE},
+        {TIME("20240230"), RIGCACTUS_TYPE},
+        {TIME("2024050124"), RIGCACTUS_TYPE},
+        {TIME("2024050112+1401"), RIGCACTUS_TYPE},
+        {BOUNDS("t", "20240230", "2024050112+1401"), RIGCACTUS_TYPE},
+        {SUM("20240230", "EUR") SUM("1", "EUR"), RIGCACTUS_MARKUP},
         {STAY, RIGCACTUS_TYPE},
         {"<t xsi:type=\"MO\" value=\"1\" currency=\"EUR\" root=\"1.2\"/>", RIGCACTUS_SHAPE},
         {SUM("1.00000", "EUR"), RIGCACTUS_VALUE},
@@ -737,7 +852,7 @@ static void check_totals_refusals(void)
     memcpy(padded, NO_SUM, strlen(NO_SUM));
     CHECK(is_counted(1, padded, 16384, -840, 0x200, 2));
     CHECK(is_counted(1, padded, 16385, 840, RIGCACTUS_TOO_LONG, 3) && is_counted(1, padded, 16385, -841, RIGCACTUS_OFFSET, 3));
-    CHECK(table[0] == 1 && table[1] == 1 && table[2] == 1 && table[3] == 18 && table[9] == 10000);
+    CHECK(table[0] == 1 && table[1] == 1 && table[2] == 1 && table[3] == 23 && table[9] == 10000);
 }
 
 /* Sixteen rows of each desk, in the order in which they came, and a currency more; what stands past the rows held is left as it is. */
@@ -856,6 +971,9 @@ int main(void)
     check_empty();
     check_limit();
     check_tick();
+    check_dates();
+    check_clocks();
+    check_forms();
     check_tick_units();
     check_tick_limits();
     check_check();
@@ -863,6 +981,7 @@ int main(void)
     check_list_helpers();
     check_list();
     check_list_refusals();
+    check_times_of_records();
     check_print();
     check_improper();
     check_print_years();
