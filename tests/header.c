@@ -424,7 +424,7 @@ static int record_of(const char *record)
     return agrees ? (int)refusal : -1;
 }
 
-/* An impossible time anywhere in a record: the first on the ladder, wherever it stands, after a wrong form anywhere and before a broken invariant. */
+/* An impossible time anywhere in a record: a date, then a clock, then an offset, after a wrong form anywhere and before a broken invariant. */
 static void check_times_of_records(void)
 {
     CHECK(record_of(TIME("20240230")) == DATE && record_of(TIME("2024050124")) == CLOCK && record_of(TIME("2024050112+1401")) == ZONE);
