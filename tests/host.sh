@@ -166,6 +166,15 @@ expect_wrong 'ZONE (15)' "the offset +00:60$offsets" 2024050109+0060
 expect_wrong 'ZONE (15)' "the offset -13:99$offsets" 2024050109-1399
 expect_wrong 'ZONE (15)' "the offset +99:99$offsets" 202405010930+9999
 
+# The times that docs/HOST.md shows.
+shown=0
+# shellcheck disable=SC2016
+while IFS=$'\t' read -r text line; do
+  shown=$((shown + 1))
+  expect 1 '' "rigcactus: refused: $line" tick "$text"
+done < <(sed -n 's/^| `\([0-9+]*\)` | \([A-Z]* ([0-9]*)\) | \(.*\) |$/\1\t\2: \3/p' "$repository/docs/HOST.md")
+[ $shown -eq 9 ] || fail "tick: docs/HOST.md shows $shown times that cannot be, and not 9"
+
 # Just possible, beside what is not.
 for text in 0001 9999 202401 202412 20240101 20240229 20230228 20000229 19000228 20240430 20240531 2024050100 2024050123 202405010959 20240501095959 2024050109+14 \
   2024050109+1400 2024050109-1400 2024050109+1359 2024050109+0059 2024050109-00; do
