@@ -63,27 +63,27 @@ fn rank(r: Refusal) -> u64
 }
 
 // The numbers that callers are told, in the order of the ladder.
-const NUMBERS: [u64; 20] = [
-    23,
-    21,
-    25,
-    1,
-    2,
-    3,
-    4,
-    5,
-    6,
-    7,
-    13,
-    14,
-    15,
-    8,
-    9,
-    10,
-    12,
-    11,
-    16,
-    17,
+const NUMBERS: [u8; 20] = [
+    23, // NO DESK
+    21, // DAMAGED
+    25, // DAY FULL
+    1, // OFFSET
+    2, // TOO LONG
+    3, // NOT UTF-8
+    4, // MARKUP
+    5, // TYPE
+    6, // SHAPE
+    7, // VALUE
+    13, // DATE
+    14, // CLOCK
+    15, // ZONE
+    8, // RULE
+    9, // UNKNOWN BOUND
+    10, // TOO MANY
+    12, // NOT WRITABLE
+    11, // NO ROOM
+    16, // NO ROW
+    17, // TOTAL
 ];
 
 // The number that a caller is told.
@@ -91,7 +91,7 @@ pub fn number(r: Refusal) -> u64
     ensures { λ n. ⌜ n ≡ pageNumber (refusalOf r) ⌝ }
 {
     let place = rank(r) as usize;
-    NUMBERS[place]
+    NUMBERS[place] as u64
 }
 
 // Of two verdicts the one that comes first on the ladder; an acceptance gives way.
