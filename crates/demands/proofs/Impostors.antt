@@ -1,7 +1,9 @@
--- The impostors that the rules page names ("What a contract here has to say"), and some that print: none of them meets the demands.
+-- The impostors that the rules page names ("What a contract here has to say"), some that print, and some that tell a time's wrong part: none of them meets
+-- the demands.
 use Prim.Native.Nat.{ℕ, _*_, _^_, _≤_}
 use Prim.Native.String.{String}
 use mathlib.Core.Path.{_≡_, refl, sym, _∙_, ap}
+use mathlib.Core.Logic.{inr}
 use mathlib.Core.Bool.{Bool, true, false, _||_}
 use mathlib.Core.List.{List, [], _∷_, _++_, flatMap}
 use native.Mathlib.Omega.{arith}
@@ -9,7 +11,8 @@ use lib.Dec.{eqb}
 use lib.ListN.{length, replicate}
 use lib.IntN.{ℤ, pos}
 use Rattle.rules.specs.Basics.{exists, bytes}
-use Rattle.rules.specs.Refusal.{Refusal, NO-ROOM, number}
+use Rattle.rules.specs.Refusal.{Refusal, DATE, CLOCK, RULE, NO-ROOM, number}
+use Rattle.rules.specs.Timestamp.{noZone, Written}
 use Rattle.rules.specs.Markup.{Element}
 use Rattle.rules.specs.Comparison.{Unknown}
 use Rattle.rules.specs.Sets.{Interval}
@@ -21,7 +24,9 @@ use Rattle.rules.proofs.Opened.{opened}
 use Rattle.rules.proofs.Tests.{clash}
 use Rattle.rules.proofs.ListingPromise.{small}
 use Rattle.demands.specs.Services.{Services, resultIn, accepts, refuses}
+use Rattle.demands.specs.WrongTimes.{Spells, no-day, ImpossibleClock, no-hour, wrong-date}
 use Rattle.demands.specs.Demands.{Demands}
+use Rattle.demands.proofs.Spelling.{spells}
 use Rattle.demands.proofs.Determined.{demands-determine}
 
 abbrev identifier : String
@@ -46,6 +51,16 @@ after-3 = flatMap eightBytes (pos 1 ∷ pos 3 ∷ pos 0 ∷ pos 0 ∷ [])
 
 abbrev hasUnboundedEnd : Interval → Bool
 hasUnboundedEnd v = isUnbounded (v .low) || isUnbounded (v .high)
+
+-- a day that no calendar has at an hour that no clock has, and records of that day: beside a null flavor, and as a bound
+abbrev no-day-no-hour : Written
+no-day-no-hour = record { year = 1900; parts = 2 ∷ 29 ∷ 24 ∷ []; fraction = []; zone = noZone }
+
+abbrev no-day-null : List ℕ
+no-day-null = bytes "<a xsi:type=\"TS\" nullFlavor=\"NI\" value=\"19000229\"/>"
+
+abbrev from-no-day : List ℕ
+from-no-day = bytes "<a xsi:type=\"IVL_TS\" lowClosed=\"true\"><low value=\"19000229\"/></a>"
 
 module _ (s : Services) (p : Demands s) where
   -- what such services say of them
@@ -147,3 +162,25 @@ module _ (s : Services) (p : Demands s) where
   prints-first-alone h =
       let e = h before-3 after-3 (replicate 258 7) refl (ap numberIn prints-one) (ap numberIn prints-two) in
       omega (arith, prints-one, prints-two, e)
+
+  -- one that never says DATE, as none did before request A5
+  pub never-date : ((offset : ℤ) (text : List ℕ) → numberIn (s .tick-says offset text) ≡ number DATE → ⊥) → ⊥
+  never-date h = h (pos 0) (bytes "19000229") (p .wrong-times .example)
+
+  -- one that gives CLOCK for every impossible clock, where the date is impossible too
+  pub clock-for-date : ((offset : ℤ) (text : List ℕ) (w : Written) → Spells text w → ImpossibleClock w → numberIn (s .tick-says offset text) ≡ number CLOCK) → ⊥
+  unfolding opened
+  clock-for-date h =
+      let spelled = spells (bytes "1900022924") no-day-no-hour .0 refl in
+      let date = p .wrong-times .ticks (pos 0) (bytes "1900022924") refl (omega arith) DATE .1 (wrong-date spelled (no-day (inr (omega arith)))) in
+      omega (arith, date, h (pos 0) (bytes "1900022924") no-day-no-hour spelled (no-hour (omega arith)))
+
+  -- one that gives RULE for every value beside a null flavor, where the value is impossible
+  pub rule-before-date : numberIn (s .check-says (pos 0) no-day-null) ≡ number RULE → ⊥
+  unfolding opened
+  rule-before-date e = omega (arith, e, ap numberIn (demands-determine s p .same-check (pos 0) no-day-null))
+
+  -- one that says what is wrong with a time only where that stands alone, and not where it is listed
+  pub passes-none-on : ((offset : ℤ) (record′ list : List ℕ) → numberIn (s .list-says offset record′ list) ≡ number DATE → ⊥) → ⊥
+  unfolding opened
+  passes-none-on h = h (pos 0) from-no-day [] (ap numberIn (demands-determine s p .same-list (pos 0) from-no-day []))
