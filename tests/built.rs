@@ -180,7 +180,7 @@ pub fn wrong_forms() -> Vec<Time> {
     let mut texts: Vec<String> = ["", "2", "20", "202", " 2024", "2024 ", "2024Z", "2024.5", "+2024", "-0001"].map(String::from).to_vec();
     for (date, zone) in DATES.iter().flat_map(|date| ZONES.map(|(zone, _)| (date, zone))) {
         let whole = cut(date, 3).0;
-        // An offset after a date without a clock, and letters, spaces and single digits.
+        // An offset after a date without a clock, a date with hyphens, and one after a space.
         texts.extend([1, 2, 3].iter().filter(|_| !zone.is_empty()).map(|count| cut(date, *count).0 + zone));
         texts.push(format!("{}-{}-{}{zone}", date.0.digits[0], date.0.digits[1], date.0.digits[2]));
         texts.push(format!(" {whole}{zone}"));

@@ -198,11 +198,12 @@ fn alone(trial: &mut Trial, times: &[Time], wrong_forms: &[Time]) {
 /// Every time in records in which nothing else is wrong, and some texts of the wrong form. Beside other faults the times are those that are
 /// not cut off, and some others.
 fn in_records(trial: &mut Trial, times: &[Time], wrong_forms: &[Time]) {
+    let good_places = built::good_places();
     let some_wrong: Vec<&Time> = wrong_forms.iter().step_by(211).collect();
     let whole: Vec<&Time> = times.iter().enumerate().filter(|(i, time)| time.precision == 14 || i % 50 == 0).map(|(_, time)| time).collect();
     for (i, time) in times.iter().chain(some_wrong.iter().copied()).enumerate() {
         let agreed = if i % 16 == 0 { FAR } else { AGREED[i % AGREED.len()] };
-        built::good_places().iter().for_each(|place| trial.attempt(&place.holding(time, agreed), agreed));
+        good_places.iter().for_each(|place| trial.attempt(&place.holding(time, agreed), agreed));
     }
     for place in built::places_beside_faults() {
         for (i, time) in whole.iter().chain(&some_wrong).enumerate() {
