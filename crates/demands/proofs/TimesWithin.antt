@@ -37,6 +37,13 @@ pub in-when : {r q : Refusal} (b : Bool) → List·Memᴰ r (q when b) → r ≡
 in-when true m = List·Memᴰ·eq-of-singleton m
 in-when false m = absurd (List·Memᴰ·not-nil m)
 
+-- one of these is no other
+pub not-of-text : {A : Type 0} (q : Refusal) → IsOfText q → (p : Refusal) → (IsOfText p → ⊥) → q ≡ p → A
+not-of-text q of-text p n e = absurd (n (subst IsOfText e of-text))
+
+pub not-part : {A : Type 0} (r : Refusal) → IsPart r → (q : Refusal) → (IsPart q → ⊥) → r ≡ q → A
+not-part r part q n e = absurd (n (subst IsPart e part))
+
 in-flatMap : {A B : Type 0} (f : A → List B) (l : List A) {b : B} → List·Memᴰ b (flatMap f l) → (a : A) × List·Memᴰ a l × List·Memᴰ b (f a)
 unfolding flatMap
 in-flatMap f [] m = absurd (List·Memᴰ·not-nil m)
@@ -213,11 +220,8 @@ in-children shift {q} k null stage n attrs kids rest m =
 
 -- one of the three stands in an element of a kind that has times: only there is a column for a time
 module _ (shift : ℕ) (r : Refusal) (part : IsPart r) where
-  not-part : {A : Type 0} (q : Refusal) → (IsPart q → ⊥) → r ≡ q → A
-  not-part q n e = absurd (n (subst IsPart e part))
-
   not-value : {A : Type 0} (b : Bool) → List·Memᴰ r (VALUE when b) → A
-  not-value b m = not-part VALUE (λ p. omega (arith, p)) (in-when b m)
+  not-value b m = not-part r part VALUE (λ p. omega (arith, p)) (in-when b m)
 
   time-form : (f : Form) (text : List ℕ) → List·Memᴰ r (formFaults shift f text) → isTime f ≡ true
   unfolding formFaults
@@ -235,18 +239,18 @@ module _ (shift : ℕ) (r : Refusal) (part : IsPart r) where
   element-timed : {p : Standing} {k : Kind} {attrs : List Attribute} {within : Kind → List Refusal} → (List·Memᴰ r (within k) → isTimed k ≡ true) → OfElement shift p k attrs within r
       → isTimed k ≡ true
   unfolding rankIn
-  element-timed below (of-attribute a i (not-allowed e)) = not-part SHAPE (λ p. omega (arith, p)) e
+  element-timed below (of-attribute a i (not-allowed e)) = not-part r part SHAPE (λ p. omega (arith, p)) e
   element-timed {k = k} below (of-attribute a i (of-column c n f m)) = rw (time-form (c .form) (a .value) m) at (both-true (not (isTime (c .form)) || isTimed k) _ f .0)
-  element-timed below (lacking e) = not-part SHAPE (λ p. omega (arith, p)) e
+  element-timed below (lacking e) = not-part r part SHAPE (λ p. omega (arith, p)) e
   element-timed below (of-kids m) = below m
-  element-timed below (breaking e) = not-part RULE (λ p. omega (arith, p)) e
+  element-timed below (breaking e) = not-part r part RULE (λ p. omega (arith, p)) e
 
   children-timed : (k : Kind) (null : Bool) (stage : ℕ) (ns : Nodes) → List·Memᴰ r (childFaults shift k null stage ns) → isTimed k ≡ true
   unfolding childFaults rankIn
-  children-timed k null stage end m = not-part SHAPE (λ p. omega (arith, p)) (in-when (not null && ltb stage (lineOf k .enough)) m)
+  children-timed k null stage end m = not-part r part SHAPE (λ p. omega (arith, p)) (in-when (not null && ltb stage (lineOf k .enough)) m)
   children-timed k null stage (node n attrs kids rest) m = elim (in-children shift k null stage n attrs kids rest m) [
-    | strange e ↦ not-part SHAPE (λ p. omega (arith, p)) e
-    | untyped e ↦ not-part TYPE (λ p. omega (arith, p)) e
+    | strange e ↦ not-part r part SHAPE (λ p. omega (arith, p)) e
+    | untyped e ↦ not-part r part TYPE (λ p. omega (arith, p)) e
     | of-child p j t h ↦ sym t ∙ element-timed (children-timed j (isNull attrs) 0 kids) h
     | of-rest to m ↦ children-timed k null to rest m
   ]
@@ -254,7 +258,7 @@ module _ (shift : ℕ) (r : Refusal) (part : IsPart r) where
   pub record-timed : (p : Standing) (o : Option Kind) (attrs : List Attribute) (kids : Nodes) → List·Memᴰ r (elementFaults shift p o attrs kids (kidsAs shift attrs kids))
       → (k : Kind) × (o ≡ some k) × (isTimed k ≡ true)
   unfolding elementFaults rankIn
-  record-timed p none attrs kids m = not-part TYPE (λ p. omega (arith, p)) (List·Memᴰ·eq-of-singleton m)
+  record-timed p none attrs kids m = not-part r part TYPE (λ p. omega (arith, p)) (List·Memᴰ·eq-of-singleton m)
   record-timed p (some k) attrs kids m = (k, refl, element-timed (children-timed k (isNull attrs) 0 kids) (in-element shift p k attrs kids (kidsAs shift attrs kids) m))
 
 -- a fault of a text, in an element of a kind that has times, is that of a text in it
@@ -274,9 +278,6 @@ pub among : {shift : ℕ} {q : Refusal} {s t : List ℕ → List (List ℕ)} →
 among f h = record { name = h .name; form = h .form; is-text = h .is-text; text = h .text; stands = f (h .name) (h .text) (h .stands); fault = h .fault }
 
 module _ (shift : ℕ) (q : Refusal) (of-text : IsOfText q) where
-  not-of-text : {A : Type 0} (p : Refusal) → (IsOfText p → ⊥) → q ≡ p → A
-  not-of-text p n e = absurd (n (subst IsOfText e of-text))
-
   attribute-text : (attrs : List Attribute) (a : Attribute) → List·Memᴰ a attrs → (n : List ℕ) (f : Form) → same n (a .name) ≡ true → isTextNamed n f ≡ true
       → List·Memᴰ q (formFaults shift f (a .value)) → HasFault shift q (λ name. ownTexts name attrs)
   unfolding formFaults
@@ -319,20 +320,20 @@ module _ (shift : ℕ) (q : Refusal) (of-text : IsOfText q) where
   element-text : {p : Standing} {k : Kind} {attrs : List Attribute} {within : Kind → List Refusal} (kids : Nodes) → isTimed k ≡ true
       → (List·Memᴰ q (within k) → HasFault shift q (λ name. textsIn name kids)) → OfElement shift p k attrs within q → HasFault shift q (λ name. ownTexts name attrs ++ textsIn name kids)
   unfolding rankIn
-  element-text kids t below (of-attribute a i (not-allowed e)) = not-of-text SHAPE (λ p. omega (arith, p)) e
+  element-text kids t below (of-attribute a i (not-allowed e)) = not-of-text q of-text SHAPE (λ p. omega (arith, p)) e
   element-text {k = k} {attrs = attrs} kids t below (of-attribute a i (of-column c n f m)) =
       let g = named-timed (isTextNamed (c .name) (c .form)) (isTimed k) t (both-true (not (isTime (c .form)) || isTimed k) _ f .1) in
       among (λ name text j. Memᴰ·append-left (textsIn name kids) j) (attribute-text attrs a i (c .name) (c .form) n g m)
-  element-text kids t below (lacking e) = not-of-text SHAPE (λ p. omega (arith, p)) e
+  element-text kids t below (lacking e) = not-of-text q of-text SHAPE (λ p. omega (arith, p)) e
   element-text {attrs = attrs} kids t below (of-kids m) = among (λ name text j. Memᴰ·append-right (ownTexts name attrs) j) (below m)
-  element-text kids t below (breaking e) = not-of-text RULE (λ p. omega (arith, p)) e
+  element-text kids t below (breaking e) = not-of-text q of-text RULE (λ p. omega (arith, p)) e
 
   children-text : (k : Kind) (null : Bool) (stage : ℕ) (ns : Nodes) → isTimed k ≡ true → List·Memᴰ q (childFaults shift k null stage ns) → HasFault shift q (λ name. textsIn name ns)
   unfolding childFaults textsIn rankIn
-  children-text k null stage end t m = not-of-text SHAPE (λ p. omega (arith, p)) (in-when (not null && ltb stage (lineOf k .enough)) m)
+  children-text k null stage end t m = not-of-text q of-text SHAPE (λ p. omega (arith, p)) (in-when (not null && ltb stage (lineOf k .enough)) m)
   children-text k null stage (node n attrs kids rest) t m = elim (in-children shift k null stage n attrs kids rest m) [
-    | strange e ↦ not-of-text SHAPE (λ p. omega (arith, p)) e
-    | untyped e ↦ not-of-text TYPE (λ p. omega (arith, p)) e
+    | strange e ↦ not-of-text q of-text SHAPE (λ p. omega (arith, p)) e
+    | untyped e ↦ not-of-text q of-text TYPE (λ p. omega (arith, p)) e
     | of-child p j u h ↦
         among (λ name text i. Memᴰ·append-left (textsIn name rest) i) (element-text kids (u ∙ t) (children-text j (isNull attrs) 0 kids (u ∙ t)) h)
     | of-rest to m ↦ among (λ name text i. Memᴰ·append-right (ownTexts name attrs ++ textsIn name kids) i) (children-text k null to rest t m)

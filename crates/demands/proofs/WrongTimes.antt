@@ -40,7 +40,7 @@ use Rattle.demands.specs.Demands.{IsFirst, Demand2, Demand3}
 use Rattle.demands.proofs.Answers.{iff-trans}
 use Rattle.demands.proofs.TotalsReadings.{reads}
 use Rattle.demands.proofs.WrongTexts.{is-wrong-by}
-use Rattle.demands.proofs.TimesWithin.{IsOfText, IsPart, is-part, in-when, isTimed, IsText, time-text, flavor-text, low-text, high-text, record-timed, ownTexts, HasFault, among, element-fault, IsClean, fault-in-element, fault-in-children}
+use Rattle.demands.proofs.TimesWithin.{IsOfText, IsPart, is-part, in-when, not-of-text, not-part, isTimed, IsText, time-text, flavor-text, low-text, high-text, record-timed, ownTexts, HasFault, among, element-fault, IsClean, fault-in-element, fault-in-children}
 
 -- the faults that don't lie in the element
 abbrev outerFaults : (offset : ℤ) → List ℕ → List Refusal
@@ -89,25 +89,22 @@ of-every p h (List·Memᴰ·tail {x = x} {xs = xs} m) = of-every p (every-true p
 
 -- a fault of a text stands in the record's element
 module _ (q : Refusal) (of-text : IsOfText q) where
-  other : {A : Type 0} (p : Refusal) → (IsOfText p → ⊥) → q ≡ p → A
-  other p n e = absurd (n (subst IsOfText e of-text))
-
   record-fault : (offset : ℤ) (input : List ℕ) → List·Memᴰ q (recordFaults offset input) → (e : Element) × (document input ≡ some e) × List·Memᴰ q (topFaults (shiftBy offset) e)
   unfolding recordFaults rankIn
   record-fault offset input m = elim (List·Memᴰ·append-cases (outerFaults offset input) m) [
     | inl m ↦ elim (List·Memᴰ·append-cases (OFFSET when not (isOffset offset) ++ TOO-LONG when isTooLong input) m) [
       | inl m ↦ elim (List·Memᴰ·append-cases (OFFSET when not (isOffset offset)) m) [
-        | inl m ↦ other OFFSET (λ p. omega (arith, p)) (in-when (not (isOffset offset)) m)
-        | inr m ↦ other TOO-LONG (λ p. omega (arith, p)) (in-when (isTooLong input) m)
+        | inl m ↦ not-of-text q of-text OFFSET (λ p. omega (arith, p)) (in-when (not (isOffset offset)) m)
+        | inr m ↦ not-of-text q of-text TOO-LONG (λ p. omega (arith, p)) (in-when (isTooLong input) m)
       ]
-      | inr m ↦ other NOT-UTF-8 (λ p. omega (arith, p)) (in-when (not (isUtf8 input)) m)
+      | inr m ↦ not-of-text q of-text NOT-UTF-8 (λ p. omega (arith, p)) (in-when (not (isUtf8 input)) m)
     ]
     | inr m ↦ go (document input) refl m
   ]
     where
       go : (o : Option Element) → document input ≡ o → List·Memᴰ q (faultsIn (topFaults (shiftBy offset)) (ifSome o answered (refused MARKUP)))
           → (e : Element) × (document input ≡ some e) × List·Memᴰ q (topFaults (shiftBy offset) e)
-      go none d m = other MARKUP (λ p. omega (arith, p)) (List·Memᴰ·eq-of-singleton m)
+      go none d m = not-of-text q of-text MARKUP (λ p. omega (arith, p)) (List·Memᴰ·eq-of-singleton m)
       go (some e) d m = (e, d, m)
 
 -- a record's element of a type that has times: it has a fault of a text exactly if one of its texts has, where nothing is wrong by TYPE or SHAPE
@@ -146,9 +143,6 @@ module _ (shift : ℕ) (e : Element) where
       (among (λ name text i. subst (List·Memᴰ text) (append-nil (ownTexts name (e .attrs) ++ textsIn name (e .kids))) i) h))
 
 module _ (r : Refusal) (part : IsPart r) where
-  unlike : {A : Type 0} (q : Refusal) → (IsPart q → ⊥) → r ≡ q → A
-  unlike q n e = absurd (n (subst IsPart e part))
-
   -- of a check's fault and TYPE for what is not allowed, the first is one of the three only if it is the check's and the record is allowed
   first-allowed : (offset : ℤ) (input : List ℕ) (allowed : Element → Bool) (q : Refusal) → check offset input ≡ refused q
       → firstOf (q ∷ faultsIn (λ e. TYPE when not (allowed e)) (elementOf input)) ≡ some r
@@ -275,9 +269,9 @@ module _ (offset : ℤ) (input : List ℕ) (r : Refusal) where
             wrong = time-fault shift text r .0 m;
             first = λ text q i w. given q (record { name = bytes "value"; form = Form.timestamp; is-text = time-text; text = text; stands = i; fault = time-fault shift text q .1 w });
           }
-          by-text flavor-text text i m = unlike r part VALUE (λ p. omega (arith, p)) (in-when (not (isFlavor text)) m)
-          by-text low-text text i m = unlike r part VALUE (λ p. omega (arith, p)) (in-when (not (isFlag text)) m)
-          by-text high-text text i m = unlike r part VALUE (λ p. omega (arith, p)) (in-when (not (isFlag text)) m)
+          by-text flavor-text text i m = not-part r part VALUE (λ p. omega (arith, p)) (in-when (not (isFlavor text)) m)
+          by-text low-text text i m = not-part r part VALUE (λ p. omega (arith, p)) (in-when (not (isFlag text)) m)
+          by-text high-text text i m = not-part r part VALUE (λ p. omega (arith, p)) (in-when (not (isFlag text)) m)
 
 -- a text has one fault, that of reading it
 first-of-read : (o : Outcome Moment) (r : Refusal) → IsFirst r (faultsOf o ++ []) ↔ o ≡ refused r
@@ -356,7 +350,7 @@ module _ (s : Services) (two : Demand2 s) (three : Demand3 s) (offset : ℤ) whe
         λ n. elim (comparing first second) [
           | of-first q c m ↦ clash (omega (arith, same-named m n .1))
           | of-second a q c d m ↦ (accepted first .1 (a, c), checked second r .1 (d ∙ ap refused (same-named m n .0)))
-          | of-types m ↦ unlike r part TYPE (λ p. omega (arith, p)) (sym (same-named m n .0))
+          | of-types m ↦ not-part r part TYPE (λ p. omega (arith, p)) (sym (same-named m n .0))
           | an-answer x h ↦ no-answer h n
         ],
         λ (z, e). let (a, c) = accepted first .0 z in two .comparison-promise offset .second-refused first second a r c (checked second r .0 e),
@@ -376,14 +370,14 @@ module _ (s : Services) (two : Demand2 s) (three : Demand3 s) (offset : ℤ) whe
         there : numberIn (s .list-says offset input list) ≡ number r → (numberIn (s .check-says offset input) ≡ number r) × ((e : Element) × (document input ≡ some e) × (isListed e ≡ true))
         there n = elim (case offset input) [
           | faulty q t c f ↦ let (d, l) = first-allowed r part offset input isListed q c (f ∙ ap some (sym (given n (promise .faulty q t c f)))) in (checked input r .1 d, l)
-          | other-type e c l ↦ unlike r part TYPE (λ p. omega (arith, p)) (given n (promise .other-type e c l))
-          | unclear e c l u ↦ unlike r part UNKNOWN-BOUND (λ p. omega (arith, p)) (given n (promise .unknown-bound .1 (e, c, l, u)))
-          | many e c l u m ↦ unlike r part TOO-MANY (λ p. omega (arith, p)) (given n (promise .too-many .1 (e, c, l, u, m)))
+          | other-type e c l ↦ not-part r part TYPE (λ p. omega (arith, p)) (given n (promise .other-type e c l))
+          | unclear e c l u ↦ not-part r part UNKNOWN-BOUND (λ p. omega (arith, p)) (given n (promise .unknown-bound .1 (e, c, l, u)))
+          | many e c l u m ↦ not-part r part TOO-MANY (λ p. omega (arith, p)) (given n (promise .too-many .1 (e, c, l, u, m)))
           | a-set e h ↦
               let t = promise .sets e h in
               elim (decLe (length (t .stretches)) (roomOf list)) [
                 | yes l ↦ clash (omega (arith, small r, n, t .room l .number-given))
-                | no l ↦ unlike r part NO-ROOM (λ p. omega (arith, p)) (given n (t .no-room .1 (omega (arith, l))))
+                | no l ↦ not-part r part NO-ROOM (λ p. omega (arith, p)) (given n (t .no-room .1 (omega (arith, l))))
               ]
         ]
 
