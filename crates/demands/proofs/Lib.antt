@@ -4,6 +4,7 @@ pub mod Years
 pub mod Spelling
 pub mod WrongTexts
 pub mod TimesWithin
+pub mod Retimed
 pub mod WrongTimes
 pub mod TotalsNumbers
 pub mod TotalsReadings

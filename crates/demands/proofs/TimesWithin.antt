@@ -190,7 +190,7 @@ module _ (shift : ℕ) {q : Refusal} where
       missing : List Refusal
       missing = SHAPE when exists (lacks attrs) (lineOf k .columns)
 
-abbrev kidsAs : (shift : ℕ) → List Attribute → Nodes → Kind → List Refusal
+abbrev pub kidsAs : (shift : ℕ) → List Attribute → Nodes → Kind → List Refusal
 kidsAs shift attrs kids j = childFaults shift j (isNull attrs) 0 kids
 
 -- of a child and those after it

@@ -1,17 +1,17 @@
 -- What is wrong with a text as a timestamp: reading refuses it by what request A5 says.
 use Prim.Native.Nat.{ℕ, _+_, _*_}
-use mathlib.Core.Path.{_≡_, refl, sym, _∙_}
+use mathlib.Core.Path.{_≡_, refl, sym, _∙_, ap}
 use mathlib.Core.Logic.{_⊎_, inl, inr, _↔_}
 use mathlib.Core.Bool.{Bool, true, false, _&&_, cond}
-use mathlib.Core.List.{List}
+use mathlib.Core.List.{List, List·Memᴰ, List·Memᴰ·head, List·Memᴰ·not-nil, List·Memᴰ·eq-of-singleton}
 use mathlib.Core.Option.{Option, none, some}
 use native.Mathlib.Omega.{arith}
 use borrow.Author.Tests.{leb-true, leb-false}
 use lib.Dec.{leb}
 use Rattle.rules.specs.Basics.{isFrom}
-use Rattle.rules.specs.Refusal.{Refusal, VALUE, DATE, CLOCK, ZONE, answered, refused}
+use Rattle.rules.specs.Refusal.{Refusal, VALUE, DATE, CLOCK, ZONE, Outcome, answered, refused, faultsOf}
 use Rattle.rules.specs.Parsers.{whole}
-use Rattle.rules.specs.Timestamp.{Zone, noZone, plus, minus, Written, timestamp, monthOf, hourOf, minuteOf, secondOf, isDate, isClock, isOffsetTime, isZone, momentOf, readTimestamp}
+use Rattle.rules.specs.Timestamp.{Zone, noZone, plus, minus, Written, timestamp, monthOf, hourOf, minuteOf, secondOf, isDate, isClock, isOffsetTime, isZone, Moment, momentOf, readTimestamp}
 use Rattle.rules.proofs.Tests.{clash, both-true, isFrom-true}
 use Rattle.rules.proofs.Ticks.{read-wrong-form, read-right-form}
 use Rattle.demands.specs.WrongTimes.{Spells, Outside, ImpossibleDate, no-year, no-month, no-day, ImpossibleClock, no-hour, no-minute, no-second, OverOffset, ImpossibleOffset, no-plus, no-minus, IsWrongBy, wrong-form, wrong-date, wrong-clock, wrong-zone}
@@ -116,3 +116,8 @@ module _ (shift : ℕ) (text : List ℕ) where
 
   pub is-wrong-by : (r : Refusal) → readTimestamp shift text ≡ refused r ↔ IsWrongBy text r
   is-wrong-by r = (refused-wrong r, wrong-refused)
+
+-- what is read has no fault, and what is refused has one
+pub in-read : (o : Outcome Moment) (r : Refusal) → List·Memᴰ r (faultsOf o) ↔ o ≡ refused r
+in-read (answered m) r = (λ m. absurd (List·Memᴰ·not-nil m), λ e. clash (cc))
+in-read (refused q) r = (λ m. ap refused (sym (List·Memᴰ·eq-of-singleton m)), λ e. let z : q ≡ r = cc in List·Memᴰ·head (sym z))

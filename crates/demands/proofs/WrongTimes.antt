@@ -2,7 +2,7 @@
 use Prim.Native.Nat.{ℕ, _≤_, _<_}
 use mathlib.Core.Path.{_≡_, refl, sym, _∙_, ap, subst}
 use mathlib.Core.Logic.{inl, inr, _↔_}
-use mathlib.Core.Bool.{Bool, true, false, not}
+use mathlib.Core.Bool.{Bool, true, false, not, _&&_}
 use mathlib.Core.List.{List, [], _∷_, _++_, append-nil, List·Memᴰ, List·Memᴰ·head, List·Memᴰ·tail, List·Memᴰ·not-nil, List·Memᴰ·cases-cons, List·Memᴰ·append-cases, List·Memᴰ·eq-of-singleton, Memᴰ·append-left, Memᴰ·append-right}
 use mathlib.Core.Option.{Option, none, some}
 use native.Mathlib.Decide.{decLe, decLt}
@@ -25,7 +25,7 @@ use Rattle.rules.specs.Comparison.{Answer, Comparer}
 use Rattle.rules.specs.ListingPromise.{numberIn, isListed, Refuses, ListingPromise}
 use Rattle.rules.specs.ComparisonPromise.{Names, Says}
 use Rattle.rules.proofs.Tests.{clash, every-true, found}
-use Rattle.rules.proofs.Precedence.{number-injective, first-is, check-refused, check-answered}
+use Rattle.rules.proofs.Precedence.{rank-injective, number-injective, first-is, check-refused, check-answered}
 use Rattle.rules.proofs.Opened.{opened}
 use Rattle.rules.proofs.Members.{type-is}
 use Rattle.rules.proofs.ListingCases.{faulty, other-type, unclear, many, a-set, case}
@@ -35,11 +35,12 @@ use Rattle.rules.specs.Totals.{Entry}
 use Rattle.rules.specs.TotalDays.{Call, readingOf}
 use Rattle.demands.specs.Services.{Services}
 use Rattle.demands.specs.Totals.{Reads}
-use Rattle.demands.specs.WrongTimes.{IsWrongBy, textsIn, textsOf, HasWrongTime, partRefusals, WrongTimesPromise}
+use Rattle.demands.specs.WrongTimes.{IsWrongBy, textsIn, textsOf, IsOfTimes, HasWrongForm, wrong-flavor, wrong-flag, wrong-text, HasWrongTime, partRefusals, WrongTimesPromise}
 use Rattle.demands.specs.Demands.{IsFirst, Demand2, Demand3}
 use Rattle.demands.proofs.Answers.{iff-trans}
 use Rattle.demands.proofs.TotalsReadings.{reads}
-use Rattle.demands.proofs.WrongTexts.{is-wrong-by}
+use Rattle.demands.proofs.WrongTexts.{in-read, is-wrong-by}
+use Rattle.demands.proofs.Retimed.{alike-top}
 use Rattle.demands.proofs.TimesWithin.{IsOfText, IsPart, is-part, in-when, not-of-text, not-part, isTimed, IsText, time-text, flavor-text, low-text, high-text, record-timed, ownTexts, HasFault, among, element-fault, IsClean, fault-in-element, fault-in-children}
 
 -- the faults that don't lie in the element
@@ -78,14 +79,28 @@ all-true = refl
 of-part : (r : Refusal) → IsPart r → IsOfText r
 of-part r part = omega (arith, part)
 
-every-of : {A : Type 0} (p : A → Bool) (l : List A) → ((a : A) → List·Memᴰ a l → p a ≡ true) → every p l ≡ true
+-- not all pass a test exactly if one does not
+none-of : {A : Type 0} (p : A → Bool) {l : List A} {a : A} → List·Memᴰ a l → p a ≡ false → every p l ≡ false
 unfolding every
-every-of p [] h = refl
-every-of p (a ∷ l) h = rw (h a (List·Memᴰ·head refl), every-of p l (λ b m. h b (List·Memᴰ·tail m))) refl
+none-of p (List·Memᴰ·head e) h = rw (← e, h) refl
+none-of p (List·Memᴰ·tail {x = x} m) h = go (p x) (none-of p m h)
+  where
+    go : (b : Bool) {c : Bool} → c ≡ false → (b && c) ≡ false
+    go true e = e
+    go false e = refl
 
-of-every : {A : Type 0} (p : A → Bool) {l : List A} {a : A} → every p l ≡ true → List·Memᴰ a l → p a ≡ true
-of-every p h (List·Memᴰ·head {x = x} {xs = xs} e) = rw e (every-true p x xs h .0)
-of-every p h (List·Memᴰ·tail {x = x} {xs = xs} m) = of-every p (every-true p x xs h .1) m
+one-of : {A : Type 0} (p : A → Bool) (l : List A) → every p l ≡ false → (a : A) × List·Memᴰ a l × (p a ≡ false)
+unfolding every
+one-of p [] h = clash (cc)
+one-of p (a ∷ l) h = go (p a) refl h (one-of p l)
+  where
+    go : (b : Bool) → p a ≡ b → (b && every p l) ≡ false → (every p l ≡ false → (c : _) × List·Memᴰ c l × (p c ≡ false)) → (c : _) × List·Memᴰ c (a ∷ l) × (p c ≡ false)
+    go false e h below = (a, List·Memᴰ·head refl, e)
+    go true e h below = let (c, m, f) = below h in (c, List·Memᴰ·tail m, f)
+
+given-when : (good : Bool) → List·Memᴰ VALUE (VALUE when not good) → good ≡ false
+given-when true m = absurd (List·Memᴰ·not-nil m)
+given-when false m = refl
 
 -- a fault of a text stands in the record's element
 module _ (q : Refusal) (of-text : IsOfText q) where
@@ -112,10 +127,10 @@ module _ (shift : ℕ) (e : Element) where
   abbrev texts : (name : List ℕ) → List (List ℕ)
   texts name = textsIn name (node (e .name) (e .attrs) (e .kids) end)
 
-  abbrev IsOfTimes : Type 0
-  IsOfTimes = isSome (typeAmong (TS ∷ memberTypes) (e .attrs)) ≡ true
+  abbrev HasTimes : Type 0
+  HasTimes = isSome (typeAmong (TS ∷ memberTypes) (e .attrs)) ≡ true
 
-  kind-of-times : IsOfTimes → (k : Kind) × (typeAmong allTypes (e .attrs) ≡ some k) × (isTimed k ≡ true)
+  kind-of-times : HasTimes → (k : Kind) × (typeAmong allTypes (e .attrs) ≡ some k) × (isTimed k ≡ true)
   kind-of-times t = go (typeAmong (TS ∷ memberTypes) (e .attrs)) refl t
     where
       go : (o : Option Kind) → typeAmong (TS ∷ memberTypes) (e .attrs) ≡ o → isSome o ≡ true → (k : Kind) × (typeAmong allTypes (e .attrs) ≡ some k) × (isTimed k ≡ true)
@@ -124,18 +139,18 @@ module _ (shift : ℕ) (e : Element) where
           let (g, l) = found (hasType (e .attrs)) isTimed (TS ∷ memberTypes) k all-timed f in
           (k, type-timed (e .attrs) k l g .0, l)
 
-  part-of-times : (r : Refusal) → IsPart r → List·Memᴰ r (topFaults shift e) → IsOfTimes
+  part-of-times : (r : Refusal) → IsPart r → List·Memᴰ r (topFaults shift e) → HasTimes
   part-of-times r part m =
       let (k, f, t) = record-timed shift r part top (typeAmong allTypes (e .attrs)) (e .attrs) (e .kids) m in
       ap isSome (type-timed (e .attrs) k t (found (hasType (e .attrs)) (λ k. true) allTypes k all-true f .0) .1)
 
-  fault-of-text : IsOfTimes → (q : Refusal) → IsOfText q → List·Memᴰ q (topFaults shift e) → HasFault shift q texts
+  fault-of-text : HasTimes → (q : Refusal) → IsOfText q → List·Memᴰ q (topFaults shift e) → HasFault shift q texts
   unfolding textsIn
   fault-of-text t q of-text m =
       let (k, f, l) = kind-of-times t in
       among (λ name text i. Memᴰ·append-left [] i) (element-fault shift q of-text top k (e .attrs) (e .kids) l (rw f at m))
 
-  text-of-fault : IsOfTimes → (q : Refusal) → IsClean (topFaults shift e) → HasFault shift q texts → List·Memᴰ q (topFaults shift e)
+  text-of-fault : HasTimes → (q : Refusal) → IsClean (topFaults shift e) → HasFault shift q texts → List·Memᴰ q (topFaults shift e)
   unfolding textsIn
   text-of-fault t q c h =
       let (k, f, l) = kind-of-times t in
@@ -179,99 +194,150 @@ money-timeless k r e m = go (reads k) e
     go (Reads.a-null c t n) e = clash (cc)
     go (Reads.an-amount c t n l v w) e = clash (cc)
 
--- the fault of a text that is to be of a form, by the text
-in-read : (o : Outcome Moment) (r : Refusal) → List·Memᴰ r (faultsOf o) ↔ o ≡ refused r
-in-read (answered m) r = (λ m. absurd (List·Memᴰ·not-nil m), λ e. clash (cc))
-in-read (refused q) r = (λ m. ap refused (sym (List·Memᴰ·eq-of-singleton m)), λ e. let z : q ≡ r = cc in List·Memᴰ·head (sym z))
-
+-- the fault of a text that is to be a time, by the text
 time-fault : (shift : ℕ) (text : List ℕ) (r : Refusal) → List·Memᴰ r (formFaults shift Form.timestamp text) ↔ IsWrongBy text r
 unfolding formFaults
 time-fault shift text r = iff-trans (in-read (readTimestamp shift text) r) (is-wrong-by shift text r)
 
--- a record whose first fault is of a time, or whose first wrong text is a time
-module _ (offset : ℤ) (input : List ℕ) (r : Refusal) where
+-- a record of times: nothing that stands before VALUE applies to it
+module _ (offset : ℤ) (input : List ℕ) (e : Element) where
   abbrev shift : ℕ
   shift = shiftBy offset
 
-  -- nothing that stands before VALUE applies: so nothing is wrong by TYPE or SHAPE
-  is-clean : (e : Element) → document input ≡ some e → ((q : Refusal) → List·Memᴰ q (recordFaults offset input) → rank VALUE ≤ rank q) → IsClean (topFaults shift e)
-  unfolding rankIn
-  is-clean e d l = (λ m. omega (arith, l TYPE (in-record offset input e d m)), λ m. omega (arith, l SHAPE (in-record offset input e d m)))
+  nothing-before : IsOfTimes offset input e → (q : Refusal) → List·Memᴰ q (recordFaults offset input) → rank VALUE ≤ rank q
+  unfolding recordFaults
+  nothing-before t q m = elim (decLe (rank VALUE) (rank q)) [
+    | yes l ↦ l
+    | no l ↦
+        let n : List·Memᴰ q (topFaults shift e) = rw (t .offset-allowed, t .not-too-long, t .utf-8, t .read) at m in
+        t .shaped q (alike-top shift e q (omega (arith, l)) .1 n)
+  ]
 
-  wrong-first : IsOfText r → HasWrongTime offset input r → IsFirst r (recordFaults offset input)
-  unfolding formFaults
-  wrong-first of-text w = (in-record offset input e (w .read) (text-of-fault shift e (w .of-times) r (is-clean e (w .read) (w .nothing-before)) given), least)
+  of-times : document input ≡ some e → HasTimes shift e → ((q : Refusal) → List·Memᴰ q (recordFaults offset input) → rank VALUE ≤ rank q) → IsOfTimes offset input e
+  unfolding recordFaults rankIn
+  of-times d t before = record {
+    offset-allowed = allowed (isOffset offset) refl;
+    not-too-long = short (isTooLong input) refl;
+    utf-8 = characters (isUtf8 input) refl;
+    read = d;
+    type = t;
+    shaped = λ q m. elim (decLe (rank VALUE) (rank q)) [ yes l ↦ l | no l ↦ before q (in-record offset input e d (alike-top shift e q (omega (arith, l)) .0 m)) ];
+  }
     where
-      e : Element
-      e = w .element
+      outer : {q : Refusal} → List·Memᴰ q (outerFaults offset input) → rank VALUE ≤ rank q
+      outer {q} m = before q (Memᴰ·append-left _ m)
 
-      given : HasFault shift r (texts shift e)
-      given = record { name = bytes "value"; form = Form.timestamp; is-text = time-text; text = w .text; stands = w .stands; fault = time-fault shift (w .text) r .1 (w .wrong) }
+      allowed : (b : Bool) → isOffset offset ≡ b → b ≡ true
+      allowed true f = refl
+      allowed false f = absurd (omega (arith, outer {q = OFFSET} (rw f (List·Memᴰ·head refl))))
 
-      flag-formed : {text : List ℕ} → List·Memᴰ text (textsOf "lowClosed" e ++ textsOf "highClosed" e) → isFlag text ≡ true
-      flag-formed = of-every isFlag (w .flags)
+      short : (b : Bool) → isTooLong input ≡ b → b ≡ false
+      short false f = refl
+      short true f = absurd (omega (arith, outer {q = TOO-LONG} (Memᴰ·append-left _ (Memᴰ·append-right (OFFSET when not (isOffset offset)) (rw f (List·Memᴰ·head refl))))))
 
-      by-text : (q : Refusal) {name : List ℕ} {form : Form} → IsText name form → (text : List ℕ) → List·Memᴰ text (texts shift e name) → List·Memᴰ q (formFaults shift form text) → rank r ≤ rank q
-      by-text q time-text text i m = w .first text q i (time-fault shift text q .0 m)
-      by-text q flavor-text text i m = absurd (List·Memᴰ·not-nil (rw (of-every isFlavor (w .flavors) i) at m))
-      by-text q low-text text i m = absurd (List·Memᴰ·not-nil (rw (flag-formed (Memᴰ·append-left (textsOf "highClosed" e) i)) at m))
-      by-text q high-text text i m = absurd (List·Memᴰ·not-nil (rw (flag-formed (Memᴰ·append-right (textsOf "lowClosed" e) i)) at m))
+      characters : (b : Bool) → isUtf8 input ≡ b → b ≡ true
+      characters true f = refl
+      characters false f = absurd (omega (arith, outer {q = NOT-UTF-8} (Memᴰ·append-right (OFFSET when not (isOffset offset) ++ TOO-LONG when isTooLong input) (rw f (List·Memᴰ·head refl)))))
 
-      by-fault : (q : Refusal) → HasFault shift q (texts shift e) → rank r ≤ rank q
-      by-fault q h = by-text q (h .is-text) (h .text) (h .stands) (h .fault)
+  is-clean : IsOfTimes offset input e → IsClean (topFaults shift e)
+  unfolding rankIn
+  is-clean t =
+      let early : (q : Refusal) → List·Memᴰ q (topFaults shift e) → rank VALUE ≤ rank q = λ q m. nothing-before t q (in-record offset input e (t .read) m) in
+      (λ m. omega (arith, early TYPE m), λ m. omega (arith, early SHAPE m))
 
-      least : (q : Refusal) → List·Memᴰ q (recordFaults offset input) → rank r ≤ rank q
-      least q m = elim (decLt (rank q) (rank RULE)) [
-        | no l ↦ omega (arith, of-text, l)
-        | yes l ↦
-            let of-q : IsOfText q = (w .nothing-before q m, l) in
-            let (f, d, n) = record-fault q of-q offset input m in
-            let z : f ≡ e = cc (d, w .read) in
-            by-fault q (fault-of-text shift e (w .of-times) q of-q (rw z at n))
+  -- the fault of a text in it is a fault of the record, and the other way round
+  text-given : IsOfTimes offset input e → (q : Refusal) → HasFault shift q (texts shift e) → List·Memᴰ q (recordFaults offset input)
+  text-given t q h = in-record offset input e (t .read) (text-of-fault shift e (t .type) q (is-clean t) h)
+
+  given-text : IsOfTimes offset input e → (q : Refusal) → IsOfText q → List·Memᴰ q (recordFaults offset input) → HasFault shift q (texts shift e)
+  given-text t q of-text m =
+      let (f, d, n) = record-fault q of-text offset input m in
+      let z : f ≡ e = cc (d, t .read) in
+      fault-of-text shift e (t .type) q of-text (rw z at n)
+
+  -- a text that is of the wrong form has VALUE, and what has VALUE is of the wrong form
+  ill-formed : {name : List ℕ} {form : Form} (x : IsText name form) (text : List ℕ) → List·Memᴰ text (texts shift e name) → List·Memᴰ VALUE (formFaults shift form text) → HasWrongForm e
+  unfolding formFaults
+  ill-formed time-text text i m = wrong-text text i (time-fault shift text VALUE .0 m)
+  ill-formed flavor-text text i m = wrong-flavor (none-of isFlavor i (given-when (isFlavor text) m))
+  ill-formed low-text text i m = wrong-flag (none-of isFlag (Memᴰ·append-left (textsOf "highClosed" e) i) (given-when (isFlag text) m))
+  ill-formed high-text text i m = wrong-flag (none-of isFlag (Memᴰ·append-right (textsOf "lowClosed" e) i) (given-when (isFlag text) m))
+
+  form-fault : HasWrongForm e → HasFault shift VALUE (texts shift e)
+  unfolding formFaults
+  form-fault (wrong-text text i w) =
+      record { name = bytes "value"; form = Form.timestamp; is-text = time-text; text = text; stands = i; fault = time-fault shift text VALUE .1 w }
+  form-fault (wrong-flavor h) =
+      let (text, i, f) = one-of isFlavor (textsOf "nullFlavor" e) h in
+      record { name = bytes "nullFlavor"; form = Form.flavor; is-text = flavor-text; text = text; stands = i; fault = rw f (List·Memᴰ·head refl) }
+  form-fault (wrong-flag h) =
+      let (text, i, f) = one-of isFlag (textsOf "lowClosed" e ++ textsOf "highClosed" e) h in
+      elim (List·Memᴰ·append-cases (textsOf "lowClosed" e) {t = textsOf "highClosed" e} i) [
+        | inl i ↦ record { name = bytes "lowClosed"; form = Form.flag; is-text = low-text; text = text; stands = i; fault = rw f (List·Memᴰ·head refl) }
+        | inr i ↦ record { name = bytes "highClosed"; form = Form.flag; is-text = high-text; text = text; stands = i; fault = rw f (List·Memᴰ·head refl) }
       ]
 
-  first-wrong : IsPart r → IsFirst r (recordFaults offset input) → HasWrongTime offset input r
-  unfolding formFaults
-  first-wrong part (m, least) =
-      let (e, d, n) = record-fault r (of-part r part) offset input m in
-      go e d (part-of-times shift e r part n) (fault-of-text shift e (part-of-times shift e r part n) r (of-part r part) n)
-    where
-      before : (q : Refusal) → List·Memᴰ q (recordFaults offset input) → rank VALUE ≤ rank q
-      before q m = omega (arith, part, least q m)
+  pub stays-value : IsOfTimes offset input e → IsFirst VALUE (recordFaults offset input) ↔ HasWrongForm e
+  unfolding rankIn
+  stays-value t = (
+    λ (m, l). let h = given-text t VALUE (omega arith) m in ill-formed (h .is-text) (h .text) (h .stands) (h .fault),
+    λ h. (text-given t VALUE (form-fault h), nothing-before t),
+  )
 
-      go : (e : Element) → document input ≡ some e → IsOfTimes shift e → HasFault shift r (texts shift e) → HasWrongTime offset input r
-      go e d t h = by-text (h .is-text) (h .text) (h .stands) (h .fault)
-        where
-          given : (q : Refusal) → HasFault shift q (texts shift e) → rank r ≤ rank q
-          given q h = least q (in-record offset input e d (text-of-fault shift e t q (is-clean e d before) h))
+  module _ (r : Refusal) (part : IsPart r) where
+    wrong-first : IsOfTimes offset input e → HasWrongTime e r → IsFirst r (recordFaults offset input)
+    unfolding formFaults
+    wrong-first t w = (text-given t r (record { name = bytes "value"; form = Form.timestamp; is-text = time-text; text = w .text; stands = w .stands; fault = time-fault shift (w .text) r .1 (w .wrong) }), least)
+      where
+        by-text : (q : Refusal) → rank VALUE < rank q → {name : List ℕ} {form : Form} → IsText name form → (text : List ℕ) → List·Memᴰ text (texts shift e name)
+            → List·Memᴰ q (formFaults shift form text) → rank r ≤ rank q
+        by-text q l time-text text i m = w .first text q i (time-fault shift text q .0 m)
+        by-text q l flavor-text text i m = absurd (omega (arith, l, ap rank (in-when (not (isFlavor text)) m)))
+        by-text q l low-text text i m = absurd (omega (arith, l, ap rank (in-when (not (isFlag text)) m)))
+        by-text q l high-text text i m = absurd (omega (arith, l, ap rank (in-when (not (isFlag text)) m)))
 
-          formed : (good : Bool) → (List·Memᴰ VALUE (VALUE when not good) → HasFault shift VALUE (texts shift e)) → good ≡ true
-          formed true f = refl
-          formed false f = absurd (omega (arith, part, given VALUE (f (List·Memᴰ·head refl))))
+        by-fault : (q : Refusal) → rank VALUE < rank q → HasFault shift q (texts shift e) → rank r ≤ rank q
+        by-fault q l h = by-text q l (h .is-text) (h .text) (h .stands) (h .fault)
 
-          text-formed : {name : List ℕ} {form : Form} → IsText name form → (text : List ℕ) → List·Memᴰ text (texts shift e name) → (good : Bool)
-              → (List·Memᴰ VALUE (VALUE when not good) → List·Memᴰ VALUE (formFaults shift form text)) → good ≡ true
-          text-formed {name} {form} x text i good f = formed good (λ m. record { name = name; form = form; is-text = x; text = text; stands = i; fault = f m })
+        -- VALUE is given by a wrong form alone
+        not-value : (q : Refusal) → List·Memᴰ q (recordFaults offset input) → rank VALUE < rank q
+        not-value q m = elim (decLt (rank VALUE) (rank q)) [
+          | yes l ↦ l
+          | no l ↦
+              let z : q ≡ VALUE = rank-injective q VALUE (omega (arith, l, nothing-before t q m)) in
+              absurd (w .formed (stays-value t .0 (rw z at m, nothing-before t)))
+        ]
 
-          by-text : {name : List ℕ} {form : Form} → IsText name form → (text : List ℕ) → List·Memᴰ text (texts shift e name) → List·Memᴰ r (formFaults shift form text) → HasWrongTime offset input r
-          by-text time-text text i m = record {
-            element = e;
-            read = d;
-            of-times = t;
-            nothing-before = before;
-            flavors = every-of isFlavor _ (λ text i. text-formed flavor-text text i (isFlavor text) (λ m. m));
-            flags = every-of isFlag _ (λ text i. elim (List·Memᴰ·append-cases (textsOf "lowClosed" e) {t = textsOf "highClosed" e} i) [
-              | inl i ↦ text-formed low-text text i (isFlag text) (λ m. m)
-              | inr i ↦ text-formed high-text text i (isFlag text) (λ m. m)
-            ]);
-            text = text;
-            stands = i;
-            wrong = time-fault shift text r .0 m;
-            first = λ text q i w. given q (record { name = bytes "value"; form = Form.timestamp; is-text = time-text; text = text; stands = i; fault = time-fault shift text q .1 w });
-          }
-          by-text flavor-text text i m = not-part r part VALUE (λ p. omega (arith, p)) (in-when (not (isFlavor text)) m)
-          by-text low-text text i m = not-part r part VALUE (λ p. omega (arith, p)) (in-when (not (isFlag text)) m)
-          by-text high-text text i m = not-part r part VALUE (λ p. omega (arith, p)) (in-when (not (isFlag text)) m)
+        least : (q : Refusal) → List·Memᴰ q (recordFaults offset input) → rank r ≤ rank q
+        least q m = elim (decLt (rank q) (rank RULE)) [
+          | no l ↦ omega (arith, part, l)
+          | yes l ↦ by-fault q (not-value q m) (given-text t q (omega (arith, l, not-value q m)) m)
+        ]
+
+    first-wrong : document input ≡ some e → List·Memᴰ r (topFaults shift e) → IsFirst r (recordFaults offset input) → IsOfTimes offset input e × HasWrongTime e r
+    unfolding formFaults
+    first-wrong d n (m, least) = (t, by-text (h .is-text) (h .text) (h .stands) (h .fault))
+      where
+        before : (q : Refusal) → List·Memᴰ q (recordFaults offset input) → rank VALUE ≤ rank q
+        before q m = omega (arith, part, least q m)
+
+        t : IsOfTimes offset input e
+        t = of-times d (part-of-times shift e r part n) before
+
+        h : HasFault shift r (texts shift e)
+        h = fault-of-text shift e (t .type) r (of-part r part) n
+
+        by-text : {name : List ℕ} {form : Form} → IsText name form → (text : List ℕ) → List·Memᴰ text (texts shift e name) → List·Memᴰ r (formFaults shift form text) → HasWrongTime e r
+        by-text time-text text i m = record {
+          formed = λ f. omega (arith, part, least VALUE (stays-value t .1 f .0));
+          text = text;
+          stands = i;
+          wrong = time-fault shift text r .0 m;
+          first = λ text q i w. least q (text-given t q (record { name = bytes "value"; form = Form.timestamp; is-text = time-text; text = text; stands = i; fault = time-fault shift text q .1 w }));
+        }
+        by-text flavor-text text i m = not-part r part VALUE (λ p. omega (arith, p)) (in-when (not (isFlavor text)) m)
+        by-text low-text text i m = not-part r part VALUE (λ p. omega (arith, p)) (in-when (not (isFlag text)) m)
+        by-text high-text text i m = not-part r part VALUE (λ p. omega (arith, p)) (in-when (not (isFlag text)) m)
 
 -- a text has one fault, that of reading it
 first-of-read : (o : Outcome Moment) (r : Refusal) → IsFirst r (faultsOf o ++ []) ↔ o ≡ refused r
@@ -322,8 +388,11 @@ module _ (s : Services) (two : Demand2 s) (three : Demand3 s) (offset : ℤ) whe
       go (answered a) (answered b) e d = by-type a b (pair a b) e d
 
   module _ (r : Refusal) (part : IsPart r) where
-    checks : (input : List ℕ) → numberIn (s .check-says offset input) ≡ number r ↔ HasWrongTime offset input r
-    checks input = iff-trans (two .refused offset input r) (first-wrong offset input r part, wrong-first offset input r (of-part r part))
+    checks : (input : List ℕ) → numberIn (s .check-says offset input) ≡ number r ↔ (e : Element) × IsOfTimes offset input e × HasWrongTime e r
+    checks input = iff-trans (two .refused offset input r) (
+      λ h. let (e, d, n) = record-fault r (of-part r part) offset input (h .0) in let (t, w) = first-wrong offset input e r part d n h in (e, t, w),
+      λ (e, t, w). wrong-first offset input e r part t w,
+    )
 
     module _ (first second : List ℕ) where
       -- two refusals that an answer names are one
@@ -389,7 +458,7 @@ unfolding rankIn opened
 wrong-times-kept s two three = record {
   ticks = ticks s two three;
   checks = λ offset input r m. checks s two three offset r (is-part m) input;
-  stays = λ offset input h. two .refused offset input VALUE .1 (wrong-first offset input VALUE (omega arith) h);
+  stays = λ offset input e t. iff-trans (two .refused offset input VALUE) (stays-value offset input e t);
   compares-first = λ offset first second r m. compares-first s two three offset r (is-part m) first second;
   compares-second = λ offset first second r m. compares-second s two three offset r (is-part m) first second;
   lists = λ offset input list r m. lists s two three offset r (is-part m) input list;

@@ -3,8 +3,8 @@ use Prim.Native.Nat.{ℕ, suc, _+_, _*_, _≤_, _<_}
 use Prim.Native.String.{String}
 use mathlib.Core.Path.{_≡_}
 use mathlib.Core.Logic.{_⊎_, _↔_}
-use mathlib.Core.Bool.{true, cond}
-use mathlib.Core.List.{List, [], _∷_, _++_, flatMap, List·Memᴰ}
+use mathlib.Core.Bool.{true, false, cond}
+use mathlib.Core.List.{List, [], _∷_, _++_, map, flatMap, List·Memᴰ}
 use mathlib.Core.Option.{some}
 use lib.Dec.{ltb}
 use lib.ListN.{length}
@@ -13,10 +13,12 @@ use Rattle.rules.specs.Basics.{isSome, every, bytes, same, digitsOf}
 use Rattle.rules.specs.Refusal.{Refusal, VALUE, DATE, CLOCK, ZONE, RULE, number, rank}
 use Rattle.rules.specs.Calendar.{monthLength}
 use Rattle.rules.specs.Timestamp.{Zone, noZone, plus, minus, Written, monthOf, dayOf, hourOf, minuteOf, secondOf}
-use Rattle.rules.specs.Markup.{Nodes, end, node, Element, document}
+use Rattle.rules.specs.Markup.{Attribute, Nodes, end, node, Element, document}
 use Rattle.rules.specs.Forms.{isFlavor, isFlag}
 use Rattle.rules.specs.Types.{TS, memberTypes, typeAmong}
-use Rattle.rules.specs.Check.{isOffset, recordFaults}
+use Rattle.rules.specs.Judge.{topFaults}
+use Rattle.rules.specs.Utf8.{isUtf8}
+use Rattle.rules.specs.Check.{isOffset, shiftBy, isTooLong}
 use Rattle.rules.specs.ListingPromise.{numberIn, isListed}
 use Rattle.rules.specs.ComparisonPromise.{Names}
 use Rattle.demands.specs.Services.{Services}
@@ -85,21 +87,40 @@ textsIn name (node n attrs kids rest) = flatMap (λ a. cond (same (a .name) name
 abbrev pub textsOf : (name : String) → Element → List (List ℕ)
 textsOf name e = textsIn (bytes name) (node (e .name) (e .attrs) (e .kids) end)
 
--- A record has a time that is wrong by r, and nothing in it is wrong by what stands before r on the ladder. Only records of type TS, IVL_TS or a set type
--- have times, and where nothing that stands before VALUE applies, each attribute `value` in them is one.
-pub record HasWrongTime (offset : ℤ) (record′ : List ℕ) (r : Refusal) : Type 0 where
-  pub element : Element
-  pub read : document record′ ≡ some element
-  pub of-times : isSome (typeAmong (TS ∷ memberTypes) (element .attrs)) ≡ true
-  pub nothing-before : (q : Refusal) → List·Memᴰ q (recordFaults offset record′) → rank VALUE ≤ rank q
-  -- null flavors and flags are of their form
-  pub flavors : every isFlavor (textsOf "nullFlavor" element) ≡ true
-  pub flags : every isFlag (textsOf "lowClosed" element ++ textsOf "highClosed" element) ≡ true
-  -- a time is wrong by r, and none by what stands before r
+-- the same elements, and the same record's element, with a good time in place of each attribute `value`
+abbrev pub retimedAttribute : Attribute → Attribute
+retimedAttribute a = cond (same (a .name) (bytes "value")) (record { name = a .name; value = bytes "0001" }) a
+
+unfoldable pub retimed : Nodes → Nodes
+retimed end = end
+retimed (node n attrs kids rest) = node n (map retimedAttribute attrs) (retimed kids) (retimed rest)
+
+abbrev pub retimedElement : Element → Element
+retimedElement e = record { name = e .name; attrs = map retimedAttribute (e .attrs); kids = retimed (e .kids) }
+
+-- A record of times: of type TS, IVL_TS or a set type, and with good times nothing that stands before VALUE would apply to it. So all in it is allowed, and
+-- each attribute `value` is a time.
+pub record IsOfTimes (offset : ℤ) (record′ : List ℕ) (e : Element) : Type 0 where
+  pub offset-allowed : isOffset offset ≡ true
+  pub not-too-long : isTooLong record′ ≡ false
+  pub utf-8 : isUtf8 record′ ≡ true
+  pub read : document record′ ≡ some e
+  pub type : isSome (typeAmong (TS ∷ memberTypes) (e .attrs)) ≡ true
+  pub shaped : (q : Refusal) → List·Memᴰ q (topFaults (shiftBy offset) (retimedElement e)) → rank VALUE ≤ rank q
+
+-- what is written in it is of the wrong form: a null flavor, a flag, or a time
+pub data HasWrongForm (e : Element) : Type 0 where
+  wrong-flavor : every isFlavor (textsOf "nullFlavor" e) ≡ false → HasWrongForm e
+  wrong-flag : every isFlag (textsOf "lowClosed" e ++ textsOf "highClosed" e) ≡ false → HasWrongForm e
+  wrong-text : (text : List ℕ) → List·Memᴰ text (textsOf "value" e) → IsWrongBy text VALUE → HasWrongForm e
+
+-- all in it is of the right form, a time is wrong by r, and none by what stands before r on the ladder
+pub record HasWrongTime (e : Element) (r : Refusal) : Type 0 where
+  pub formed : HasWrongForm e → ⊥
   pub text : List ℕ
-  pub stands : List·Memᴰ text (textsOf "value" element)
+  pub stands : List·Memᴰ text (textsOf "value" e)
   pub wrong : IsWrongBy text r
-  pub first : (t : List ℕ) (q : Refusal) → List·Memᴰ t (textsOf "value" element) → IsWrongBy t q → rank r ≤ rank q
+  pub first : (t : List ℕ) (q : Refusal) → List·Memᴰ t (textsOf "value" e) → IsWrongBy t q → rank r ≤ rank q
 
 -- the refusals that the request adds
 abbrev pub partRefusals : List Refusal
@@ -109,10 +130,11 @@ pub record WrongTimesPromise (s : Services) : Type 0 where
   -- a text by itself, at an agreed offset in -840..840 and of at most 16,384 bytes; else OFFSET or TOO LONG comes first (demand 2)
   pub ticks : (offset : ℤ) (text : List ℕ) → isOffset offset ≡ true → length text ≤ 16_384 → (r : Refusal)
       → numberIn (s .tick-says offset text) ≡ number r ↔ IsWrongBy text r
-  -- "All services that read timestamps pass them on": checking,
-  pub checks : (offset : ℤ) (record′ : List ℕ) (r : Refusal) → List·Memᴰ r partRefusals → numberIn (s .check-says offset record′) ≡ number r ↔ HasWrongTime offset record′ r
-  -- where a wrong form stays VALUE, before a right form anywhere that is impossible,
-  pub stays : (offset : ℤ) (record′ : List ℕ) → HasWrongTime offset record′ VALUE → numberIn (s .check-says offset record′) ≡ number VALUE
+  -- "All services that read timestamps pass them on": checking, of records of times and of no others,
+  pub checks : (offset : ℤ) (record′ : List ℕ) (r : Refusal) → List·Memᴰ r partRefusals
+      → numberIn (s .check-says offset record′) ≡ number r ↔ (e : Element) × IsOfTimes offset record′ e × HasWrongTime e r
+  -- where a wrong form stays VALUE, whatever is impossible beside it,
+  pub stays : (offset : ℤ) (record′ : List ℕ) (e : Element) → IsOfTimes offset record′ e → numberIn (s .check-says offset record′) ≡ number VALUE ↔ HasWrongForm e
   -- comparing, of either record,
   pub compares-first : (offset : ℤ) (first second : List ℕ) (r : Refusal) → List·Memᴰ r partRefusals
       → Names 1 r (s .compare-says offset first second) ↔ (numberIn (s .check-says offset first) ≡ number r)
