@@ -2,7 +2,7 @@
  * Texts out of a record, for printing.
  *
  * The services answer questions about a record and hand no texts of it back. A receipt needs some: these functions find them in a record
- * that rigcactus_check accepted, or refused for a time alone, and rely on it for what they find: that `<` begins tags alone, that attributes
+ * that rigcactus_check accepted, or refused with DATE, CLOCK or ZONE, and rely on it for what they find: that `<` begins tags alone, that attributes
  * stand in double quotes, and that `&` begins one of the five references. Any other bytes are safe to give them too. No byte outside the
  * record is read.
  */

@@ -31,19 +31,6 @@ const char *null_flavor_words(struct slice flavor)
     return "no information";
 }
 
-/* The advice for refusals of a time, in general: of a record wrong_time.h says more. */
-static const char *time_advice(int refusal)
-{
-    switch (refusal) {
-    case RIGCACTUS_DATE:
-        return "a date is on no calendar. Please send the right one.";
-    case RIGCACTUS_CLOCK:
-        return "a time is on no clock. Please send the right one.";
-    default:
-        return "an offset is of no time zone. Please send the right one.";
-    }
-}
-
 /* The advice for refusals that a day's totals alone have. */
 static const char *totals_advice(int refusal)
 {
@@ -61,6 +48,21 @@ static const char *totals_advice(int refusal)
                "to another table.";
     default:
         return "the number. This program has no words for it.";
+    }
+}
+
+/* The advice for a timestamp that says an impossible time, where it is not found which. */
+static const char *time_advice(int refusal)
+{
+    switch (refusal) {
+    case RIGCACTUS_DATE:
+        return "a date is on no calendar. Please send the right one.";
+    case RIGCACTUS_CLOCK:
+        return "a time is on no clock. Please send the right one.";
+    case RIGCACTUS_ZONE:
+        return "an offset is of no time zone. Please send the right one.";
+    default:
+        return totals_advice(refusal);
     }
 }
 
@@ -83,10 +85,6 @@ const char *refusal_advice(int refusal)
     case RIGCACTUS_VALUE:
         return "the text of an attribute is not written as it must be, like 12,50 for the amount 12.50, or 2024-05-01 for the date 20240501. "
                "Please write it right.";
-    case RIGCACTUS_DATE:
-    case RIGCACTUS_CLOCK:
-    case RIGCACTUS_ZONE:
-        return time_advice(refusal);
     case RIGCACTUS_RULE:
         return "what the record says does not go together, like a sum without its currency, a part of a name without a text, a time without its "
                "flag, or a start after its end. Please put it right.";
@@ -99,6 +97,6 @@ const char *refusal_advice(int refusal)
     case RIGCACTUS_NO_ROOM:
         return "nothing. This desk has no room for so many stretches of time. Lend a longer list and read the record again.";
     default:
-        return totals_advice(refusal);
+        return time_advice(refusal);
     }
 }

@@ -28,9 +28,10 @@ static bool is_refused(struct slice text, int refusal)
 bool find_wrong_time(struct slice record, int refusal, struct slice *timestamp)
 {
     struct slice tag;
-    while (is_for_time(refusal) && take_tag(&record, &tag))
-        if (find_attribute(tag, "value", timestamp) && is_refused(*timestamp, refusal))
-            return true;
+    if (is_for_time(refusal))
+        while (take_tag(&record, &tag))
+            if (find_attribute(tag, "value", timestamp) && is_refused(*timestamp, refusal))
+                return true;
     *timestamp = (struct slice){record.bytes, 0};
     return false;
 }
@@ -44,7 +45,7 @@ static size_t wrong_part(struct slice timestamp, int refusal)
     return FRACTION;
 }
 
-/* Adds a day that its month does not have. The year and the month are good, and a tick says which they are. */
+/* Adds a day that its month does not have. The year and the month are good, so they are accepted, and their tick says which they are. */
 static void add_wrong_day(struct text *text, const char *digits)
 {
     int64_t tick = 0;

@@ -119,7 +119,7 @@ enum rigcactus_refusals {
     RIGCACTUS_MARKUP = 4,         /* the record is not one element by the markup rules */
     RIGCACTUS_TYPE = 5,           /* a type is missing, unknown or not allowed at its place */
     RIGCACTUS_SHAPE = 6,          /* attributes or children are not allowed, missing or out of order */
-    RIGCACTUS_VALUE = 7,          /* an attribute's text is not of its form */
+    RIGCACTUS_VALUE = 7,          /* an attribute's text, or the timestamp, is not of its form */
     RIGCACTUS_DATE = 13,          /* a timestamp of the right form has a year, month or day that is on no calendar */
     RIGCACTUS_CLOCK = 14,         /* a timestamp of the right form has an hour over 23, or a minute or second over 59 */
     RIGCACTUS_ZONE = 15,          /* a timestamp of the right form has an offset over 14:00, or with minutes over 59 */
@@ -337,7 +337,7 @@ uint64_t rigcactus_tick(const uint8_t *text, size_t text_len, int64_t offset, in
  * Refusals: RIGCACTUS_OFFSET, RIGCACTUS_TOO_LONG, RIGCACTUS_NOT_UTF8, RIGCACTUS_MARKUP, RIGCACTUS_TYPE, RIGCACTUS_SHAPE,
  * RIGCACTUS_VALUE, RIGCACTUS_DATE, RIGCACTUS_CLOCK, RIGCACTUS_ZONE, RIGCACTUS_RULE: the first that applies anywhere in the record.
  * rigcactus_tick says when a timestamp is which; one that stands beside a nullFlavor is judged too. A wrong form anywhere in the
- * record comes before an impossible date anywhere, and that before an impossible clock.
+ * record comes before an impossible date anywhere, that before an impossible clock, and that before an impossible offset.
  *
  * <t xsi:type="MO" value="12.50" currency="EUR"/> is accepted; with value="12,50" it is RIGCACTUS_VALUE, without currency
  * RIGCACTUS_RULE. <t xsi:type="TS" value="20240230"/> is RIGCACTUS_DATE.

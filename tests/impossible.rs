@@ -195,8 +195,8 @@ fn alone(trial: &mut Trial, times: &[Time], wrong_forms: &[Time]) {
     }
 }
 
-/// Every time in records in which nothing else is wrong, and some texts of the wrong form. Beside other faults the times are those that are
-/// not cut off, and some others.
+/// Every time in records in which nothing else is wrong, and some texts of the wrong form. Beside other faults the times are those of fourteen
+/// digits, and some others.
 fn in_records(trial: &mut Trial, times: &[Time], wrong_forms: &[Time]) {
     let good_places = built::good_places();
     let some_wrong: Vec<&Time> = wrong_forms.iter().step_by(211).collect();

@@ -1,9 +1,9 @@
 -- What stands before VALUE on the ladder does not depend on the texts of times: it applies to a record exactly if it does with good times in their place.
 use Prim.Native.Nat.{ℕ, _≤_, _<_}
-use mathlib.Core.Path.{_≡_, refl, sym, _∙_, ap}
-use mathlib.Core.Logic.{_⊎_, inl, inr, _↔_}
-use mathlib.Core.Bool.{Bool, true, false, not, _&&_, _||_, cond}
-use mathlib.Core.List.{List, [], _∷_, _++_, map, flatMap, List·Memᴰ, List·Memᴰ·not-nil, List·Memᴰ·append-cases, List·Memᴰ·eq-of-singleton, Memᴰ·append-left, Memᴰ·append-right}
+use mathlib.Core.Path.{_≡_, refl, ap}
+use mathlib.Core.Logic.{inl, inr, _↔_}
+use mathlib.Core.Bool.{Bool, true, false, not, _&&_, cond, _||_}
+use mathlib.Core.List.{List, [], _∷_, _++_, map, flatMap, List·Memᴰ, List·Memᴰ·not-nil, List·Memᴰ·append-cases, Memᴰ·append-left, Memᴰ·append-right}
 use mathlib.Core.Option.{Option, none, some}
 use native.Mathlib.Omega.{arith}
 use Rattle.rules.specs.Basics.{isSome, ifSome, find, exists, bytes, isEmpty, same, begins}
@@ -15,7 +15,7 @@ use Rattle.rules.specs.Forms.{Form, anyText, nonEmpty, flavor, timestamp, flag,
 use Rattle.rules.specs.Invariants.{isNull}
 use Rattle.rules.specs.Types.{Kind, nameOf, memberTypes, allTypes, typeAmong, Column, ChildKind, always, typed, Child, lineOf}
 use Rattle.rules.specs.Judge.{Standing, top, isTop, typeColumns, nullColumns, attributeFaults, lacks, breaksNull, elementFaults, kindOf, standingOf, nextChild, childFaults, topFaults}
-use Rattle.rules.proofs.Tests.{clash, same-true}
+use Rattle.rules.proofs.Tests.{same-true}
 use Rattle.rules.proofs.Children.{faultsAs}
 use Rattle.demands.specs.WrongTimes.{IsWrongBy, wrong-form, wrong-date, wrong-clock, wrong-zone, retimedAttribute, retimed, retimedElement}
 use Rattle.demands.proofs.WrongTexts.{in-read, is-wrong-by}

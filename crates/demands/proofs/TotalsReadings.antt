@@ -1,5 +1,5 @@
 -- What a record says to a day's totals: its refusal, null, or its amount, in ten-thousandths, of its currency.
-use Prim.Native.Nat.{ℕ, zero, suc, _+_, _-_, _*_, _^_, _≤_, _<_}
+use Prim.Native.Nat.{ℕ, _+_, _-_, _*_, _^_, _≤_, _<_}
 use mathlib.Core.Path.{_≡_, refl, sym, _∙_, ap, subst}
 use mathlib.Core.Logic.{_⊎_, inl, inr}
 use mathlib.Core.Bool.{Bool, true, false, not}
@@ -14,7 +14,7 @@ use lib.IntN.{ℤ, pos, negℤ}
 use lib.Pow.{pow-add}
 use Rattle.rules.specs.Basics.{ifSome, every, bytes, isDigit, decimalFrom, decimal}
 use Rattle.rules.specs.Refusal.{Refusal, TYPE, earlier, firstOf, Outcome, answered, refused, faultsIn, _when_, _unless_, _andThen_}
-use Rattle.rules.specs.Parsers.{bad, ok, next, else, pure, one, upTo, byte, finish, whole}
+use Rattle.rules.specs.Parsers.{ok, next, else, pure, one, upTo, byte, finish, whole}
 use Rattle.rules.specs.Timestamp.{point, tenThousandths}
 use Rattle.rules.specs.Markup.{Attribute, Element, lookup}
 use Rattle.rules.specs.Forms.{amountText}

@@ -24,7 +24,7 @@ use Rattle.rules.specs.Services.{roomOf}
 use Rattle.rules.specs.Comparison.{Answer, Comparer}
 use Rattle.rules.specs.ListingPromise.{numberIn, isListed, Refuses, ListingPromise}
 use Rattle.rules.specs.ComparisonPromise.{Names, Says}
-use Rattle.rules.proofs.Tests.{clash, every-true, found}
+use Rattle.rules.proofs.Tests.{clash, found}
 use Rattle.rules.proofs.Precedence.{rank-injective, number-injective, first-is, check-refused, check-answered}
 use Rattle.rules.proofs.Opened.{opened}
 use Rattle.rules.proofs.Members.{type-is}

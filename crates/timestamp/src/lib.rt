@@ -36,7 +36,7 @@ fn in_range(x: u64, low: u64, high: u64) -> bool
     (low <= x) & (x <= high)
 }
 
-// Whether numbers are a date of the calendar, in years 0001 to 9999. Every month has 28 days, and only a later day asks for its length.
+// Whether numbers are a date of the calendar, in years 0001 to 9999. Every month has at least 28 days, and only a later day asks for its length.
 fn is_date(year: u64, month: u64, day: u64) -> bool
     ensures { λ r. ⌜ r ≡ isDateOf year month day ⌝ }
 {
