@@ -96,7 +96,7 @@ unfolding exists
 lacks-same attrs [] = refl
 lacks-same attrs (c ∷ l) = rw (carried (c .name) attrs, lacks-same attrs l) refl
 
-type-same : (kinds : List Kind) (attrs : List Attribute) → typeAmong kinds (map retimedAttribute attrs) ≡ typeAmong kinds attrs
+pub type-same : (kinds : List Kind) (attrs : List Attribute) → typeAmong kinds (map retimedAttribute attrs) ≡ typeAmong kinds attrs
 unfolding same
 type-same kinds attrs = ap (λ o. find (λ k. ifSome o (same (nameOf k)) false) kinds) (lookup-other (bytes "xsi:type") refl attrs)
 

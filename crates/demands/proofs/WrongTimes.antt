@@ -35,12 +35,12 @@ use Rattle.rules.specs.Totals.{Entry}
 use Rattle.rules.specs.TotalDays.{Call, readingOf}
 use Rattle.demands.specs.Services.{Services}
 use Rattle.demands.specs.Totals.{Reads}
-use Rattle.demands.specs.WrongTimes.{IsWrongBy, textsIn, textsOf, IsOfTimes, HasWrongForm, wrong-flavor, wrong-flag, wrong-text, HasWrongTime, partRefusals, WrongTimesPromise}
+use Rattle.demands.specs.WrongTimes.{IsWrongBy, textsIn, textsOf, IsOfTimes, HasWrongForm, wrong-flavor, wrong-flag, wrong-text, retimedElement, HasWrongTime, partRefusals, WrongTimesPromise}
 use Rattle.demands.specs.Demands.{IsFirst, Demand2, Demand3}
 use Rattle.demands.proofs.Answers.{iff-trans}
 use Rattle.demands.proofs.TotalsReadings.{reads}
 use Rattle.demands.proofs.WrongTexts.{in-read, is-wrong-by}
-use Rattle.demands.proofs.Retimed.{alike-top}
+use Rattle.demands.proofs.Retimed.{type-same, alike-top}
 use Rattle.demands.proofs.TimesWithin.{IsOfText, IsPart, is-part, in-when, not-of-text, not-part, isTimed, IsText, time-text, flavor-text, low-text, high-text, record-timed, ownTexts, HasFault, among, element-fault, IsClean, fault-in-element, fault-in-children}
 
 -- the faults that don't lie in the element
@@ -220,7 +220,7 @@ module _ (offset : ℤ) (input : List ℕ) (e : Element) where
     not-too-long = short (isTooLong input) refl;
     utf-8 = characters (isUtf8 input) refl;
     read = d;
-    type = t;
+    type = ap isSome (type-same (TS ∷ memberTypes) (e .attrs)) ∙ t;
     shaped = λ q m. elim (decLe (rank VALUE) (rank q)) [ yes l ↦ l | no l ↦ before q (in-record offset input e d (alike-top shift e q (omega (arith, l)) .0 m)) ];
   }
     where
@@ -239,6 +239,9 @@ module _ (offset : ℤ) (input : List ℕ) (e : Element) where
       characters true f = refl
       characters false f = absurd (omega (arith, outer {q = NOT-UTF-8} (Memᴰ·append-right (OFFSET when not (isOffset offset) ++ TOO-LONG when isTooLong input) (rw f (List·Memᴰ·head refl)))))
 
+  has-times : IsOfTimes offset input e → HasTimes shift e
+  has-times t = ap isSome (sym (type-same (TS ∷ memberTypes) (e .attrs))) ∙ t .type
+
   is-clean : IsOfTimes offset input e → IsClean (topFaults shift e)
   unfolding rankIn
   is-clean t =
@@ -247,13 +250,13 @@ module _ (offset : ℤ) (input : List ℕ) (e : Element) where
 
   -- the fault of a text in it is a fault of the record, and the other way round
   text-given : IsOfTimes offset input e → (q : Refusal) → HasFault shift q (texts shift e) → List·Memᴰ q (recordFaults offset input)
-  text-given t q h = in-record offset input e (t .read) (text-of-fault shift e (t .type) q (is-clean t) h)
+  text-given t q h = in-record offset input e (t .read) (text-of-fault shift e (has-times t) q (is-clean t) h)
 
   given-text : IsOfTimes offset input e → (q : Refusal) → IsOfText q → List·Memᴰ q (recordFaults offset input) → HasFault shift q (texts shift e)
   given-text t q of-text m =
       let (f, d, n) = record-fault q of-text offset input m in
       let z : f ≡ e = cc (d, t .read) in
-      fault-of-text shift e (t .type) q of-text (rw z at n)
+      fault-of-text shift e (has-times t) q of-text (rw z at n)
 
   -- a text that is of the wrong form has VALUE, and what has VALUE is of the wrong form
   ill-formed : {name : List ℕ} {form : Form} (x : IsText name form) (text : List ℕ) → List·Memᴰ text (texts shift e name) → List·Memᴰ VALUE (formFaults shift form text) → HasWrongForm e
@@ -325,7 +328,7 @@ module _ (offset : ℤ) (input : List ℕ) (e : Element) where
         t = of-times d (part-of-times shift e r part n) before
 
         h : HasFault shift r (texts shift e)
-        h = fault-of-text shift e (t .type) r (of-part r part) n
+        h = fault-of-text shift e (has-times t) r (of-part r part) n
 
         by-text : {name : List ℕ} {form : Form} → IsText name form → (text : List ℕ) → List·Memᴰ text (texts shift e name) → List·Memᴰ r (formFaults shift form text) → HasWrongTime e r
         by-text time-text text i m = record {
@@ -425,8 +428,11 @@ module _ (s : Services) (two : Demand2 s) (three : Demand3 s) (offset : ℤ) whe
         λ (z, e). let (a, c) = accepted first .0 z in two .comparison-promise offset .second-refused first second a r c (checked second r .0 e),
       )
 
+    listed-same : (e : Element) → isListed (retimedElement e) ≡ isListed e
+    listed-same e = ap isSome (type-same memberTypes (e .attrs))
+
     lists : (input list : List ℕ) → numberIn (s .list-says offset input list) ≡ number r
-        ↔ (numberIn (s .check-says offset input) ≡ number r) × ((e : Element) × (document input ≡ some e) × (isListed e ≡ true))
+        ↔ (numberIn (s .check-says offset input) ≡ number r) × ((e : Element) × (document input ≡ some e) × (isListed (retimedElement e) ≡ true))
     unfolding rankIn firstOf
     lists input list = (there, back)
       where
@@ -436,9 +442,9 @@ module _ (s : Services) (two : Demand2 s) (three : Demand3 s) (offset : ℤ) whe
         given : {q : Refusal} → numberIn (s .list-says offset input list) ≡ number r → Refuses offset input (s .list-says offset input list) list (s .list-leaves offset input list) q → r ≡ q
         given {q} n h = number-injective r q (sym n ∙ h .number-given)
 
-        there : numberIn (s .list-says offset input list) ≡ number r → (numberIn (s .check-says offset input) ≡ number r) × ((e : Element) × (document input ≡ some e) × (isListed e ≡ true))
+        there : numberIn (s .list-says offset input list) ≡ number r → (numberIn (s .check-says offset input) ≡ number r) × ((e : Element) × (document input ≡ some e) × (isListed (retimedElement e) ≡ true))
         there n = elim (case offset input) [
-          | faulty q t c f ↦ let (d, l) = first-allowed r part offset input isListed q c (f ∙ ap some (sym (given n (promise .faulty q t c f)))) in (checked input r .1 d, l)
+          | faulty q t c f ↦ let (d, l) = first-allowed r part offset input isListed q c (f ∙ ap some (sym (given n (promise .faulty q t c f)))) in (checked input r .1 d, (l .0, l .1, listed-same (l .0) ∙ l .2))
           | other-type e c l ↦ not-part r part TYPE (λ p. omega (arith, p)) (given n (promise .other-type e c l))
           | unclear e c l u ↦ not-part r part UNKNOWN-BOUND (λ p. omega (arith, p)) (given n (promise .unknown-bound .1 (e, c, l, u)))
           | many e c l u m ↦ not-part r part TOO-MANY (λ p. omega (arith, p)) (given n (promise .too-many .1 (e, c, l, u, m)))
@@ -450,13 +456,14 @@ module _ (s : Services) (two : Demand2 s) (three : Demand3 s) (offset : ℤ) whe
               ]
         ]
 
-        back : (numberIn (s .check-says offset input) ≡ number r) × ((e : Element) × (document input ≡ some e) × (isListed e ≡ true)) → numberIn (s .list-says offset input list) ≡ number r
-        back (n, (e, d, l)) = promise .faulty r r (checked input r .0 n) (rw (d, l)) .number-given
+        back : (numberIn (s .check-says offset input) ≡ number r) × ((e : Element) × (document input ≡ some e) × (isListed (retimedElement e) ≡ true)) → numberIn (s .list-says offset input list) ≡ number r
+        back (n, (e, d, l)) = promise .faulty r r (checked input r .0 n) (let l : isListed e ≡ true = sym (listed-same e) ∙ l in rw (d, l)) .number-given
 
 pub wrong-times-kept : (s : Services) → Demand2 s → Demand3 s → WrongTimesPromise s
 unfolding rankIn opened
 wrong-times-kept s two three = record {
   ticks = ticks s two three;
+  before-value = λ offset. alike-top (shiftBy offset);
   checks = λ offset input r m. checks s two three offset r (is-part m) input;
   stays = λ offset input e t. iff-trans (two .refused offset input VALUE) (stays-value offset input e t);
   compares-first = λ offset first second r m. compares-first s two three offset r (is-part m) first second;

@@ -87,7 +87,7 @@ textsIn name (node n attrs kids rest) = flatMap (λ a. cond (same (a .name) name
 abbrev pub textsOf : (name : String) → Element → List (List ℕ)
 textsOf name e = textsIn (bytes name) (node (e .name) (e .attrs) (e .kids) end)
 
--- the same elements, and the same record's element, with a good time in place of each attribute `value`
+-- these elements, and a record's element, with a good time for the text of each attribute `value`
 abbrev pub retimedAttribute : Attribute → Attribute
 retimedAttribute a = cond (same (a .name) (bytes "value")) (record { name = a .name; value = bytes "0001" }) a
 
@@ -98,17 +98,17 @@ retimed (node n attrs kids rest) = node n (map retimedAttribute attrs) (retimed 
 abbrev pub retimedElement : Element → Element
 retimedElement e = record { name = e .name; attrs = map retimedAttribute (e .attrs); kids = retimed (e .kids) }
 
--- A record of times: of type TS, IVL_TS or a set type, and with good times nothing that stands before VALUE would apply to it. So all in it is allowed, and
--- each attribute `value` is a time.
+-- A record of times: it is read, and with good times its type would be TS, IVL_TS or a set type, and nothing that stands before VALUE would apply to it. So all
+-- in it is allowed, and each attribute `value` is a time.
 pub record IsOfTimes (offset : ℤ) (record′ : List ℕ) (e : Element) : Type 0 where
   pub offset-allowed : isOffset offset ≡ true
   pub not-too-long : isTooLong record′ ≡ false
   pub utf-8 : isUtf8 record′ ≡ true
   pub read : document record′ ≡ some e
-  pub type : isSome (typeAmong (TS ∷ memberTypes) (e .attrs)) ≡ true
+  pub type : isSome (typeAmong (TS ∷ memberTypes) (retimedElement e .attrs)) ≡ true
   pub shaped : (q : Refusal) → List·Memᴰ q (topFaults (shiftBy offset) (retimedElement e)) → rank VALUE ≤ rank q
 
--- what is written in it is of the wrong form: a null flavor, a flag, or a time
+-- something written in it is of the wrong form: a null flavor, a flag, or a time
 pub data HasWrongForm (e : Element) : Type 0 where
   wrong-flavor : every isFlavor (textsOf "nullFlavor" e) ≡ false → HasWrongForm e
   wrong-flag : every isFlag (textsOf "lowClosed" e ++ textsOf "highClosed" e) ≡ false → HasWrongForm e
@@ -130,6 +130,9 @@ pub record WrongTimesPromise (s : Services) : Type 0 where
   -- a text by itself, at an agreed offset in -840..840 and of at most 16,384 bytes; else OFFSET or TOO LONG comes first (demand 2)
   pub ticks : (offset : ℤ) (text : List ℕ) → isOffset offset ≡ true → length text ≤ 16_384 → (r : Refusal)
       → numberIn (s .tick-says offset text) ≡ number r ↔ IsWrongBy text r
+  -- what stands before VALUE does not depend on the texts of times: it applies exactly if it does with good ones
+  pub before-value : (offset : ℤ) (e : Element) (q : Refusal) → rank q < rank VALUE
+      → List·Memᴰ q (topFaults (shiftBy offset) (retimedElement e)) ↔ List·Memᴰ q (topFaults (shiftBy offset) e)
   -- "All services that read timestamps pass them on": checking, of records of times and of no others,
   pub checks : (offset : ℤ) (record′ : List ℕ) (r : Refusal) → List·Memᴰ r partRefusals
       → numberIn (s .check-says offset record′) ≡ number r ↔ (e : Element) × IsOfTimes offset record′ e × HasWrongTime e r
@@ -144,7 +147,7 @@ pub record WrongTimesPromise (s : Services) : Type 0 where
   -- TYPE there too, so demand 1 has none of the three for it
   pub lists : (offset : ℤ) (record′ list : List ℕ) (r : Refusal) → List·Memᴰ r partRefusals
       → numberIn (s .list-says offset record′ list) ≡ number r
-      ↔ (numberIn (s .check-says offset record′) ≡ number r) × ((e : Element) × (document record′ ≡ some e) × (isListed e ≡ true))
+      ↔ (numberIn (s .check-says offset record′) ≡ number r) × ((e : Element) × (document record′ ≡ some e) × (isListed (retimedElement e) ≡ true))
   -- "and the desk table's 19000229 now answers DATE"
   pub example : numberIn (s .tick-says (pos 0) (bytes "19000229")) ≡ number DATE
   -- "Refusals: 13 DATE, 14 CLOCK, 15 ZONE, in that order between VALUE and RULE" (demand 1 has the whole order)
