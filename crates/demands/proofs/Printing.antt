@@ -26,6 +26,7 @@ use Rattle.rules.specs.ListingPromise.{numberIn}
 use Rattle.rules.proofs.Opened.{opened}
 use Rattle.rules.proofs.Tests.{clash, both-true}
 use Rattle.rules.proofs.Pieces.{record-short, date-length, clock-length}
+use Rattle.rules.proofs.TickOrder.{tick-from-start}
 use Rattle.rules.proofs.Printing.{record-accepted}
 use Rattle.rules.proofs.PrintingCases.{is-printable, list-bytes, listed-length, listed-back, timing-of-tick, listing-proper, written-bytes, unwritable, full, fitting, printing-case, unwritable-is, printing-unwritable, printing-no-room, printing-answered}
 use Rattle.rules.proofs.ListingPromise.{low-bits, count-bits, list-length, overwrite-begins, overwrite-rest}
@@ -156,8 +157,7 @@ full-timestamp : (offset tick before : ℤ) → isOffset offset ≡ true → isW
     × (drop 19 (timestampText tick) ≡ bytes "+0000")
 full-timestamp offset (pos t) before o h =
     let e = timing-of-tick offset t o (ltb-true t yearsEnd h) in
-    let l : ltb (t + beforeStart) beforeStart ≡ false = le-ltb (t + beforeStart) beforeStart (omega arith) in
-    (rw e refl, rw (e, l) (ap pos (omega arith)), ends (dateText (t / day)) (clockText (t % day)) (date-length _) (clock-length _))
+    (rw e refl, rw e (tick-from-start t), ends (dateText (t / day)) (clockText (t % day)) (date-length _) (clock-length _))
   where
     ends : (d c : List ℕ) → length d ≡ 8 → length c ≡ 11 → drop 19 (d ++ c ++ bytes "+0000") ≡ bytes "+0000"
     ends d c e f = drop-at (d ++ c) (bytes "+0000") 19 (length-append d c ∙ omega (arith, e, f))

@@ -12,13 +12,14 @@ use lib.Seq.{take-at}
 use lib.IntN.{ℤ, pos}
 use Rattle.rules.specs.Basics.{decimalFrom, digitsOf}
 use Rattle.rules.specs.Calendar.{yearLength, daysOfYears, daysOfMonths, daysBeforeYear, daysByDivision, minute, day}
-use Rattle.rules.specs.Timestamp.{noZone, Written, timestamp, shiftOf, beforeStart, startOf, unitLength, Moment, momentOf, readTimestamp}
+use Rattle.rules.specs.Timestamp.{noZone, Written, timestamp, shiftOf, tickAt, startOf, unitLength, Moment, momentOf, readTimestamp}
 use Rattle.rules.specs.Refusal.{answered}
 use Rattle.rules.specs.Parsers.{whole}
 use Rattle.rules.specs.Dates.{yearAt, dateText, timestampText}
 use Rattle.rules.proofs.Digits.{digitsOf-length}
 use Rattle.rules.proofs.Calendar.{days-by-division, months-in-year, month-ends}
 use Rattle.rules.proofs.Ticks.{read-answered}
+use Rattle.rules.proofs.TickOrder.{tick-from-start}
 use Rattle.rules.proofs.Dates.{IsDateOf, date-of, year-alone}
 use Rattle.demands.specs.Services.{Services}
 use Rattle.demands.specs.Years.{ticksInYear, IsYearOf, YearsPromise}
@@ -94,8 +95,7 @@ module _ (s : Services) (p : Demand2 s) (y : ℕ) (l : 1 ≤ y) (h : y ≤ 9999)
   year-ticks : (before : ℤ) → (s .tick-says (pos 0) (digitsOf 4 y) ≡ 4 * 2 ^ 8) × (s .tick-leaves (pos 0) (digitsOf 4 y) before ≡ pos (daysByDivision y * day))
   year-ticks before =
       let (n, r, t) = p .time (pos 0) (digitsOf 4 y) before _ (year-alone 840 y l h) faultless in
-      let e : ltb (startOf 840 (alone y)) beforeStart ≡ false = le-ltb (startOf 840 (alone y)) beforeStart (omega (arith, year-starts 840 y)) in
-      (omega (arith, n, r), t ∙ rw e (ap pos (omega (arith, year-starts 840 y))))
+      (omega (arith, n, r), t ∙ ap tickAt (omega (arith, year-starts 840 y)) ∙ tick-from-start (daysByDivision y * day))
 
 pub years-kept : (s : Services) → Demand2 s → YearsPromise s
 years-kept s p = record {

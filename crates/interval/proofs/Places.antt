@@ -10,38 +10,24 @@ use lib.Dec.{leb, ltb}
 use lib.IntN.{ℤ, pos, negsuc, sucℤ, sucℤ-+ℤ}
 use borrow.Author.Tests.{lt-ltb, le-ltb, le-leb, ltb-true}
 use Rattle.rules.specs.Basics.{ifSome, exists}
+use Rattle.rules.specs.Timestamp.{tickAt}
 use Rattle.rules.specs.Sets.{Place, at, gapAfter, _isBefore_, firstPlace, holds, isIn}
 use Rattle.rules.proofs.Order.{places, up, down, next-number}
+use Rattle.rules.proofs.TickOrder.{origin, ticks-apart}
 use Rattle.rules.proofs.Edges.{endPlace, since, until, past, half-open}
 use Rattle.rules.proofs.Canonical.{Canonical as Rises}
 use Rattle.interval.specs.declared.Bound.{Bound}
 use Rattle.interval.specs.declared.Bound.the-variants.{Unbounded, Open, Closed}
 use Rattle.interval.specs.declared.Interval.{Interval}
-use Rattle.interval.specs.Meaning.{tickAt, boundOf, intervalOf, Ticked, AllTicked}
+use Rattle.interval.specs.Meaning.{boundOf, intervalOf, Ticked, AllTicked}
 use Rattle.interval.specs.Edges.{top, lowEdge, highEdge, edges, Rising, within}
 use Rattle.interval.proofs.Ranks.{le-or-lt, not-ltb, within-cons}
-
-tick-next : (n : ℕ) → tickAt (suc n) ≡ sucℤ (tickAt n)
-unfolding tickAt
-tick-next n = sucℤ-+ℤ (pos n) (negsuc 503999999)
-
--- the place of the tick that the code counts as 0
-origin : Place
-origin = at (tickAt 0)
 
 -- y has the number e, which some edge has
 record Numbered (y : Place) (e : ℕ) : Type 0 where
   number : up y + down origin + 1 ≡ e + (down y + up origin)
   low : 0 < e
   high : e < top
-
-ticks-apart : (n : ℕ) → up (at (tickAt n)) + down origin ≡ 2 * n + (down (at (tickAt n)) + up origin)
-unfolding origin
-ticks-apart zero = omega arith
-ticks-apart (suc n) = rw (tick-next n) (omega (arith, ticks-apart n, next-number (at (tickAt n)), next-number (gapAfter (tickAt n))))
-
-pub tick-one : (m n : ℕ) → tickAt m ≡ tickAt n → m ≡ n
-tick-one m n e = omega (arith, ticks-apart m, ticks-apart n, ap (λ (t : ℤ). up (at t)) e, ap (λ (t : ℤ). down (at t)) e)
 
 tick-number : (n : ℕ) → n < 2 ^ 60 → Numbered (at (tickAt n)) (2 * n + 1)
 tick-number n h = record { number = omega (arith, ticks-apart n); low = omega arith; high = omega arith }

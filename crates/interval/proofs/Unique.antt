@@ -5,8 +5,10 @@ use mathlib.Core.Bool.{Bool, true}
 use mathlib.Core.List.{List, [], _∷_, map}
 use lib.IntN.{ℤ}
 use lib.Signed.{leZ, ltZ}
+use Rattle.rules.specs.Timestamp.{tickAt}
 use Rattle.rules.specs.Sets.{Place, Interval as PageInterval, _upto_, closedAt, union, Expression, interval, combine, meant, isIn, AreStretches}
 use Rattle.rules.specs.Stretches.{stretches}
+use Rattle.rules.proofs.TickOrder.{tick-one}
 use Rattle.rules.proofs.Canonical.{canonical-stretches}
 use Rattle.rules.proofs.Unique.{stretches-unique}
 use Rattle.rules.proofs.Drawing.{is-stretches, apart}
@@ -14,9 +16,9 @@ use Rattle.interval.specs.declared.Bound.{Bound}
 use Rattle.interval.specs.declared.Bound.the-variants.{Unbounded, Open, Closed}
 use Rattle.interval.specs.declared.Interval.{Interval}
 use Rattle.interval.specs.declared.Stretches.{Stretches}
-use Rattle.interval.specs.Meaning.{tickAt, boundOf, intervalOf, used, stretchesOf, Canonical, SaysSame}
+use Rattle.interval.specs.Meaning.{boundOf, intervalOf, used, stretchesOf, Canonical, SaysSame}
 use Rattle.interval.specs.Edges.{edges, padded, within, SaysEqual}
-use Rattle.interval.proofs.Places.{spot, tick-one}
+use Rattle.interval.proofs.Places.{spot}
 use Rattle.interval.proofs.Items.{isIn-edges}
 
 -- a canonical set's stretches are those of its places

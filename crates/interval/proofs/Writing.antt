@@ -8,7 +8,7 @@ use native.Mathlib.Numerals.{add-one}
 use lib.ListN.{length, getD, take, set, length-append}
 use lib.Seq.{take-suc}
 use borrow.Author.Tests.{lt-ltb, le-ltb}
-use Rattle.rules.specs.Timestamp.{beforeStart}
+use Rattle.rules.specs.Timestamp.{beforeStart, tickAt}
 use Rattle.rules.specs.Listing.{boundNumbers, listNumbers}
 use Rattle.rules.specs.Services.{lowBytes, eightBytes, overwrite}
 use Rattle.writer.specs.Placing.{placed}
@@ -16,7 +16,7 @@ use Rattle.writer.proofs.Placing.{placed-none, placed-cons, placed-append, plac
 use Rattle.interval.specs.declared.Bound.{Bound}
 use Rattle.interval.specs.declared.Bound.the-variants.{Unbounded, Open, Closed}
 use Rattle.interval.specs.declared.Interval.{Interval}
-use Rattle.interval.specs.Meaning.{tickAt, boundOf, intervalOf, Ticked}
+use Rattle.interval.specs.Meaning.{boundOf, intervalOf, Ticked}
 use Rattle.interval.specs.Writing.{kindOf, wrapped, bitsOf, boundBytes, intervalBytes}
 use Rattle.interval.proofs.Ranks.{le-or-lt}
 use Rattle.interval.proofs.Items.{nowhere}

@@ -4,8 +4,7 @@ use mathlib.Core.Path.{_≡_}
 use mathlib.Core.Bool.{Bool, true, false, _||_}
 use mathlib.Core.List.{List, [], _∷_, map}
 use lib.ListN.{take}
-use lib.IntN.{ℤ, subℕ}
-use Rattle.rules.specs.Timestamp.{beforeStart}
+use Rattle.rules.specs.Timestamp.{tickAt}
 use Rattle.rules.specs.Sets.{Place, at, gapAfter, Bound as PageBound, unbounded, openAt, closedAt, Interval as PageInterval, _upto_, Op as PageOp, union, intersection, difference, apply, holds, isIn}
 use Rattle.rules.proofs.Canonical.{Canonical as Rises}
 use Rattle.interval.specs.declared.Bound.{Bound}
@@ -14,10 +13,6 @@ use Rattle.interval.specs.declared.Interval.{Interval}
 use Rattle.interval.specs.declared.Stretches.{Stretches}
 use Rattle.interval.specs.declared.Op.{Op}
 use Rattle.interval.specs.declared.Op.the-variants.{Union, Intersection, Difference}
-
--- the tick that the code counts as n
-unfoldable pub tickAt : ℕ → ℤ
-tickAt n = subℕ n beforeStart
 
 abbrev pub boundOf : Bound → PageBound
 boundOf Unbounded = unbounded

@@ -5,10 +5,11 @@ use mathlib.Core.Bool.{cond}
 use mathlib.Core.List.{List}
 use lib.Dec.{ltb}
 use lib.ListN.{length, getD}
+use Rattle.rules.specs.Timestamp.{tickAt}
 use Rattle.rules.specs.Sets.{closedAt, openAt, Interval, _upto_, Op, union, intersection, difference, Expression, interval, combine}
 use Rattle.rules.specs.Stretches.{stretches}
 use Rattle.interval.specs.declared.Interval.{Interval as CodeInterval}
-use Rattle.interval.specs.Meaning.{tickAt, intervalOf, Ticked}
+use Rattle.interval.specs.Meaning.{intervalOf, Ticked}
 
 -- the interval from the number at a position to the next one, which it leaves out
 abbrev pub pieceAt : List ℕ → (at : ℕ) → Interval

@@ -15,6 +15,7 @@ ghost use Rattle.datatype.specs.declared.bounds.Side.the-variants.{Low, High};
 ghost use Rattle.datatype.specs.Said.{saidMeant, saidNamed, BoundsSaid, endpointSaid};
 use datatype::bounds::Endpoint;
 use datatype::bounds::Side;
+use datatype::bounds::is_pushed;
 use datatype::kind::Kind;
 use datatype::places::has_some_text;
 use datatype::places::has_text;
@@ -64,9 +65,9 @@ fn breaks_side(s: &[u8], flag: usize, side: Side, said: Said) -> bool
     breaks_flag(s, flag, end) | is_wrong(said, side)
 }
 
-// Low's tick is after high's.
-fn is_crossed(low: Said, high: Said) -> bool
-    ensures { λ r. ⌜ r ≡ isCrossed (endpointSaid Low (saidMeant low)) (endpointSaid High (saidMeant high)) ⌝ }
+// Low's tick is after the last tick taken in by a closed coarse high, or after the high's tick otherwise; `closed` is high's flag.
+fn is_crossed(low: Said, high: Said, closed: bool) -> bool
+    ensures { λ r. ⌜ r ≡ isCrossed closed (endpointSaid Low (saidMeant low)) (endpointSaid High (saidMeant high)) ⌝ }
 {
     let Said::Valued(l) = low else {
         return false;
@@ -74,6 +75,9 @@ fn is_crossed(low: Said, high: Said) -> bool
     let Said::Valued(h) = high else {
         return false;
     };
+    if is_pushed(h, Side::High, closed) {
+        return h.next <= l.start;
+    }
     h.start < l.start
 }
 
@@ -84,7 +88,7 @@ fn breaks_interval(s: &[u8], left: usize, right: usize, low: Said, high: Said) -
 {
     let first = breaks_side(s, left, Side::Low, low);
     let second = breaks_side(s, right, Side::High, high);
-    first | second | is_crossed(low, high)
+    first | second | is_crossed(low, high, has_text(s, right, b"true"))
 }
 
 // CD: code, name or version lacks a codeSystem; displayName lacks a code; non-null with neither code nor codeSystem.

@@ -6,14 +6,17 @@ ghost use Prim.Native.Nat.{ℕ, _^_, _≤_};
 ghost use lib.Dec.{ltb};
 ghost use lib.ListN.{length, drop};
 ghost use Rattle.rules.specs.Markup.{Element};
-ghost use Rattle.rules.specs.Listing.{boundRead, intervalOf};
-ghost use Rattle.interval.specs.Meaning.{tick, Ticked};
+ghost use Rattle.rules.specs.Timestamp.{tickAt};
+ghost use Rattle.rules.specs.Listing.{boundAt, valueRead, boundRead, intervalOf};
+ghost use Rattle.timestamp.specs.Moments.{momentOf};
+ghost use Rattle.interval.specs.Meaning.{boundOf, tick, Ticked};
 ghost use Rattle.element.specs.Tags.{TagOf, TagIn};
-ghost use Rattle.datatype.specs.Bounds.{endpointMeant};
+ghost use Rattle.datatype.specs.Bounds.{sideMeant, endpointMeant};
 ghost use Rattle.datatype.specs.Said.{saidMeant};
 ghost use Rattle.listing.specs.Bounds.{limitMeant, LimitOn, writtenMeant, BoundSaid};
 use datatype::bounds::Endpoint;
 use datatype::bounds::Side;
+use datatype::bounds::is_pushed;
 use datatype::places::has_text;
 use datatype::said::Said;
 use datatype::said::endpoint;
@@ -23,6 +26,7 @@ use element::name::LOW_CLOSED;
 use element::tag::Tag;
 use interval::Bound;
 use interval::Interval;
+use timestamp::Moment;
 
 // A bound, or that it is not known.
 pub enum Limit {
@@ -37,18 +41,32 @@ pub struct Written {
     pub end: usize,
 }
 
+// A bound at a tick.
+fn bound_at(tick: u64, closed: bool) -> Bound
+    ensures { λ r. ⌜ boundOf r ≡ boundAt closed (tickAt tick) ⌝ }
+{
+    if closed {
+        return Bound::Closed(tick);
+    }
+    Bound::Open(tick)
+}
+
+// A value as a bound: one that is pushed is of the other kind, at the next unit's start.
+fn read_value(m: Moment, side: Side, closed: bool) -> Bound
+    ensures { λ r. ⌜ boundOf r ≡ valueRead (sideMeant side) closed (momentOf m) ⌝ }
+{
+    if is_pushed(m, side, closed) {
+        return bound_at(m.next, !closed);
+    }
+    bound_at(m.start, closed)
+}
+
 // The bound that a side means, by what it says and whether it is closed.
-pub fn read_bound(end: Endpoint, closed: bool) -> Limit
-    ensures { λ r. ⌜ limitMeant r ≡ boundRead closed (endpointMeant end) ⌝ }
+pub fn read_bound(end: Endpoint, side: Side, closed: bool) -> Limit
+    ensures { λ r. ⌜ limitMeant r ≡ boundRead (sideMeant side) closed (endpointMeant end) ⌝ }
 {
     match end {
-        Endpoint::Valued(m) => {
-            if closed {
-                Limit::Is(Bound::Closed(m.start))
-            } else {
-                Limit::Is(Bound::Open(m.start))
-            }
-        }
+        Endpoint::Valued(m) => Limit::Is(read_value(m, side, closed)),
         Endpoint::Infinite => Limit::Is(Bound::Unbounded),
         Endpoint::Unknown => Limit::Unknown,
     }
@@ -74,7 +92,7 @@ fn bound_of(said: Said, side: Side, closed: bool) -> Limit
     ensures tells { λ r. ⌜ BoundSaid (saidMeant said) side closed r ⌝ }
 {
     let end = endpoint(said, side);
-    let limit = read_bound(end, closed);
+    let limit = read_bound(end, side, closed);
     let Limit::Is(b) = limit else {
         return Limit::Unknown;
     };

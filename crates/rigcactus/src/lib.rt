@@ -3,10 +3,9 @@ ghost use mathlib.Core.Path.{_≡_};
 ghost use mathlib.Core.Bool.{Bool, true};
 ghost use mathlib.Core.List.{List};
 ghost use Prim.Native.Nat.{ℕ, _+_, _*_, _^_, _<_, _≤_};
-ghost use lib.IntN.{subℕ};
 ghost use Rattle.rules.specs.Basics.{ifSome};
 ghost use Rattle.rules.specs.Refusal.{number as pageNumber, firstOf};
-ghost use Rattle.rules.specs.Timestamp.{beforeStart};
+ghost use Rattle.rules.specs.Timestamp.{tickAt};
 ghost use Rattle.rules.specs.Check.{isOffset, shiftBy};
 ghost use Rattle.rules.specs.Services.{packed, refusedFirst, refusedSecond, answerNumber, comparedNumber};
 ghost use Rattle.refusal.specs.Meaning.{refusalOf, faultOf};
@@ -219,7 +218,7 @@ pub extern "C" fn rigcactus_compare(first: &[u8], second: &[u8], offset: i64) ->
 // The page's signed tick of a moment's start.
 fn signed_tick(start: u64) -> i64
     requires { ⌜ start < 2 ^ 60 ⌝ }
-    ensures { λ r. ⌜ r ≡ subℕ start beforeStart ⌝ }
+    ensures { λ r. ⌜ r ≡ tickAt start ⌝ }
 {
     (start as i64) - (Tick::ORIGIN.0 as i64)
 }

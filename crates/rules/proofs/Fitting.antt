@@ -1,7 +1,7 @@
 -- The numbers of a list of stretches fit eight bytes, signed: each tick is one that a bound of the record has.
 use Prim.Native.Nat.{ℕ, suc, _-_, _^_, _≤_, _<_}
 use mathlib.Core.Path.{_≡_, refl}
-use mathlib.Core.Bool.{Bool, true, false, cond}
+use mathlib.Core.Bool.{Bool, true, false, not, cond}
 use mathlib.Core.List.{List, [], _∷_, _++_, flatMap}
 use mathlib.Core.Option.{Option, none, some}
 use native.Mathlib.Omega.{arith}
@@ -11,12 +11,12 @@ use lib.IntN.{ℤ, pos, negsuc, subℕ, suc-pred}
 use Rattle.rules.specs.Basics.{ifSome, listOf, every, bytes}
 use Rattle.rules.specs.Refusal.{TYPE, UNKNOWN-BOUND, Outcome, answered, refused, _andThen_, both}
 use Rattle.rules.specs.Markup.{Attribute, Nodes, end, node, Element, lookup}
-use Rattle.rules.specs.Timestamp.{Moment, readTimestamp, beforeStart, tickOf}
-use Rattle.rules.specs.Invariants.{isNull, isClosed, Side, low, high, Endpoint, valued, infinite, unknown, hasFlavor, endpointRead, endpointValued, endpointIn, endpointOf, childNamed}
+use Rattle.rules.specs.Timestamp.{Moment, readTimestamp, beforeStart, tickAt, tickOf}
+use Rattle.rules.specs.Invariants.{isNull, isClosed, isPushed, Side, low, high, Endpoint, valued, infinite, unknown, hasFlavor, endpointRead, endpointValued, endpointIn, endpointOf, childNamed}
 use Rattle.rules.specs.Types.{IVL-TS, hasType}
 use Rattle.rules.specs.Sets.{Place, at, gapAfter, nextPlace, previousPlace, _isBefore_, Bound, unbounded, openAt, closedAt, Interval, _upto_, firstPlace, lastPlace, Op, Expression, interval, combine, meant, intervals}
 use Rattle.rules.specs.Stretches.{lowAt, highAt, changesOf, insert, sorted, changes, drawn, placeBefore, stretches}
-use Rattle.rules.specs.Listing.{boundRead, intervalOf, operationOf, setFrom, membersOf, joined, setOf, boundNumbers, listNumbers}
+use Rattle.rules.specs.Listing.{boundAt, valueRead, boundRead, intervalOf, operationOf, setFrom, membersOf, joined, setOf, boundNumbers, listNumbers}
 use Rattle.rules.specs.ListingPromise.{fits}
 use Rattle.rules.proofs.Tests.{every-append}
 use Rattle.rules.proofs.Ticks.{ticks-in-60-bits}
@@ -135,7 +135,7 @@ difference-fits a b h k = go (ltb a b)
     go false = lt-ltb (a - b) (2 ^ 63) (omega arith)
 
 abbrev EndpointFits : Endpoint → Type 0
-EndpointFits (valued m) = Fits (tickOf m)
+EndpointFits (valued m) = Fits (tickOf m) × Fits (tickAt (m .next))
 EndpointFits infinite = Unit {0}
 EndpointFits unknown = Unit {0}
 
@@ -143,16 +143,21 @@ abbrev SetFits : Outcome Expression → Type 0
 SetFits (answered s) = AllFit (intervals s)
 SetFits (refused r) = Unit {0}
 
-bound-read : (closed : Bool) (t : ℤ) → Fits t → BoundFits (cond closed (closedAt t) (openAt t))
-bound-read true t h = h
-bound-read false t h = h
+bound-at : (closed : Bool) (t : ℤ) → Fits t → BoundFits (boundAt closed t)
+bound-at true t h = h
+bound-at false t h = h
 
-interval-fits : (c d : Bool) (l h : Endpoint) → EndpointFits l → EndpointFits h → SetFits (both _upto_ (boundRead c l) (boundRead d h) andThen λ v. answered (interval v))
+value-read : (side : Side) (closed : Bool) (m : Moment) → EndpointFits (valued m) → BoundFits (valueRead side closed m)
+value-read side closed m (h, k) =
+    elim (isPushed side closed m) as (λ b. BoundFits (cond b (boundAt (not closed) (tickAt (m .next))) (boundAt closed (tickOf m))))
+    [ false ↦ bound-at closed _ h | true ↦ bound-at (not closed) _ k ]
+
+interval-fits : (c d : Bool) (l h : Endpoint) → EndpointFits l → EndpointFits h → SetFits (both _upto_ (boundRead low c l) (boundRead high d h) andThen λ v. answered (interval v))
 unfolding intervals
-interval-fits c d (valued m) (valued n) i j = (bound-read c (tickOf m) i, bound-read d (tickOf n) j, tt)
-interval-fits c d (valued m) infinite i j = (bound-read c (tickOf m) i, tt, tt)
+interval-fits c d (valued m) (valued n) i j = (value-read low c m i, value-read high d n j, tt)
+interval-fits c d (valued m) infinite i j = (value-read low c m i, tt, tt)
 interval-fits c d (valued m) unknown i j = tt
-interval-fits c d infinite (valued n) i j = (tt, bound-read d (tickOf n) j, tt)
+interval-fits c d infinite (valued n) i j = (tt, value-read high d n j, tt)
 interval-fits c d infinite infinite i j = (tt, tt, tt)
 interval-fits c d infinite unknown i j = tt
 interval-fits c d unknown h i j = tt
@@ -165,7 +170,10 @@ combined-fits o (refused r) y h k = tt
 
 module _ (shift : ℕ) (most : shift ≤ 1680) where
   value-fits : (text : List ℕ) (o : Outcome Moment) → readTimestamp shift text ≡ o → EndpointFits (endpointRead o)
-  value-fits text (answered m) e = difference-fits (m .start) beforeStart (ticks-in-60-bits shift text m e most .0) (omega arith)
+  unfolding tickAt
+  value-fits text (answered m) e =
+      let (s, n) = ticks-in-60-bits shift text m e most in
+      (difference-fits (m .start) beforeStart s (omega arith), difference-fits (m .next) beforeStart n (omega arith))
   value-fits text (refused r) e = tt
 
   valued-fits : (o : Option (List ℕ)) → EndpointFits (ifSome o (λ text. endpointRead (readTimestamp shift text)) unknown)

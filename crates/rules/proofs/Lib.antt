@@ -16,6 +16,7 @@ pub mod Rising
 pub mod Dates
 pub mod Utf8
 pub mod Order
+pub mod TickOrder
 pub mod Edges
 pub mod Canonical
 pub mod Unique

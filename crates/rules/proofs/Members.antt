@@ -150,7 +150,7 @@ combined-written o (known {s = x} h) (known {s = y} k) = known {s = combine o x 
 combined-written o (known h) unknown-bound = unknown-bound
 combined-written o unknown-bound k = unknown-bound
 
-interval-written : (c d : Bool) (l h : Endpoint) → Written (1 + 0) (isUnknown l || isUnknown h || false) (both _upto_ (boundRead c l) (boundRead d h) andThen λ v. answered (interval v))
+interval-written : (c d : Bool) (l h : Endpoint) → Written (1 + 0) (isUnknown l || isUnknown h || false) (both _upto_ (boundRead low c l) (boundRead high d h) andThen λ v. answered (interval v))
 unfolding intervals
 interval-written c d (valued m) (valued n) = known refl
 interval-written c d (valued m) infinite = known refl

@@ -12,9 +12,9 @@ use lib.IntN.{ℤ, pos, negsuc}
 use Rattle.rules.specs.Basics.{find, exists, every, same, begins, split, oneOf, bytes, isDigit, digitsOf}
 use Rattle.rules.specs.Refusal.{SHAPE, Outcome, answered, _when_, both}
 use Rattle.rules.specs.Markup.{Attribute, lookup, isDistinct, Nodes, end, node, document}
-use Rattle.rules.specs.Timestamp.{Moment, beforeStart, tickOf, readTimestamp}
+use Rattle.rules.specs.Timestamp.{Moment, beforeStart, readTimestamp}
 use Rattle.rules.specs.Forms.{isFlavor, isFlag, formFaults}
-use Rattle.rules.specs.Invariants.{isNull, breaksInterval, childNamed, Side, low, high, endpointOf}
+use Rattle.rules.specs.Invariants.{isNull, breaksInterval, childNamed, Side, low, high, valued, endpointOf, isCrossed}
 use Rattle.rules.specs.Types.{TS, IVL-TS, QSU-TS, always, typed, lineOf}
 use Rattle.rules.specs.Judge.{member, inside, attributeFaults, elementFaults, childFaults, topFaults}
 use Rattle.rules.specs.Sets.{Place, at, gapAfter, _isBefore_, Bound, unbounded, openAt, closedAt, Interval, _upto_, firstPlace, holds, isIn, Op, union, Expression, interval, combine, meant, intervals}
@@ -36,6 +36,7 @@ use Rattle.rules.proofs.Dates.{years-end, timestamp-of-tick}
 use Rattle.rules.proofs.Children.{faultsAs}
 use Rattle.rules.proofs.Precedence.{check-answered}
 use Rattle.rules.proofs.Order.{places, next-number}
+use Rattle.rules.proofs.TickOrder.{tick-from-start, crossed}
 use Rattle.rules.proofs.Edges.{endPlace, half-open}
 use Rattle.rules.proofs.Canonical.{Opens, Canonical, canonical-stretches}
 use Rattle.rules.proofs.Drawing.{is-stretches}
@@ -112,8 +113,8 @@ record-read ss = ap document (sym (record-written ss)) ∙ document-of-write (st
 abbrev momentAt : ℕ → Moment
 momentAt n = record { start = n + beforeStart; precision = 18; next = n + beforeStart + 1 }
 
-tick-back : (n : ℕ) → tickOf (momentAt n) ≡ pos n
-tick-back n = rw (le-ltb (n + beforeStart) beforeStart (omega arith)) (ap pos (omega arith))
+uncrossed : (closed : Bool) {m n : ℕ} → m ≤ n → isCrossed closed (valued (momentAt m)) (valued (momentAt n)) ≡ false
+uncrossed closed {m} {n} h = crossed closed (momentAt m) (momentAt n) ∙ le-ltb (n + beforeStart) (m + beforeStart) (omega arith)
 
 -- what a bound that can be written says under a shift
 data Says (shift : ℕ) : Bound → Type 0 where
@@ -192,11 +193,11 @@ module _ (shift : ℕ) where
   unbroken l h nothing (an-open n e r) o = rw r
   unbroken l h nothing (a-closed n e r) o = rw r
   unbroken l h (an-open m d q) nothing o = rw q
-  unbroken l h (an-open m d q) (an-open n e r) o = rw (q, r, le-ltb (n + beforeStart) (m + beforeStart) (omega (arith, o m n (ap some d) (ap some e))))
-  unbroken l h (an-open m d q) (a-closed n e r) o = rw (q, r, le-ltb (n + beforeStart) (m + beforeStart) (omega (arith, o m n (ap some d) (ap some e))))
+  unbroken l h (an-open m d q) (an-open n e r) o = rw (q, r) (uncrossed false (o m n (ap some d) (ap some e)))
+  unbroken l h (an-open m d q) (a-closed n e r) o = rw (q, r) (uncrossed true (o m n (ap some d) (ap some e)))
   unbroken l h (a-closed m d q) nothing o = rw q
-  unbroken l h (a-closed m d q) (an-open n e r) o = rw (q, r, le-ltb (n + beforeStart) (m + beforeStart) (omega (arith, o m n (ap some d) (ap some e))))
-  unbroken l h (a-closed m d q) (a-closed n e r) o = rw (q, r, le-ltb (n + beforeStart) (m + beforeStart) (omega (arith, o m n (ap some d) (ap some e))))
+  unbroken l h (a-closed m d q) (an-open n e r) o = rw (q, r) (uncrossed false (o m n (ap some d) (ap some e)))
+  unbroken l h (a-closed m d q) (a-closed n e r) o = rw (q, r) (uncrossed true (o m n (ap some d) (ap some e)))
 
   not-null : (l h : Bound) → isNull (termAttributes (l upto h)) ≡ false
   unfolding lookup same
@@ -219,14 +220,14 @@ module _ (shift : ℕ) where
       → setFrom shift (termAttributes (l upto h)) (boundNodes (l upto h)) members ≡ answered (interval (l upto h))
   unfolding setFrom lookup same find endpointOf childNamed
   term-set l h nothing nothing members = refl
-  term-set l h nothing (an-open n e r) members = rw (r, tick-back n, e)
-  term-set l h nothing (a-closed n e r) members = rw (r, tick-back n, e)
-  term-set l h (an-open m d q) nothing members = rw (q, tick-back m, d)
-  term-set l h (an-open m d q) (an-open n e r) members = rw (q, r, tick-back m, tick-back n, d, e)
-  term-set l h (an-open m d q) (a-closed n e r) members = rw (q, r, tick-back m, tick-back n, d, e)
-  term-set l h (a-closed m d q) nothing members = rw (q, tick-back m, d)
-  term-set l h (a-closed m d q) (an-open n e r) members = rw (q, r, tick-back m, tick-back n, d, e)
-  term-set l h (a-closed m d q) (a-closed n e r) members = rw (q, r, tick-back m, tick-back n, d, e)
+  term-set l h nothing (an-open n e r) members = rw (r, tick-from-start n, e)
+  term-set l h nothing (a-closed n e r) members = rw (r, tick-from-start n, e)
+  term-set l h (an-open m d q) nothing members = rw (q, tick-from-start m, d)
+  term-set l h (an-open m d q) (an-open n e r) members = rw (q, r, tick-from-start m, tick-from-start n, d, e)
+  term-set l h (an-open m d q) (a-closed n e r) members = rw (q, r, tick-from-start m, tick-from-start n, d, e)
+  term-set l h (a-closed m d q) nothing members = rw (q, tick-from-start m, d)
+  term-set l h (a-closed m d q) (an-open n e r) members = rw (q, r, tick-from-start m, tick-from-start n, d, e)
+  term-set l h (a-closed m d q) (a-closed n e r) members = rw (q, r, tick-from-start m, tick-from-start n, d, e)
 
   -- stretches that can be written, each with its low not after its high
   abbrev Printable : List Interval → Type 0

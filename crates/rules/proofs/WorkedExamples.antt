@@ -1,4 +1,4 @@
--- 01-scope.md, "The desk table", as request A5 changes it, and the whole example of "Sets of times": one statement about the meanings.
+-- 01-scope.md, "The desk table", as request A5 changes it, and the whole example of "Sets of times", as A4 does: one statement about the meanings.
 use Prim.Native.Nat.{ℕ}
 use Prim.Native.String.{String}
 use mathlib.Core.Path.{_≡_, refl}
@@ -60,6 +60,6 @@ pub worked-examples :
     × (listNumbers (stretches (unbounded ~ unbounded less incl 3 ~ excl 4)) ≡ pos 0 ∷ pos 0 ∷ pos 1 ∷ pos 3 ∷ pos 2 ∷ pos 4 ∷ pos 0 ∷ pos 0 ∷ [])
     × (cutLength 3 zoë ≡ 2)
     × (cutLength 4 zoë ≡ 4)
-    × (listed stay ≡ answered (pos 2 ∷ pos 638501184000000 ∷ pos 1 ∷ pos 638502480000000 ∷ pos 1 ∷ pos 638502480000000 ∷ pos 1 ∷ pos 638503776000000 ∷ []))
+    × (listed stay ≡ answered (pos 2 ∷ pos 638501184000000 ∷ pos 1 ∷ pos 638502480000000 ∷ pos 2 ∷ pos 638502516000000 ∷ pos 1 ∷ pos 638503776000000 ∷ []))
 unfolding opened
 worked-examples = (refl, refl, refl, refl, refl, refl, refl, refl, refl, refl, refl, refl, refl, refl)

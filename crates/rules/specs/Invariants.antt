@@ -1,14 +1,15 @@
--- 01-scope.md, "Types, after decoding the five references": the invariants, whose breach is RULE.
+-- 01-scope.md, "Types, after decoding the five references", and request A4: the invariants, whose breach is RULE.
 use Prim.Native.Nat.{ℕ}
 use Prim.Native.String.{String}
 use mathlib.Core.Bool.{Bool, true, false, not, _&&_, _||_, cond}
 use mathlib.Core.List.{List, []}
 use mathlib.Core.Option.{Option, none, some}
-use lib.Dec.{ltb}
+use lib.IntN.{ℤ, predℤ}
+use lib.Signed.{ltZ}
 use Rattle.rules.specs.Basics.{isSome, ifSome, exactlyOne, exists, words, bytes, isEmpty, same}
 use Rattle.rules.specs.Refusal.{Outcome, answered, refused}
 use Rattle.rules.specs.Markup.{Attribute, Nodes, end, node, lookup}
-use Rattle.rules.specs.Timestamp.{Moment, readTimestamp}
+use Rattle.rules.specs.Timestamp.{Moment, tickAt, tickOf, isCoarse, readTimestamp}
 
 -- the element carries the attribute
 abbrev pub has : String → List Attribute → Bool
@@ -45,21 +46,29 @@ noInvariant shift attrs kids = false
 abbrev pub breaksTime : Invariant
 breaksTime shift attrs kids = not (exactlyOne (has "value" attrs) (isNull attrs))
 
--- a side of an interval: its child, its flag, the flavor that means unbounded there, and the flavor that may not stand there
+-- a side of an interval: its child, its flag, the flavor that means unbounded there, the flavor that may not stand there, and which bounds
+-- coarser than a second are pushed to the next unit's start, by whether they are closed
 pub record Side : Type 0 where
   pub child : List ℕ
   pub flag : List ℕ
   pub infinity : List ℕ
   pub wrong : List ℕ
+  pub pushes : (closed : Bool) → Bool
 
+-- an open low is pushed
 abbrev pub low : Side
-low = record { child = bytes "low"; flag = bytes "lowClosed"; infinity = bytes "NINF"; wrong = bytes "PINF" }
+low = record { child = bytes "low"; flag = bytes "lowClosed"; infinity = bytes "NINF"; wrong = bytes "PINF"; pushes = not }
 
+-- a closed high is pushed
 abbrev pub high : Side
-high = record { child = bytes "high"; flag = bytes "highClosed"; infinity = bytes "PINF"; wrong = bytes "NINF" }
+high = record { child = bytes "high"; flag = bytes "highClosed"; infinity = bytes "PINF"; wrong = bytes "NINF"; pushes = λ closed. closed }
 
 abbrev pub isClosed : Side → List Attribute → Bool
 isClosed side attrs = hasSuch (side .flag) (same (bytes "true")) attrs
+
+-- a bound is pushed to the next unit's start: a closed high or an open low, coarser than a second
+abbrev pub isPushed : Side → (closed : Bool) → Moment → Bool
+isPushed side closed m = isCoarse m && side .pushes closed
 
 -- what a side says: a value, that there is no bound, or nothing (the bound is missing, or null otherwise)
 pub data Endpoint : Type 0 where
@@ -90,13 +99,17 @@ breaksFlag side attrs unknown = false
 abbrev pub isWrong : Side → Nodes → Bool
 isWrong side kids = ifSome (childNamed (side .child) kids) (hasFlavor (side .wrong)) false
 
--- low's tick is after high's
-abbrev pub isCrossed : Endpoint → Endpoint → Bool
-isCrossed (valued l) (valued h) = ltb (h .start) (l .start)
-isCrossed (valued l) infinite = false
-isCrossed (valued l) unknown = false
-isCrossed infinite h = false
-isCrossed unknown h = false
+-- the last tick taken in by a closed coarse high, or the high's tick otherwise
+abbrev pub lastTaken : (closed : Bool) → Moment → ℤ
+lastTaken closed h = cond (isPushed high closed h) (predℤ (tickAt (h .next))) (tickOf h)
+
+-- low's tick, not pushed, is after that; `closed` is high's flag
+abbrev pub isCrossed : (closed : Bool) → Endpoint → Endpoint → Bool
+isCrossed closed (valued l) (valued h) = ltZ (lastTaken closed h) (tickOf l)
+isCrossed closed (valued l) infinite = false
+isCrossed closed (valued l) unknown = false
+isCrossed closed infinite h = false
+isCrossed closed unknown h = false
 
 abbrev pub breaksSide : Side → Invariant
 breaksSide side shift attrs kids = breaksFlag side attrs (endpointOf shift side kids) || isWrong side kids
@@ -104,7 +117,8 @@ breaksSide side shift attrs kids = breaksFlag side attrs (endpointOf shift side 
 -- IVL_TS
 abbrev pub breaksInterval : Invariant
 breaksInterval shift attrs kids =
-    breaksSide low shift attrs kids || breaksSide high shift attrs kids || isCrossed (endpointOf shift low kids) (endpointOf shift high kids)
+    breaksSide low shift attrs kids || breaksSide high shift attrs kids
+    || isCrossed (isClosed high attrs) (endpointOf shift low kids) (endpointOf shift high kids)
 
 -- MO: value and currency, both or neither, neither only if null
 abbrev pub breaksMoney : Invariant

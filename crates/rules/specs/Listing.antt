@@ -1,4 +1,4 @@
--- 01-scope.md, "Sets of times" and 9 to 11 of "The refusal ladder": the set that a record writes, and its list of stretches.
+-- 01-scope.md, "Sets of times" and 9 to 11 of "The refusal ladder", and request A4: the set that a record writes, and its list of stretches.
 use Prim.Native.Nat.{ℕ, _+_}
 use mathlib.Core.Bool.{Bool, not, cond}
 use mathlib.Core.List.{List, [], _∷_, _++_, flatMap}
@@ -9,20 +9,29 @@ use lib.IntN.{ℤ, pos}
 use Rattle.rules.specs.Basics.{isSome, ifSome, find}
 use Rattle.rules.specs.Refusal.{Refusal, TYPE, SHAPE, UNKNOWN-BOUND, TOO-MANY, NO-ROOM, Outcome, answered, refused, _unless_, _when_, _andThen_, both}
 use Rattle.rules.specs.Markup.{Attribute, Nodes, end, node, Element}
-use Rattle.rules.specs.Timestamp.{Moment, tickOf}
-use Rattle.rules.specs.Invariants.{isNull, isClosed, Side, low, high, Endpoint, valued, infinite, unknown, endpointOf}
+use Rattle.rules.specs.Timestamp.{Moment, tickAt, tickOf}
+use Rattle.rules.specs.Invariants.{isNull, isClosed, isPushed, Side, low, high, Endpoint, valued, infinite, unknown, endpointOf}
 use Rattle.rules.specs.Types.{Kind, IVL-TS, QSU-TS, QSI-TS, QSD-TS, memberTypes, hasType, typeAmong}
 use Rattle.rules.specs.Sets.{Bound, unbounded, openAt, closedAt, Interval, _upto_, Op, union, intersection, difference, Expression, interval, combine}
 use Rattle.rules.specs.Stretches.{stretches}
 
+-- closed or open at a tick
+abbrev pub boundAt : (closed : Bool) → ℤ → Bound
+boundAt closed t = cond closed (closedAt t) (openAt t)
+
+-- a value as a bound: a closed high coarser than a second is open at the next unit's start, an open low is closed there; all others are at
+-- their tick
+abbrev pub valueRead : Side → (closed : Bool) → Moment → Bound
+valueRead side closed m = cond (isPushed side closed m) (boundAt (not closed) (tickAt (m .next))) (boundAt closed (tickOf m))
+
 -- the bound that a side means; one that is missing, or null without being unbounded, is UNKNOWN BOUND
-abbrev pub boundRead : (closed : Bool) → Endpoint → Outcome Bound
-boundRead closed (valued m) = answered (cond closed (closedAt (tickOf m)) (openAt (tickOf m)))
-boundRead closed infinite = answered unbounded
-boundRead closed unknown = refused UNKNOWN-BOUND
+abbrev pub boundRead : Side → (closed : Bool) → Endpoint → Outcome Bound
+boundRead side closed (valued m) = answered (valueRead side closed m)
+boundRead side closed infinite = answered unbounded
+boundRead side closed unknown = refused UNKNOWN-BOUND
 
 abbrev pub boundOf : (shift : ℕ) → Side → List Attribute → Nodes → Outcome Bound
-boundOf shift side attrs kids = boundRead (isClosed side attrs) (endpointOf shift side kids)
+boundOf shift side attrs kids = boundRead side (isClosed side attrs) (endpointOf shift side kids)
 
 abbrev pub intervalOf : (shift : ℕ) → List Attribute → Nodes → Outcome Interval
 intervalOf shift attrs kids = both _upto_ (boundOf shift low attrs kids) (boundOf shift high attrs kids)

@@ -1,9 +1,9 @@
--- 01-scope.md, "Ticks", and request A5: timestamps, their ticks, precisions and spans.
+-- 01-scope.md, "Ticks", and requests A4 and A5: timestamps, their ticks, precisions and spans.
 use Prim.Native.Nat.{ℕ, zero, suc, _+_, _-_, _*_, _^_}
 use mathlib.Core.Bool.{Bool, true, false, not, _&&_, _||_}
 use mathlib.Core.List.{List, [], _∷_, _++_}
 use mathlib.Core.Option.{Option}
-use lib.Dec.{leb}
+use lib.Dec.{leb, ltb}
 use lib.ListN.{length, getD}
 use lib.IntN.{ℤ, subℕ}
 use Rattle.rules.specs.Basics.{ifSome, isFrom, isDigit, decimal}
@@ -147,9 +147,16 @@ momentOf shift w = record {
   next = startOf shift w + unitLength (w .year) (w .parts) (w .fraction);
 }
 
--- the tick of a timestamp, counted from 0001-01-01 00:00 at offset zero
+-- the tick that is counted as n from `beforeStart`, itself counted from 0001-01-01 00:00 at offset zero; and a timestamp's
+unfoldable pub tickAt : ℕ → ℤ
+tickAt n = subℕ n beforeStart
+
 abbrev pub tickOf : Moment → ℤ
-tickOf m = subℕ (m .start) beforeStart
+tickOf m = tickAt (m .start)
+
+-- coarser than a second: it stops before ss
+abbrev pub isCoarse : Moment → Bool
+isCoarse m = ltb (m .precision) 14
 
 -- a text of the wrong form is VALUE; one of the right form is refused by the first of what is impossible in it
 unfoldable pub readTimestamp : (shift : ℕ) → List ℕ → Outcome Moment

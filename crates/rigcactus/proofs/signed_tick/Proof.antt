@@ -3,7 +3,7 @@ use mathlib.Core.Path.{refl}
 use mir.Syntax.{w64}
 use mir.ValLaws.{toZ-ofZ}
 use lib.IntN.{pos, _-ℤ_}
-use Rattle.rules.specs.Timestamp.{beforeStart}
+use Rattle.rules.specs.Timestamp.{beforeStart, tickAt}
 use Rattle.rigcactus.proofs.Signed.{small-read, tick-fits}
 use borrow.Author.Needs.{needs}
 use Rattle.rigcactus.proofs.signed_tick.Statement.{statement}
@@ -25,6 +25,7 @@ sub-result c = rw (small-read (c .before .args .start) (c .before .pre)) (tick-f
 
 -- src/lib.rt:164:1
 returns : tie.Need-returns
+unfolding tickAt
 returns c = rw (small-read (c .before .args .start) (c .before .pre), toZ-ofZ w64 (pos (c .before .args .start) -ℤ pos beforeStart) (tick-fits (c .before .args .start) (c .before .pre))) refl
 
 pub signed-tick-spec : {M : Type 1} → statement M
