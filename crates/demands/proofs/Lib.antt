@@ -1,6 +1,7 @@
 pub mod Answers
 pub mod Printing
 pub mod Years
+pub mod NextUnits
 pub mod Spelling
 pub mod WrongTexts
 pub mod TimesWithin

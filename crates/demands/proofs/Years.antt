@@ -26,7 +26,7 @@ use Rattle.demands.specs.Years.{ticksInYear, IsYearOf, YearsPromise}
 use Rattle.demands.specs.Demands.{timeFaults, Demand2}
 
 -- a year's length for each step
-one-by-one : (y : ℕ) → 1 ≤ y → daysBeforeYear (suc y) ≡ daysBeforeYear y + yearLength y
+pub one-by-one : (y : ℕ) → 1 ≤ y → daysBeforeYear (suc y) ≡ daysBeforeYear y + yearLength y
 unfolding daysOfYears
 one-by-one zero h = absurd (omega arith)
 one-by-one (suc y) h =
