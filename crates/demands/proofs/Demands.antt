@@ -34,6 +34,7 @@ use Rattle.demands.proofs.Answers.{iff-trans, record-among, packed-refu
 use Rattle.demands.proofs.Printing.{print-answers, print-promise}
 use Rattle.demands.proofs.Years.{years-kept}
 use Rattle.demands.proofs.WrongTimes.{wrong-times-kept}
+use Rattle.demands.proofs.LastDay.{last-day-kept}
 use Rattle.demands.proofs.DesksAnswers.{start-answers, add-answers, report-answers}
 use Rattle.demands.proofs.Desks.{totals-kept, desks-kept}
 
@@ -197,6 +198,7 @@ demands-met = record {
   three = met-3;
   print = print-promise;
   years = years-kept services met-2;
+  last-day = last-day-kept services met-2 met-3;
   wrong-times = wrong-times-kept services met-2 met-3;
   totals = totals-kept;
   desks = desks-kept;

@@ -7,6 +7,8 @@ pub mod WrongTexts
 pub mod TimesWithin
 pub mod Retimed
 pub mod WrongTimes
+pub mod LastDayBounds
+pub mod LastDay
 pub mod TotalsNumbers
 pub mod TotalsReadings
 pub mod TotalsDays

@@ -4,13 +4,15 @@ use mathlib.Core.Path.{_≡_, refl, ap}
 use mathlib.Core.Bool.{Bool, true, false, cond}
 use mathlib.Core.List.{List, [], _∷_}
 use native.Mathlib.Omega.{arith}
-use borrow.Author.Tests.{leb-true, ltb-true, ltb-false, le-leb}
+use borrow.Author.Tests.{leb-true, ltb-true, ltb-false, le-leb, lt-ltb}
 use lib.Dec.{leb, ltb}
 use lib.ListN.{length, getD, List·getD-eq-default}
+use Rattle.rules.specs.Basics.{every}
 use Rattle.rules.specs.Calendar.{isLeap, yearLength, monthLengths, monthLength, daysOfMonths, daysBefore, minute, hour, day}
 use Rattle.rules.specs.Timestamp.{Written, monthOf, dayOf, hourOf, minuteOf, isDate, isClock, startOf, unitLength}
 use Rattle.rules.proofs.Tests.{passes, passed, both-true, isFrom-true}
 use Rattle.rules.proofs.Calendar.{months-make-year, month-ends}
+use Rattle.rules.proofs.Dates.{month-most}
 use Rattle.demands.specs.NextUnits.{begun, monthAfter, dayAfter, hourAfter, minuteAfter, unitAfter, writtenAfter}
 use Rattle.demands.proofs.Years.{one-by-one}
 
@@ -98,42 +100,60 @@ module _ (D C : Type 0) (t : ℕ) where
             (λ b. k y m d h (suc i) (month, date, λ q. omega (arith, inDay q, ltb-true i 59 b), λ p q. omega (arith, e p q)))
             (λ b. hour-after (λ u. P (begun 0 u)) (λ z n c g. k z n c g 0) (λ p q. omega (arith, inHour q, e p q, ltb-false i 59 b)))
 
-  -- the same of a unit as it is written, where a missing number is the first
-  abbrev StartsWritten : ℕ × List ℕ → Type 0
-  StartsWritten (y, ps) = Starts y (getD ps 0 1) (getD ps 1 1) (getD ps 2 0) (getD ps 3 0) × (getD ps 4 0 ≡ 0)
+  -- the same of a unit as it is written, in n numbers, where a missing one is the first
+  abbrev StartsWritten : (n : ℕ) → ℕ × List ℕ → Type 0
+  StartsWritten n (y, ps) = Starts y (getD ps 0 1) (getD ps 1 1) (getD ps 2 0) (getD ps 3 0) × (getD ps 4 0 ≡ 0) × (length ps ≡ n)
 
   unit-after : (y : ℕ) (ps f : List ℕ) → length ps < 5
       → (D → IsMonth y (getD ps 0 1)) → (D → IsDay y (getD ps 0 1) (getD ps 1 1)) → (C → IsTime (getD ps 2 0) (getD ps 3 0))
-      → (D → C → ticks y (getD ps 0 1) (getD ps 1 1) (getD ps 2 0) (getD ps 3 0) + unitLength y ps f ≡ t) → StartsWritten (unitAfter y ps)
+      → (D → C → ticks y (getD ps 0 1) (getD ps 1 1) (getD ps 2 0) (getD ps 3 0) + unitLength y ps f ≡ t) → StartsWritten (length ps) (unitAfter y ps)
   unfolding unitAfter unitLength
-  unit-after y [] f l a b c e = (year-after y (λ p. a p .0) e, refl)
-  unit-after y (m ∷ []) f l a b c e = month-after y m a StartsWritten (λ z n s. (s, refl)) e
-  unit-after y (m ∷ d ∷ []) f l a b c e = day-after y m a d b StartsWritten (λ z n c s. (s, refl)) e
-  unit-after y (m ∷ d ∷ h ∷ []) f l a b c e = hour-after y m a d b h (λ q. c q .0) StartsWritten (λ z n c g s. (s, refl)) e
-  unit-after y (m ∷ d ∷ h ∷ i ∷ []) f l a b c e = minute-after y m a d b h (λ q. c q .0) StartsWritten (λ z n c g j s. (s, refl)) i (λ q. c q .1) e
+  unit-after y [] f l a b c e = (year-after y (λ p. a p .0) e, refl, refl)
+  unit-after y (m ∷ []) f l a b c e = month-after y m a (StartsWritten 1) (λ z n s. (s, refl, refl)) e
+  unit-after y (m ∷ d ∷ []) f l a b c e = day-after y m a d b (StartsWritten 2) (λ z n c s. (s, refl, refl)) e
+  unit-after y (m ∷ d ∷ h ∷ []) f l a b c e = hour-after y m a d b h (λ q. c q .0) (StartsWritten 3) (λ z n c g s. (s, refl, refl)) e
+  unit-after y (m ∷ d ∷ h ∷ i ∷ []) f l a b c e = minute-after y m a d b h (λ q. c q .0) (StartsWritten 4) (λ z n c g j s. (s, refl, refl)) i (λ q. c q .1) e
   unit-after y (m ∷ d ∷ h ∷ i ∷ s ∷ r) f l a b c e = absurd (omega arith)
 
 after : (w : Written) → length (w .parts) < 5 → let start : ℕ = ticks (w .year) (monthOf w) (dayOf w) (hourOf w) (minuteOf w) in
-    StartsWritten (isDate w ≡ true) (isClock w ≡ true) (start + unitLength (w .year) (w .parts) (w .fraction)) (unitAfter (w .year) (w .parts))
+    StartsWritten (isDate w ≡ true) (isClock w ≡ true) (start + unitLength (w .year) (w .parts) (w .fraction)) (length (w .parts)) (unitAfter (w .year) (w .parts))
 after w l = unit-after _ _ _ (w .year) (w .parts) (w .fraction) l (λ p. is-date w p .0) (λ p. is-date w p .1) (is-time w) (λ p q. refl)
 
 pub starts-next : (shift : ℕ) (w : Written) → isDate w ≡ true → isClock w ≡ true → length (w .parts) < 5
     → startOf shift (writtenAfter w) ≡ startOf shift w + unitLength (w .year) (w .parts) (w .fraction)
 unfolding startOf
 starts-next shift w p q l =
-    let ((month, date, time, start), noSecond) = after w l in
+    let ((month, date, time, start), noSecond, asMany) = after w l in
     omega (arith, start p q, List·getD-eq-default (w .parts) 0 {n = 4} (omega arith))
 
 -- within year 9999 the next unit has a date and a clock too
 pub date-after : (w : Written) → isDate w ≡ true → length (w .parts) < 5 → writtenAfter w .year ≤ 9999 → isDate (writtenAfter w) ≡ true
 date-after w p l yh =
-    let ((month, date, time, start), noSecond) = after w l in
+    let ((month, date, time, start), noSecond, asMany) = after w l in
     let (yl, ml, mh) = month p in
     let (dl, dh) = date p in
     rw (le-leb _ _ yl, le-leb _ _ yh, le-leb _ _ ml, le-leb _ _ mh, le-leb _ _ dl, le-leb _ _ dh)
 
 pub clock-after : (w : Written) → isClock w ≡ true → length (w .parts) < 5 → isClock (writtenAfter w) ≡ true
 clock-after w q l =
-    let ((month, date, time, start), noSecond) = after w l in
+    let ((month, date, time, start), noSecond, asMany) = after w l in
     let (hh, ih) = time q in
     rw (le-leb _ _ hh, le-leb _ _ ih, noSecond)
+
+-- it has as many numbers, and those of any possible unit have two digits
+pub as-many : (w : Written) → length (w .parts) < 5 → length (writtenAfter w .parts) ≡ length (w .parts)
+as-many w l = after w l .2
+
+pub two-digits : (w : Written) → isDate w ≡ true → isClock w ≡ true → length (w .parts) < 5 → every (λ n. ltb n 100) (w .parts) ≡ true
+unfolding every
+two-digits w p q l =
+    let (month, date) = is-date w p in
+    go (w .parts) l (omega (arith, month)) (omega (arith, date, month-most (w .year) (monthOf w))) (omega (arith, is-time w q)) (omega (arith, is-time w q))
+  where
+    go : (ps : List ℕ) → length ps < 5 → getD ps 0 1 < 100 → getD ps 1 1 < 100 → getD ps 2 0 < 100 → getD ps 3 0 < 100 → every (λ n. ltb n 100) ps ≡ true
+    go [] l a b c d = refl
+    go (m ∷ []) l a b c d = rw (lt-ltb m 100 a)
+    go (m ∷ n ∷ []) l a b c d = rw (lt-ltb m 100 a, lt-ltb n 100 b)
+    go (m ∷ n ∷ h ∷ []) l a b c d = rw (lt-ltb m 100 a, lt-ltb n 100 b, lt-ltb h 100 c)
+    go (m ∷ n ∷ h ∷ i ∷ []) l a b c d = rw (lt-ltb m 100 a, lt-ltb n 100 b, lt-ltb h 100 c, lt-ltb i 100 d)
+    go (m ∷ n ∷ h ∷ i ∷ s ∷ r) l a b c d = absurd (omega arith)

@@ -53,7 +53,7 @@ unfolding recordFaults
 in-record offset input e d m = Memᴰ·append-right (outerFaults offset input) (rw d m)
 
 -- a type that has times, among all and among those that have
-type-timed : (attrs : List Attribute) (k : Kind) → isTimed k ≡ true → hasType attrs k ≡ true
+pub type-timed : (attrs : List Attribute) (k : Kind) → isTimed k ≡ true → hasType attrs k ≡ true
     → (typeAmong allTypes attrs ≡ some k) × (typeAmong (TS ∷ memberTypes) attrs ≡ some k)
 unfolding find same exists
 type-timed attrs TS t h = rw (type-is attrs TS h) (refl, refl)

@@ -23,6 +23,7 @@ use Rattle.demands.specs.Services.{Services, resultIn, Answers, Compares
 use Rattle.demands.specs.Printing.{PrintPromise}
 use Rattle.demands.specs.Years.{YearsPromise}
 use Rattle.demands.specs.WrongTimes.{WrongTimesPromise}
+use Rattle.demands.specs.LastDay.{LastDayPromise}
 use Rattle.demands.specs.Totals.{TotalsPromise}
 use Rattle.demands.specs.Desks.{DesksPromise}
 
@@ -125,6 +126,8 @@ pub record Demands (s : Services) : Type 0 where
   pub print : PrintPromise s
   -- request A3
   pub years : YearsPromise s
+  -- request A4
+  pub last-day : LastDayPromise s
   -- request A5
   pub wrong-times : WrongTimesPromise s
   -- requests A6 and A7

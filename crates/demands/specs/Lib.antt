@@ -3,6 +3,7 @@ pub mod Printing
 pub mod Years
 pub mod NextUnits
 pub mod WrongTimes
+pub mod LastDay
 pub mod Totals
 pub mod Desks
 pub mod Demands

@@ -40,7 +40,7 @@ module _ (p : Refusal → Bool) where
   pass-when r true h = pass-one r h
   pass-when r false h = none-left
 
-  pass-member : {r : Refusal} {rs : List Refusal} → Pass p rs → List·Memᴰ r rs → p r ≡ true
+  pub pass-member : {r : Refusal} {rs : List Refusal} → Pass p rs → List·Memᴰ r rs → p r ≡ true
   pass-member {r} (one-more {r = x} h l) (List·Memᴰ·head e) = rw e h
   pass-member (one-more h l) (List·Memᴰ·tail m) = pass-member l m
 
@@ -72,9 +72,8 @@ module _ (test : Refusal → Bool) (value : test VALUE ≡ true) (date : test DA
       go (some w) = pass-faults test (answered (momentOf shift w) unless writtenFaults w)
           (λ r e. first-passes test (written-passes w) (unless-refused (answered (momentOf shift w)) (writtenFaults w) r .0 e))
 
--- those of an element
-module _ (test : Refusal → Bool) (type : test TYPE ≡ true) (shape : test SHAPE ≡ true) (value : test VALUE ≡ true) (date : test DATE ≡ true) (clock : test CLOCK ≡ true)
-    (zone : test ZONE ≡ true) (rule : test RULE ≡ true) where
+-- those of attributes
+module _ (test : Refusal → Bool) (shape : test SHAPE ≡ true) (value : test VALUE ≡ true) (date : test DATE ≡ true) (clock : test CLOCK ≡ true) (zone : test ZONE ≡ true) where
   value-when : (b : Bool) → Pass test (VALUE when b)
   value-when b = pass-when test VALUE b value
 
@@ -101,6 +100,12 @@ module _ (test : Refusal → Bool) (type : test TYPE ≡ true) (shape : test SHA
       go false none = pass-one test SHAPE shape
       go false (some c) = form-passes shift (c .form) (a .value)
 
+  pub attributes-pass : (shift : ℕ) (p : Standing) (k : Kind) (attrs : List Attribute) → Pass test (flatMap (attributeFaults shift p k) attrs)
+  attributes-pass shift p k attrs = pass-flatMap test (attributeFaults shift p k) (attribute-passes shift p k) attrs
+
+-- those of an element
+module _ (test : Refusal → Bool) (type : test TYPE ≡ true) (shape : test SHAPE ≡ true) (value : test VALUE ≡ true) (date : test DATE ≡ true) (clock : test CLOCK ≡ true)
+    (zone : test ZONE ≡ true) (rule : test RULE ≡ true) where
   element-passes : (shift : ℕ) (p : Standing) (o : Option Kind) (attrs : List Attribute) (kids : Nodes) (within : Kind → List Refusal)
       → ((k : Kind) → Pass test (within k)) → Pass test (elementFaults shift p o attrs kids within)
   unfolding elementFaults
@@ -108,7 +113,7 @@ module _ (test : Refusal → Bool) (type : test TYPE ≡ true) (shape : test SHA
   element-passes shift p (some k) attrs kids within h =
       pass-append test
       (pass-append test
-      (pass-append test (pass-flatMap test (attributeFaults shift p k) (attribute-passes shift p k) attrs) (pass-when test SHAPE (exists (lacks attrs) (lineOf k .columns)) shape))
+      (pass-append test (attributes-pass test shape value date clock zone shift p k attrs) (pass-when test SHAPE (exists (lacks attrs) (lineOf k .columns)) shape))
       (h k))
       (pass-when test RULE (lineOf k .invariant shift attrs kids || breaksNull k attrs kids) rule)
 

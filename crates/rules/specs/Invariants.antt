@@ -46,8 +46,8 @@ noInvariant shift attrs kids = false
 abbrev pub breaksTime : Invariant
 breaksTime shift attrs kids = not (exactlyOne (has "value" attrs) (isNull attrs))
 
--- a side of an interval: its child, its flag, the flavor that means unbounded there, the flavor that may not stand there, and which bounds
--- coarser than a second are pushed to the next unit's start, by whether they are closed
+-- a side of an interval: its child, its flag, the flavor that means unbounded there, the flavor that may not stand there, and whether it pushes
+-- a coarse bound to the next unit's start, by whether that is closed
 pub record Side : Type 0 where
   pub child : List ℕ
   pub flag : List ℕ
@@ -55,18 +55,18 @@ pub record Side : Type 0 where
   pub wrong : List ℕ
   pub pushes : (closed : Bool) → Bool
 
--- an open low is pushed
+-- an open low is pushed,
 abbrev pub low : Side
 low = record { child = bytes "low"; flag = bytes "lowClosed"; infinity = bytes "NINF"; wrong = bytes "PINF"; pushes = not }
 
--- a closed high is pushed
+-- and a closed high
 abbrev pub high : Side
 high = record { child = bytes "high"; flag = bytes "highClosed"; infinity = bytes "PINF"; wrong = bytes "NINF"; pushes = λ closed. closed }
 
 abbrev pub isClosed : Side → List Attribute → Bool
 isClosed side attrs = hasSuch (side .flag) (same (bytes "true")) attrs
 
--- a bound is pushed to the next unit's start: a closed high or an open low, coarser than a second
+-- coarser than a second, on a side that pushes it
 abbrev pub isPushed : Side → (closed : Bool) → Moment → Bool
 isPushed side closed m = isCoarse m && side .pushes closed
 
@@ -103,7 +103,7 @@ isWrong side kids = ifSome (childNamed (side .child) kids) (hasFlavor (side .wro
 abbrev pub lastTaken : (closed : Bool) → Moment → ℤ
 lastTaken closed h = cond (isPushed high closed h) (predℤ (tickAt (h .next))) (tickOf h)
 
--- low's tick, not pushed, is after that; `closed` is high's flag
+-- low's own tick is after that; `closed` is high's flag
 abbrev pub isCrossed : (closed : Bool) → Endpoint → Endpoint → Bool
 isCrossed closed (valued l) (valued h) = ltZ (lastTaken closed h) (tickOf l)
 isCrossed closed (valued l) infinite = false

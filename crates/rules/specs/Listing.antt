@@ -19,8 +19,7 @@ use Rattle.rules.specs.Stretches.{stretches}
 abbrev pub boundAt : (closed : Bool) → ℤ → Bound
 boundAt closed t = cond closed (closedAt t) (openAt t)
 
--- a value as a bound: a closed high coarser than a second is open at the next unit's start, an open low is closed there; all others are at
--- their tick
+-- a value as a bound: one that is pushed is at the next unit's start, open for closed and closed for open; all others are at their tick
 abbrev pub valueRead : Side → (closed : Bool) → Moment → Bound
 valueRead side closed m = cond (isPushed side closed m) (boundAt (not closed) (tickAt (m .next))) (boundAt closed (tickOf m))
 

@@ -147,7 +147,7 @@ momentOf shift w = record {
   next = startOf shift w + unitLength (w .year) (w .parts) (w .fraction);
 }
 
--- the tick that is counted as n from `beforeStart`, itself counted from 0001-01-01 00:00 at offset zero; and a timestamp's
+-- a count from fourteen hours before 0001-01-01 00:00 at offset zero, as a tick from there; and the tick of a timestamp
 unfoldable pub tickAt : ℕ → ℤ
 tickAt n = subℕ n beforeStart
 
