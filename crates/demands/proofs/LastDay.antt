@@ -1,5 +1,5 @@
 -- Request A4 is kept, by whatever meets the user's demands.
-use Prim.Native.Nat.{ℕ, _+_, _*_, _≤_, _<_}
+use Prim.Native.Nat.{ℕ, _+_, _*_, _≤_}
 use Prim.Native.String.{String}
 use mathlib.Core.Path.{_≡_, refl, sym, _∙_, ap, subst}
 use mathlib.Core.Logic.{_↔_, inl, inr}
@@ -18,11 +18,11 @@ use Rattle.rules.specs.Markup.{Attribute, Nodes, end, node, Element, lookup, do
 use Rattle.rules.specs.Calendar.{daysOfYears, daysOfMonths, day}
 use Rattle.rules.specs.Dates.{yearsEnd}
 use Rattle.rules.specs.Timestamp.{noZone, Written, startOf, momentOf, beforeStart, tickAt}
-use Rattle.rules.specs.Invariants.{hasSuch, isNull, childNamed, high, isClosed, breaksInterval, has}
-use Rattle.rules.specs.Types.{Kind, IVL-TS, TS, memberTypes, allTypes, always, hasType, typeAmong, lineOf}
+use Rattle.rules.specs.Invariants.{hasSuch, isNull, childNamed, high, isClosed}
+use Rattle.rules.specs.Types.{Kind, IVL-TS, TS, memberTypes, always, hasType, typeAmong, lineOf}
 use Rattle.rules.specs.Judge.{Standing, top, inside, lacks, breaksNull, attributeFaults, elementFaults, childFaults, topFaults}
 use Rattle.rules.specs.Check.{isOffset, shiftBy, recordFaults, check}
-use Rattle.rules.specs.Sets.{Place, at, nextPlace, previousPlace, _isBefore_, Bound, openAt, closedAt, Interval, _upto_, firstPlace, holds, Expression, interval, meant, intervals, isIn, AreStretches}
+use Rattle.rules.specs.Sets.{Place, at, nextPlace, previousPlace, _isBefore_, openAt, closedAt, Interval, _upto_, holds, Expression, interval, meant, intervals, AreStretches}
 use Rattle.rules.specs.Stretches.{stretches}
 use Rattle.rules.specs.Listing.{boundAt, setFrom, setOf}
 use Rattle.rules.specs.Comparison.{No, Unknown, compareIntervals}
@@ -45,7 +45,7 @@ use Rattle.demands.specs.Services.{Services}
 use Rattle.demands.specs.WrongTimes.{Spells}
 use Rattle.demands.specs.NextUnits.{unitAfter, writtenAfter}
 use Rattle.demands.specs.LastDay.{IsCoarse, IsPossible, tickOn, nextTick, Writes, LowIs, HighIs, LastTick, IsBounded, IsPass, ListsAs, stay, stayStretches, pass, lateTerm, LastDayPromise}
-use Rattle.demands.specs.Demands.{IsFirst, timeFaults, Demand2, Demand3}
+use Rattle.demands.specs.Demands.{IsFirst, Demand2, Demand3}
 use Rattle.demands.proofs.Answers.{iff-trans}
 use Rattle.demands.proofs.NextUnits.{date-after, clock-after, as-many, two-digits}
 use Rattle.demands.proofs.TimesWithin.{in-when}

@@ -1,8 +1,8 @@
 -- Request A4: how bounds read, and when they are crossed, by what is written.
-use Prim.Native.Nat.{ℕ, _+_, _*_, _≤_, _<_}
+use Prim.Native.Nat.{ℕ}
 use Prim.Native.String.{String}
 use mathlib.Core.Path.{_≡_, refl, sym, _∙_, ap, subst}
-use mathlib.Core.Logic.{_↔_, inl, inr}
+use mathlib.Core.Logic.{_↔_}
 use mathlib.Core.Bool.{Bool, true, false, not, _&&_, cond}
 use mathlib.Core.List.{List, [], append-eq-nil-iff}
 use mathlib.Core.Option.{Option, none, some}
@@ -10,21 +10,20 @@ use native.Mathlib.Decide.{decLt}
 use native.Mathlib.Omega.{arith}
 use borrow.Author.Tests.{lt-ltb, le-ltb, not-false}
 use lib.ListN.{length}
-use lib.IntN.{ℤ, predℤ}
+use lib.IntN.{ℤ}
 use lib.Signed.{ltZ}
 use Rattle.rules.specs.Basics.{isSome, ifSome, bytes, same}
 use Rattle.rules.specs.Refusal.{Outcome, answered, refused, both, DATE, CLOCK, ZONE}
 use Rattle.rules.specs.Markup.{Attribute, Nodes, lookup}
-use Rattle.rules.specs.Timestamp.{Written, isDate, isClock, isZone, writtenFaults, startOf, Moment, momentOf, tickAt, tickOf, isCoarse, readTimestamp}
+use Rattle.rules.specs.Timestamp.{Written, isDate, isClock, isZone, writtenFaults, Moment, momentOf, tickAt, isCoarse, readTimestamp}
 use Rattle.rules.specs.Invariants.{isNull, hasFlavor, childNamed, Side, low, high, isClosed, Endpoint, valued, infinite, unknown, endpointRead, endpointIn, endpointOf, lastTaken, breaksInterval}
 use Rattle.rules.specs.Check.{shiftBy}
-use Rattle.rules.specs.Sets.{Bound, unbounded, openAt, closedAt, Interval, _upto_}
-use Rattle.rules.specs.Listing.{boundAt, valueRead, boundRead, boundOf, intervalOf}
+use Rattle.rules.specs.Sets.{Bound, Interval, _upto_}
+use Rattle.rules.specs.Listing.{valueRead, boundRead, boundOf, intervalOf}
 use Rattle.rules.proofs.Tests.{clash}
 use Rattle.rules.proofs.Precedence.{when-none}
-use Rattle.rules.proofs.Ticks.{read-answered, read-right-form}
+use Rattle.rules.proofs.Ticks.{read-answered, read-right-form, coarse-parts}
 use Rattle.demands.specs.WrongTimes.{Spells}
-use Rattle.demands.specs.NextUnits.{writtenAfter}
 use Rattle.demands.specs.LastDay.{IsCoarse, IsFine, IsPossible, tickOn, nextTick, Writes, Unbounds, HighReads, LowReads, LowIs, HighIs, LastTick, IsBounded}
 use Rattle.demands.proofs.Spelling.{spells}
 use Rattle.demands.proofs.NextUnits.{starts-next}
@@ -117,10 +116,10 @@ module _ (offset : ℤ) {text : List ℕ} {w : Written} (s : Spells text w) (p :
   moment = momentOf (shiftBy offset) w
 
   coarse : IsCoarse w → isCoarse moment ≡ true
-  coarse l = lt-ltb (moment .precision) 14 (elim (s .after-seconds) [ inl e ↦ omega (arith, ap length e) | inr e ↦ omega arith ])
+  coarse l = coarse-parts (shiftBy offset) text w (spells text w .1 s) ∙ lt-ltb (length (w .parts)) 5 l
 
   fine : IsFine w → isCoarse moment ≡ false
-  fine l = le-ltb (moment .precision) 14 (omega arith)
+  fine l = coarse-parts (shiftBy offset) text w (spells text w .1 s) ∙ le-ltb (length (w .parts)) 5 l
 
   next : IsCoarse w → tickAt (moment .next) ≡ nextTick offset w
   next l = ap tickAt (sym (starts-next (shiftBy offset) w (p .date) (p .clock) l))

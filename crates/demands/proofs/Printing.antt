@@ -1,18 +1,16 @@
 -- The services keep what request A1 asks of printing.
 use Prim.Native.Nat.{ℕ, zero, suc, _+_, _*_, _/_, _%_, _^_, _≤_, _<_}
-use mathlib.Core.Path.{_≡_, refl, _∙_, ap, subst}
+use mathlib.Core.Path.{_≡_, refl, _∙_, subst}
 use mathlib.Core.Logic.{_⊎_, inl, inr, _↔_}
 use mathlib.Core.Bool.{true, false}
 use mathlib.Core.List.{List, [], _∷_, _++_, flatMap}
 use native.Mathlib.Omega.{arith}
-use borrow.Author.Tests.{ltb-true, lt-ltb, le-ltb}
-use lib.Dec.{ltb}
+use borrow.Author.Tests.{ltb-true, lt-ltb}
 use lib.ListN.{length, take, drop, replicate, length-append}
 use lib.Seq.{take-at, drop-at}
 use lib.IntN.{ℤ, pos, negsuc}
 use Rattle.rules.specs.Basics.{exists, every, bytes}
 use Rattle.rules.specs.Refusal.{Refusal, NOT-WRITABLE, NO-ROOM, number, Outcome, answered, refused}
-use Rattle.rules.specs.Timestamp.{beforeStart}
 use Rattle.rules.specs.Check.{isOffset}
 use Rattle.rules.specs.Sets.{Bound, unbounded, openAt, closedAt, Interval, _upto_}
 use Rattle.rules.specs.LentLists.{isImproperList, listed}

@@ -1,13 +1,12 @@
 -- The bridge from the code's edges to the places of the rules: what a set of the code means over the whole line, also below and above
 -- every tick. Places are told apart by their numbers, up to those below all ticks and those above them, which no set tells apart.
-use Prim.Native.Nat.{ℕ, zero, suc, _+_, _-_, _*_, _^_, _≤_, _<_, min, zero-le}
+use Prim.Native.Nat.{ℕ, suc, _+_, _-_, _*_, _^_, _≤_, _<_, min, zero-le}
 use mathlib.Core.Path.{_≡_, refl, sym, ap, ap₂, _∙_}
 use mathlib.Core.List.{List, [], _∷_, map}
 use mathlib.Core.Bool.{true, false, not, _&&_, _||_}
 use mathlib.Core.Logic.{⊎-elim}
 use native.Mathlib.Omega.{arith}
 use lib.Dec.{leb, ltb}
-use lib.IntN.{ℤ, pos, negsuc, sucℤ, sucℤ-+ℤ}
 use borrow.Author.Tests.{lt-ltb, le-ltb, le-leb, ltb-true}
 use Rattle.rules.specs.Basics.{ifSome, exists}
 use Rattle.rules.specs.Timestamp.{tickAt}

@@ -1,14 +1,15 @@
 -- What holds of a timestamp that is read: its parts, and the start, the end and the precision of its span.
 use Prim.Native.Nat.{ℕ, zero, suc, _+_, _-_, _*_, _^_, _≤_, _<_}
-use mathlib.Core.Path.{_≡_, refl, ap}
+use mathlib.Core.Path.{_≡_, refl, sym, ap, _∙_}
 use mathlib.Core.Logic.{inl, inr, _↔_}
 use mathlib.Core.Bool.{Bool, true, false, not, cond}
 use mathlib.Core.List.{List, [], _∷_, _++_, append-eq-nil-iff}
 use mathlib.Core.Option.{Option, none, some}
 use native.Mathlib.Nat.{mul-le-mul-right, one-le-pow, add-mul}
+use native.Mathlib.Decide.{decLt}
 use native.Mathlib.Omega.{arith}
-use borrow.Author.Tests.{ltb-true, leb-true, not-false}
-use lib.Dec.{leb}
+use borrow.Author.Tests.{lt-ltb, le-ltb, ltb-true, leb-true, not-false}
+use lib.Dec.{leb, ltb}
 use lib.ListN.{length}
 use lib.IntN.{ℤ, pos, negsuc}
 use lib.Pow.{pow-add}
@@ -16,7 +17,7 @@ use Rattle.rules.specs.Basics.{ifSome, every, isDigit, decimalFrom, deci
 use Rattle.rules.specs.Refusal.{Refusal, VALUE, DATE, CLOCK, ZONE, rankIn, firstOf, answered, refused, _unless_, _when_}
 use Rattle.rules.specs.Parsers.{ok, next, else, guard, _or_, one, upTo, byte, whole}
 use Rattle.rules.specs.Calendar.{monthLength, daysOfYears, daysOfMonths, daysBeforeYear, second, minute, day}
-use Rattle.rules.specs.Timestamp.{Zone, noZone, plus, minus, Written, digits, twoDigits, point, zone, timestamp, monthOf, dayOf, hourOf, minuteOf, secondOf, tenThousandths, isDate, isClock, isZone, writtenFaults, shiftOf, startOf, unitLength, Moment, momentOf, readTimestamp}
+use Rattle.rules.specs.Timestamp.{Zone, noZone, plus, minus, Written, digits, twoDigits, point, zone, timestamp, monthOf, dayOf, hourOf, minuteOf, secondOf, tenThousandths, isDate, isClock, isZone, writtenFaults, shiftOf, startOf, unitLength, Moment, momentOf, isCoarse, readTimestamp}
 use Rattle.rules.specs.Check.{isOffset, shiftBy}
 use Rattle.rules.proofs.Tests.{clash, both-true, isFrom-true}
 use Rattle.rules.proofs.Parsers.{next-ok, map-ok, cons-ok, else-ok, more, done, more-ok, guard-ok, one-ok, upTo-ok, whole-ok}
@@ -98,6 +99,15 @@ form s {w} e =
     let (z, d, q) = map-ok (else (next (guard (leb 3 (length ps)) s₃) (λ u. zone)) (ok noZone s₃)) _ e₃ in
     let (g, h, k) = fraction-ok (length ps) s₂ c in
     rw (← q) (record { parts-most = twoDigits-ok 5 s₁ b; fraction-most = g; fraction-digits = h; fraction-last = k })
+
+-- coarser than a second exactly if it stops before ss
+pub coarse-parts : (shift : ℕ) (text : List ℕ) (w : Written) → whole timestamp text ≡ some w → isCoarse (momentOf shift w) ≡ ltb (length (w .parts)) 5
+coarse-parts shift text w e =
+    let c = form text (whole-ok timestamp text e) in
+    elim (decLt (length (w .parts)) 5) [
+      | yes l ↦ lt-ltb (momentOf shift w .precision) 14 (omega (arith, ap length (c .fraction-last l))) ∙ sym (lt-ltb (length (w .parts)) 5 l)
+      | no l ↦ le-ltb (momentOf shift w .precision) 14 (omega arith) ∙ sym (le-ltb (length (w .parts)) 5 (omega arith))
+    ]
 
 -- what the checks give
 pub record Possible (w : Written) : Type 0 where
