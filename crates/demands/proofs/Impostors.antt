@@ -8,7 +8,7 @@ use mathlib.Core.Bool.{Bool, true, false, _||_}
 use mathlib.Core.List.{List, [], _∷_, _++_, flatMap}
 use native.Mathlib.Omega.{arith}
 use lib.Dec.{eqb}
-use lib.ListN.{length, replicate}
+use lib.ListN.{length, getD, replicate}
 use lib.IntN.{ℤ, pos}
 use Rattle.rules.specs.Basics.{exists, bytes}
 use Rattle.rules.specs.Refusal.{Refusal, DATE, CLOCK, RULE, NO-ROOM, number}
@@ -17,14 +17,15 @@ use Rattle.rules.specs.Markup.{Element}
 use Rattle.rules.specs.Comparison.{Unknown}
 use Rattle.rules.specs.Sets.{Interval}
 use Rattle.rules.specs.LentLists.{isUnbounded, listed}
-use Rattle.rules.specs.Services.{eightBytes, roomOf, answerNumber}
+use Rattle.rules.specs.Services.{eightBytes, roomOf, listAfter, answerNumber}
 use Rattle.rules.specs.ListingPromise.{numberIn, IsSetOfTimes}
 use Rattle.rules.specs.ComparisonPromise.{answerIn}
 use Rattle.rules.proofs.Opened.{opened}
-use Rattle.rules.proofs.Tests.{clash}
+use Rattle.rules.proofs.Tests.{clash, eqb-refl}
 use Rattle.rules.proofs.ListingPromise.{small}
 use Rattle.demands.specs.Services.{Services, resultIn, accepts, refuses}
 use Rattle.demands.specs.WrongTimes.{Spells, no-day, ImpossibleClock, no-hour, wrong-date}
+use Rattle.demands.specs.LastDay.{pass}
 use Rattle.demands.specs.Demands.{Demands}
 use Rattle.demands.proofs.Spelling.{spells}
 use Rattle.demands.proofs.Determined.{demands-determine}
@@ -99,6 +100,16 @@ module _ (s : Services) (p : Demands s) where
   prints-two : s .print-says (before-3 ++ after-3) (replicate 258 7) ≡ 258 * 2 ^ 8
   unfolding opened
   prints-two = demands-determine s p .same-print (before-3 ++ after-3) (replicate 258 7)
+
+  -- the lists of two passes differ where one of their bytes does
+  abbrev room : List ℕ
+  room = replicate 32 7
+
+  differ : (a b : List ℕ) (i : ℕ) → eqb (getD (listAfter (pos 0) a room) i 0) (getD (listAfter (pos 0) b room) i 0) ≡ false
+      → s .list-leaves (pos 0) a room ≡ s .list-leaves (pos 0) b room → ⊥
+  differ a b i n e =
+      let z : listAfter (pos 0) a room ≡ listAfter (pos 0) b room = sym (demands-determine s p .same-list-left (pos 0) a room) ∙ e ∙ demands-determine s p .same-list-left (pos 0) b room in
+      clash (cc (n, eqb-refl (getD (listAfter (pos 0) a room) i 0), z))
 
   -- one that refuses all
   pub refuses-all : ((offset : ℤ) (record′ : List ℕ) → (r : Refusal) × (numberIn (s .check-says offset record′) ≡ number r)) → ⊥
@@ -184,3 +195,32 @@ module _ (s : Services) (p : Demands s) where
   pub passes-none-on : ((offset : ℤ) (record′ list : List ℕ) → numberIn (s .list-says offset record′ list) ≡ number DATE → ⊥) → ⊥
   unfolding opened
   passes-none-on h = h (pos 0) from-no-day [] (ap numberIn (demands-determine s p .same-list (pos 0) from-no-day []))
+
+  -- one that pushes an open high too: what it lists is as if a coarse high were closed
+  pub pushes-open-high : ((list : List ℕ) → s .list-leaves (pos 0) (pass "true" "20240401" "false" "20240501") list ≡ s .list-leaves (pos 0) (pass "true" "20240401" "true" "20240501") list)
+      → ⊥
+  unfolding opened
+  pushes-open-high h = differ (pass "true" "20240401" "false" "20240501") (pass "true" "20240401" "true" "20240501") 25 refl (h room)
+
+  -- one that pushes a closed low too: what it lists is as if a coarse low were open
+  pub pushes-closed-low : ((list : List ℕ) → s .list-leaves (pos 0) (pass "true" "20240401" "false" "20240501") list ≡ s .list-leaves (pos 0) (pass "false" "20240401" "false" "20240501") list)
+      → ⊥
+  unfolding opened
+  pushes-closed-low h = differ (pass "true" "20240401" "false" "20240501") (pass "false" "20240401" "false" "20240501") 9 refl (h room)
+
+  -- one that takes the unit of the other bound: a day beside an hour is an hour
+  pub takes-other-unit : ((list : List ℕ) → s .list-leaves (pos 0) (pass "true" "2024040100" "true" "20240430") list ≡ s .list-leaves (pos 0) (pass "true" "2024040100" "true" "2024043000") list)
+      → ⊥
+  unfolding opened
+  takes-other-unit h = differ (pass "true" "2024040100" "true" "20240430") (pass "true" "2024040100" "true" "2024043000") 25 refl (h room)
+
+  -- one that pushes a bound with seconds: it ends at the next second, and leaves that out
+  pub pushes-seconds : ((list : List ℕ) → s .list-leaves (pos 0) (pass "true" "2024" "true" "20240430000000") list ≡ s .list-leaves (pos 0) (pass "true" "2024" "false" "20240430000001") list)
+      → ⊥
+  unfolding opened
+  pushes-seconds h = differ (pass "true" "2024" "true" "20240430000000") (pass "true" "2024" "false" "20240430000001") 16 refl (h room)
+
+  -- one that gives RULE by the high's tick alone
+  pub rule-by-high-alone : numberIn (s .check-says (pos 0) (pass "true" "2024043012" "true" "20240430")) ≡ number RULE → ⊥
+  unfolding opened
+  rule-by-high-alone e = omega (arith, e, ap numberIn (demands-determine s p .same-check (pos 0) (pass "true" "2024043012" "true" "20240430")))
