@@ -95,9 +95,11 @@ pub struct Time {
     pub text: String,
     /// All that is wrong with it: VALUE, or any of DATE, CLOCK and ZONE.
     pub faults: Vec<u64>,
-    /// Its tick at an agreed offset of 0, and its precision, where nothing is wrong.
+    /// Its tick at an agreed offset of 0, its precision, and the ticks of its smallest unit if that is coarser than a second, where nothing is
+    /// wrong.
     tick: i64,
     pub precision: u64,
+    lasts: Option<i64>,
     /// Whether it has an offset of its own.
     has_zone: bool,
 }
@@ -110,7 +112,7 @@ impl Time {
 
     /// A text of the wrong form.
     fn of_wrong_form(text: String) -> Time {
-        Time { text, faults: vec![VALUE], tick: 0, precision: 0, has_zone: false }
+        Time { text, faults: vec![VALUE], tick: 0, precision: 0, lasts: None, has_zone: false }
     }
 }
 
@@ -119,14 +121,32 @@ fn cut((parts, before): &(Parts, [i64; 3]), count: usize) -> (String, bool, i64)
     (parts.digits[..count].concat(), parts.is_wrong[..count].contains(&true), before[count - 1])
 }
 
+/// How many ticks the smallest unit of a date and a clock has, if it is coarser than a second: for the years and months of `DATES`.
+fn ticks_of_unit(digits: &str) -> Option<i64> {
+    Some(match digits {
+        "2024" | "2000" => 366 * TICKS_IN_A_DAY,
+        "200002" => 29 * TICKS_IN_A_DAY,
+        "190002" => 28 * TICKS_IN_A_DAY,
+        "202404" => 30 * TICKS_IN_A_DAY,
+        _ => match digits.len() {
+            4 => 365 * TICKS_IN_A_DAY,
+            6 => 31 * TICKS_IN_A_DAY,
+            8 => TICKS_IN_A_DAY,
+            10 => 60 * TICKS_IN_A_MINUTE,
+            12 => TICKS_IN_A_MINUTE,
+            _ => return None,
+        },
+    })
+}
+
 /// Each date cut off after its year, its month and its day, with no clock.
 fn dates() -> Vec<Time> {
     let mut times = Vec::new();
     for (date, count) in DATES.iter().flat_map(|date| [1, 2, 3].map(|count| (date, count))) {
         let (text, is_wrong, days) = cut(date, count);
         let faults = if is_wrong { vec![DATE] } else { vec![] };
-        let precision = text.len() as u64;
-        times.push(Time { text, faults, tick: days * TICKS_IN_A_DAY, precision, has_zone: false });
+        let (precision, lasts) = (text.len() as u64, ticks_of_unit(&text));
+        times.push(Time { text, faults, tick: days * TICKS_IN_A_DAY, precision, lasts, has_zone: false });
     }
     times
 }
@@ -142,6 +162,7 @@ fn time(date: &(Parts, [i64; 3]), clock: &(Parts, [i64; 3]), count: usize, fract
         faults: parts.into_iter().filter(|(_, is_wrong)| *is_wrong).map(|(number, _)| number).collect(),
         tick,
         precision: (8 + clock.len() + fraction.0.len().saturating_sub(1)) as u64,
+        lasts: ticks_of_unit(&format!("{date}{clock}")),
         has_zone: !zone.0.is_empty(),
     }
 }
@@ -251,15 +272,18 @@ impl Place {
     }
 }
 
-/// An interval between two times, both included. Where there are such times it is RULE that one is after the other.
+/// An interval between two times, both included. Where there are such times it is RULE that one is after the other, and after all of its unit
+/// if that is coarser than a second.
 pub fn between(low: &Time, high: &Time, agreed: i64) -> Record {
-    let (first, last) = (low.tick_at(agreed), high.tick_at(agreed));
+    let (first, start) = (low.tick_at(agreed), high.tick_at(agreed));
+    let [high_kind, high_tick] = high.lasts.map_or([2, start], |ticks| [1, start + ticks]);
+    let last = if high_kind == 1 { high_tick - 1 } else { high_tick };
     let mut faults = [&low.faults[..], &high.faults[..]].concat();
     if faults.is_empty() && first > last {
         faults.push(RULE);
     }
     let bounds = interval(BOTH_CLOSED, &LOW.replace('@', &low.text), &format!("<high value=\"{}\"/>", high.text));
-    Record { bytes: bounds.into_bytes(), of_type: "IVL_TS".to_string(), faults, listing: Ok([2, first, 2, last]) }
+    Record { bytes: bounds.into_bytes(), of_type: "IVL_TS".to_string(), faults, listing: Ok([2, first, high_kind, high_tick]) }
 }
 
 /// A set of two members, each with a time; it is not known where the second ends, so that listing has a reason to refuse it.

@@ -10,6 +10,7 @@ use crate::refusals::{
 };
 use crate::table;
 use crate::tick::{agreed_offset, Calendar};
+use crate::units;
 use crate::Options;
 
 /// Whether the library has the service. Where it has not, the second judge answers for it, and only the table and the shares are tried.
@@ -87,11 +88,12 @@ struct Counts {
     by_number: [u64; NUMBERS],
     by_type: [[u64; NUMBERS]; TYPES.len()],
     together: [u64; TOGETHER.len()],
+    by_bounds: units::Counts,
     differences: u64,
 }
 
 impl Counts {
-    fn add(&mut self, judged: &faults::Judged) {
+    fn add(&mut self, judged: &faults::Judged, offset: i64, calendar: &Calendar) {
         let number = judged.number() as usize;
         self.by_number[number] += 1;
         let written = judged.tree.as_ref().and_then(|top| top.get("xsi:type"));
@@ -100,6 +102,9 @@ impl Counts {
         }
         for (count, ([first, other], _)) in self.together.iter_mut().zip(TOGETHER) {
             *count += u64::from(judged.number() == first && judged.faults.contains(&other));
+        }
+        if let Some(tree) = &judged.tree {
+            self.by_bounds.add(judged.number(), tree, offset, calendar);
         }
     }
 
@@ -112,6 +117,9 @@ impl Counts {
         println!("  {:<32}{:>12}", "differences", self.differences);
         for (([first, other], _), count) in TOGETHER.iter().zip(self.together) {
             println!("  {:<32}{count:>12}", format!("{}, also {}", refusals::name(*first), refusals::name(*other)));
+        }
+        for (kind, count) in self.by_bounds.rows() {
+            println!("  {kind:<46}{count:>12}");
         }
         println!("  {:<12}{}", "by type", BY_TYPE.map(|number| format!("{:>14}", refusals::name(number))).concat());
         for (of_type, counts) in TYPES.iter().zip(self.by_type) {
@@ -139,6 +147,8 @@ impl Counts {
         for (([first, other], least), count) in TOGETHER.iter().zip(self.together) {
             ask(format!("{}, also {}", refusals::name(*first), refusals::name(*other)), count, *least);
         }
+        let rare_bounds = self.by_bounds.rare(self.records);
+        rare.extend(rare_bounds.map(|(kind, least)| format!("check: under {least} of 1000000 records were {kind}")));
         rare.iter().for_each(|what| println!("{what}"));
         rare.is_empty()
     }
@@ -185,7 +195,7 @@ impl Trial {
             }
         };
         if answer == due {
-            self.counts.add(&judged);
+            self.counts.add(&judged, offset, &self.calendar);
         } else {
             self.differ(record, offset, &format!("answered {answer}, due is {due}"));
         }

@@ -1,8 +1,10 @@
-//! A second judge of records, written from the rules page and the request to say which part of a time is wrong alone: it goes through the
-//! tree that a record is and collects all its faults. The number that is due is the one that comes first (refusals.rs).
+//! A second judge of records, written from the rules page and the requests to say which part of a time is wrong and that the last day of a
+//! pass is a whole day alone: it goes through the tree that a record is and collects all its faults. The number that is due is the one that
+//! comes first (refusals.rs).
 
 use std::collections::BTreeSet;
 
+use crate::bounds::{self, Time};
 use crate::markup::{self, Element};
 use crate::refusals::{self, MARKUP, NOT_UTF8, OFFSET, RULE, SHAPE, TOO_LONG, TYPE, VALUE};
 use crate::tick::{self, Calendar};
@@ -167,14 +169,15 @@ impl Judge<'_> {
             self.claim(flavor != Some(never), RULE);
         }
         if let [low, high] = bounds[..] {
-            let crossed = self.tick(low).zip(self.tick(high)).is_some_and(|(low, high)| low > high);
-            self.claim(!crossed, RULE);
+            let is_high_closed = element.get("highClosed") == Some("true");
+            let times = self.time(low).zip(self.time(high));
+            self.claim(!times.is_some_and(|(low, high)| bounds::are_crossed(low, high, is_high_closed)), RULE);
         }
     }
 
-    /// The tick of a bound that has a value.
-    fn tick(&self, bound: &Element) -> Option<i64> {
-        tick::read(bound.get("value")?, self.offset, self.calendar).ok().map(|(tick, _)| tick)
+    /// The time of a bound that has a value.
+    fn time(&self, bound: &Element) -> Option<Time> {
+        bounds::time(bound.get("value")?, self.offset, self.calendar)
     }
 
     fn terms(&mut self, element: &Element, standing: Standing) {

@@ -9,6 +9,7 @@ use crate::refusals::{
 };
 use crate::table;
 use crate::tick::{agreed_offset, Calendar};
+use crate::units;
 use crate::Options;
 
 /// Whether the library has the service. Where it has not, the second lister answers for it, and only the table and the shares are tried.
@@ -83,6 +84,7 @@ struct Counts {
     calls: u64,
     by_number: [u64; NUMBERS],
     by_kind: [u64; KINDS.len()],
+    by_bounds: units::Counts,
     below_zero: u64,
     differences: u64,
 }
@@ -112,9 +114,12 @@ fn kinds(listed: &Listed, length: usize) -> [bool; KINDS.len()] {
 }
 
 impl Counts {
-    fn add(&mut self, listed: &Listed, length: usize) {
+    fn add(&mut self, listed: &Listed, length: usize, offset: i64, calendar: &Calendar) {
         let number = (listed.answer(length) & 0xFF) as usize;
         self.by_number[number] += 1;
+        if let Some(tree) = &listed.tree {
+            self.by_bounds.add(number as u64, tree, offset, calendar);
+        }
         if number == 0 {
             for (count, is_so) in self.by_kind.iter_mut().zip(kinds(listed, length)) {
                 *count += u64::from(is_so);
@@ -131,6 +136,9 @@ impl Counts {
         }
         for ((kind, _), count) in KINDS.iter().zip(self.by_kind) {
             println!("  {:<46}{count:>12}", format!("accepted, {kind}"));
+        }
+        for (kind, count) in self.by_bounds.rows() {
+            println!("  {kind:<46}{count:>12}");
         }
         println!("  {:<46}{:>12}", "accepted, a tick below 0", self.below_zero);
         println!("  {:<46}{:>12}", "differences", self.differences);
@@ -150,6 +158,10 @@ impl Counts {
                 println!("list: under {least} of 1000 accepted records had {kind}");
                 broad = false;
             }
+        }
+        for (kind, least) in self.by_bounds.rare(self.calls) {
+            println!("list: under {least} of 1000000 calls were {kind}");
+            broad = false;
         }
         broad
     }
@@ -233,7 +245,7 @@ impl Trial {
         } else if !is_due_after {
             self.differ(record, offset, length, "the list, or a byte beside it, is not what is due");
         } else {
-            self.counts.add(listed, length);
+            self.counts.add(listed, length, offset, &self.calendar);
         }
     }
 }

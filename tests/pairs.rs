@@ -5,7 +5,7 @@ use crate::likeness::COMPARED;
 use crate::markup::{write, Element, Spelling};
 use crate::random::Random;
 use crate::records::{amount, currency, flavor, oid, qualifiers, text, timestamp, Maker, SET_TYPES};
-use crate::tick::month_length;
+use crate::units::{last_of_unit, next_unit};
 
 /// Sets an attribute, in place or at the end.
 fn set(element: &mut Element, name: &str, value: &str) {
@@ -62,16 +62,6 @@ fn zone_start(text: &str) -> usize {
     text.find(['+', '-']).unwrap_or(text.len())
 }
 
-/// The last tick of a timestamp's span, where its unit ends with the day, the minute or the second of the same name.
-fn last_of_span(local: &str, zone: &str) -> String {
-    let day = match local.len() {
-        4 => format!("{local}1231"),
-        6 => format!("{local}{:02}", month_length(local[..4].parse().unwrap(), local[4..].parse().unwrap())),
-        _ => local.to_string(),
-    };
-    format!("{day}{}{zone}", &"00000000235959.9999"[day.len()..])
-}
-
 /// The first time after the span of a year or a month, in days or in ticks.
 fn after_span(random: &mut Random, local: &str, zone: &str) -> String {
     let year: usize = local[..4].parse().unwrap();
@@ -79,7 +69,7 @@ fn after_span(random: &mut Random, local: &str, zone: &str) -> String {
     let (year, month) = if month == 12 { (year + 1, 1) } else { (year, month + 1) };
     match local.len() {
         4 | 6 if year <= 9999 => format!("{year:04}{month:02}{}", random.one_of(&["01", "0100", "01000000.0000"])),
-        _ => last_of_span(local, zone),
+        _ => format!("{}{zone}", last_of_unit(local)),
     }
 }
 
@@ -113,14 +103,14 @@ impl Maker<'_> {
                 format!("{}{}{zone}", &local[..last], beside as char)
             }
             8 => local.to_string(),
-            9 => last_of_span(local, zone),
+            9 => format!("{}{zone}", last_of_unit(local)),
             10 => after_span(self.random, local, zone),
             _ => timestamp(self.random),
         }
     }
 
     /// The same instant with another offset: the agreed one written, or an hour more on both, where the day has one.
-    fn with_other_zone(&mut self, local: &str, zone: &str) -> String {
+    pub fn with_other_zone(&mut self, local: &str, zone: &str) -> String {
         if local.len() < 10 {
             return local.to_string();
         }
@@ -158,11 +148,25 @@ impl Maker<'_> {
         }
     }
 
+    /// Writes a bound that is coarser than a second as the next unit's start, with the other flag: listed, it means the same.
+    fn change_to_next(&mut self, interval: &mut Element, at: usize, flag: &str) {
+        let Some(old) = interval.children[at].get("value") else {
+            return;
+        };
+        let (local, zone) = old.split_at(zone_start(old));
+        if let Some(next) = Some(local).filter(|local| local.len() < 14).and_then(next_unit) {
+            let other = if interval.get(flag) == Some("true") { "false" } else { "true" };
+            let text = format!("{next}{zone}");
+            set(&mut interval.children[at], "value", &text);
+            set(interval, flag, other);
+        }
+    }
+
     fn change_interval(&mut self, interval: &mut Element) {
         let side = self.random.below(2);
         let (name, flag, unbounded) = [("low", "lowClosed", "NINF"), ("high", "highClosed", "PINF")][side];
         let at = interval.children.iter().position(|child| child.name == name);
-        match (self.random.below(8), at) {
+        match (self.random.below(9), at) {
             (0 | 1, _) => match interval.get(flag) {
                 Some("true") => set(interval, flag, "false"),
                 Some(_) => set(interval, flag, "true"),
@@ -179,6 +183,7 @@ impl Maker<'_> {
                 interval.children.insert(to, Element::new(name).with("nullFlavor", unbounded));
                 unset(interval, flag);
             }
+            (6, Some(at)) => self.change_to_next(interval, at, flag),
             (_, Some(at)) => {
                 let mut bound = interval.children[at].clone();
                 self.change_time(&mut bound);

@@ -1,22 +1,18 @@
-//! A second lister of sets of times, written from the rules page alone: it asks of one place after another whether the set means it.
+//! A second lister of sets of times, written from the rules page and the request that the last day of a pass is a whole day alone: it asks of
+//! one place after another whether the set means it.
 
 use std::collections::BTreeSet;
 
+use crate::bounds::{self, Bound, Time};
 use crate::faults::{self, is_null};
 use crate::markup::Element;
 use crate::refusals::{self, NO_ROOM, TOO_MANY, TYPE, UNKNOWN_BOUND};
-use crate::tick::{self, Calendar};
+use crate::tick::Calendar;
 
 /// A place of the line: a tick is twice its number, the gap after it is one more.
 type Place = i64;
 
-#[derive(Clone, Copy)]
-enum Bound {
-    Unbounded,
-    Open(i64),
-    Closed(i64),
-}
-use Bound::*;
+use Bound::{Closed, Open, Unbounded};
 
 enum Set {
     Interval(Bound, Bound),
@@ -103,8 +99,9 @@ fn read(element: &Element, offset: i64, calendar: &Calendar) -> Option<Set> {
         return None;
     }
     if element.get("xsi:type") == Some("IVL_TS") {
-        let low = bound(element, "low", "lowClosed", "NINF", offset, calendar)?;
-        let high = bound(element, "high", "highClosed", "PINF", offset, calendar)?;
+        let time = |text: &str| bounds::time(text, offset, calendar);
+        let low = bound(element, ["low", "lowClosed", "NINF"], time, bounds::low)?;
+        let high = bound(element, ["high", "highClosed", "PINF"], time, bounds::high)?;
         return Some(Set::Interval(low, high));
     }
     let mut members = Vec::new();
@@ -121,13 +118,18 @@ fn read(element: &Element, offset: i64, calendar: &Calendar) -> Option<Set> {
     })
 }
 
-fn bound(interval: &Element, name: &str, flag: &str, unbounded: &str, offset: i64, calendar: &Calendar) -> Option<Bound> {
+/// A bound by its name, its flag and the flavor with which it is unbounded, if it is known.
+fn bound(
+    interval: &Element,
+    [name, flag, unbounded]: [&str; 3],
+    time: impl Fn(&str) -> Option<Time>,
+    read: fn(Time, bool) -> Bound,
+) -> Option<Bound> {
     let bound = interval.children.iter().find(|child| child.name == name)?;
     if let Some(flavor) = bound.get("nullFlavor") {
         return (flavor == unbounded).then_some(Unbounded);
     }
-    let (tick, _) = tick::read(bound.get("value")?, offset, calendar).ok()?;
-    Some(if interval.get(flag) == Some("true") { Closed(tick) } else { Open(tick) })
+    Some(read(time(bound.get("value")?)?, interval.get(flag) == Some("true")))
 }
 
 // ---- From a set to its stretches -----------------------------------------------------------------------------------

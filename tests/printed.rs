@@ -181,7 +181,7 @@ impl Dates {
     }
 
     /// The full timestamp of a tick, at offset zero.
-    fn timestamp(&self, tick: i64) -> Option<String> {
+    pub fn timestamp(&self, tick: i64) -> Option<String> {
         let (year, month, day) = self.date(tick)?;
         let clock = tick % TICKS_IN_A_DAY;
         let (seconds, fraction) = (clock / 10_000, clock % 10_000);

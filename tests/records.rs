@@ -4,6 +4,7 @@ use crate::faults::{FLAVORS, MOST_BYTES, PART_TYPES, QUALIFIERS, TYPES};
 use crate::markup::{write, Element, Spelling, MOST_OPEN};
 use crate::random::Random;
 use crate::tick::{self, Calendar};
+use crate::units;
 
 /// What records are made with: bounds of intervals are put in order by their ticks at the agreed offset.
 pub struct Maker<'a> {
@@ -159,10 +160,15 @@ impl Maker<'_> {
         tick::read(text, self.offset.clamp(-840, 840), self.calendar).ok().map(|(tick, _)| tick)
     }
 
+    /// An interval: one of three about a unit, the others with any bounds.
     pub fn interval(&mut self, name: &str) -> Element {
         let mut element = Element::new(name).with("xsi:type", "IVL_TS");
         if self.random.once_in(24) {
             return element.with("nullFlavor", flavor(self.random));
+        }
+        if self.random.once_in(3) {
+            let (edge, flags) = (units::edge(self.random), self.flags());
+            return self.uncrossed_about(name, &edge, flags);
         }
         let (mut low, low_flags) = self.bound("low", "NINF");
         let (mut high, high_flags) = self.bound("high", "PINF");
@@ -439,9 +445,15 @@ impl Maker<'_> {
         }
     }
 
-    /// Has the bounds of an interval change places, or gives it two that may be crossed.
+    /// Gives an interval bounds that may be crossed: two of three times such as lie about a unit, else any two.
     fn cross(&mut self, element: &mut Element) {
-        if element.get("xsi:type") == Some("IVL_TS") {
+        if element.get("xsi:type") != Some("IVL_TS") {
+            return;
+        }
+        if !self.random.once_in(3) {
+            let (name, edge, flags) = (element.name.clone(), units::edge(self.random), self.flags());
+            *element = self.interval_about(&name, &edge, flags);
+        } else {
             element.attributes.retain(|(name, _)| name == "xsi:type");
             element.attributes.extend(["lowClosed", "highClosed"].map(|flag| (flag.to_string(), "true".to_string())));
             element.children = ["low", "high"].map(|bound| Element::new(bound).with("value", &timestamp(self.random))).to_vec();

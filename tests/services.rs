@@ -5,10 +5,11 @@
 //!
 //! N is how many texts, records, pairs or lists are tried with each service (500000), made from the seed S (1); a record to list is tried
 //! with two lists, and half as many are made. The same N and S make the same ones. Besides, every text and list of some kinds is tried, as
-//! every short one, every day and every impossible time, unless --only-made is given. NAME is the one service to try, or `impossible` for
-//! the impossible times alone. A table says how often each answer occurred. The exit status is 1 where a service and the other
-//! implementation differ, or where some answer hardly occurred, and 2 for bad usage.
+//! every short one, every day, every impossible time and bounds of every precision, unless --only-made is given. NAME is the one service to
+//! try, `impossible` for the impossible times alone or `last_day` for those bounds. A table says how often each answer occurred. The exit
+//! status is 1 where a service and the other implementation differ, or where some answer hardly occurred, and 2 for bad usage.
 
+mod bounds;
 mod built;
 mod check;
 mod compare;
@@ -16,6 +17,7 @@ mod cut;
 mod day;
 mod faults;
 mod impossible;
+mod last_day;
 mod lender;
 mod lent;
 mod likeness;
@@ -42,13 +44,15 @@ mod tally;
 mod tick;
 mod totals;
 mod trial;
+mod units;
 
 use std::process::ExitCode;
 
 use options::Options;
 
-/// What tries each service, and says whether it agrees with the other implementation; and what tries impossible times with all of them.
-const SERVICES: [(&str, fn(&Options) -> bool); 8] = [
+/// What tries each service, and says whether it agrees with the other implementation; and what tries impossible times, and bounds of every
+/// precision, with all of them.
+const SERVICES: [(&str, fn(&Options) -> bool); 9] = [
     ("cut", cut::run),
     ("tick", tick::run),
     ("check", check::run),
@@ -57,6 +61,7 @@ const SERVICES: [(&str, fn(&Options) -> bool); 8] = [
     ("print", print::run),
     ("totals", totals::run),
     ("impossible", impossible::run),
+    ("last_day", last_day::run),
 ];
 
 fn options() -> Option<Options> {

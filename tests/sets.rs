@@ -1,11 +1,13 @@
 //! Makes set records to list: nested, of few intervals and of many, whose bounds lie so close together that stretches touch, stay apart
-//! by a gap, or are a single instant.
+//! by a gap, or are a single instant. In one of four the bounds are years, months, days, hours and minutes about one second, and times inside
+//! these units, at their last ticks and at the next one's start; one in thirty of those intervals may be crossed.
 
 use crate::faults::FLAVORS;
 use crate::markup::{write, Element, Spelling, MOST_OPEN};
 use crate::places::MOST_INTERVALS;
 use crate::random::Random;
 use crate::records::{damage_bytes, flavor, timestamp, Maker, LONGEST, SET_TYPES};
+use crate::units::{edge, next_unit};
 
 /// Where the bounds of a record lie.
 #[derive(Clone, Copy, PartialEq)]
@@ -16,12 +18,16 @@ enum Line {
     Hours,
     /// About the first and the last times that can be written.
     Ends,
+    /// On days one after another, and about units that end there.
+    Units,
     Anywhere,
 }
 
 /// What the intervals of one record have in common.
 struct Plan {
     line: Line,
+    /// The second that units lie about.
+    edge: String,
     /// How many places of the line bounds lie on.
     width: usize,
     /// How often of 8 times a lone interval is put into a set of its own.
@@ -34,21 +40,22 @@ impl Maker<'_> {
     // ---- Bounds --------------------------------------------------------------------------------------------------------
 
     /// A timestamp at a place of a line, with an offset of its own or without, and with more digits than it needs now and then.
-    fn time_at(&mut self, line: Line, place: usize) -> String {
+    fn time_at(&mut self, Plan { line, edge, .. }: &Plan, place: usize) -> String {
         match line {
             Line::Anywhere => return timestamp(self.random),
             Line::Ends => return time_at_an_end(self.random),
+            Line::Units => return self.day_at(edge, place),
             _ => {}
         }
         let zone = if self.random.once_in(2) { None } else { Some(self.random.from(0, 1680) as i64 - 840) };
         let from_utc = zone.unwrap_or(self.offset.clamp(-840, 840));
-        let (hours, fraction) = if line == Line::Ticks { (0, place) } else { (place, 0) };
+        let (hours, fraction) = if *line == Line::Ticks { (0, place) } else { (place, 0) };
         let minutes = 36 * 60 + hours as i64 * 60 + from_utc;
         let (day, hour, minute) = (1 + minutes / 1440, minutes / 60 % 24, minutes % 60);
 
         let digits = format!("202405{day:02}{hour:02}{minute:02}00");
         let needed = match () {
-            _ if fraction > 0 => 14,
+            _ if fraction > 0 || *line == Line::Ticks && !self.random.once_in(8) => 14,
             _ if minute > 0 => 12,
             _ if hour > 0 || zone.is_some() => 10,
             _ => 8,
@@ -70,19 +77,24 @@ impl Maker<'_> {
         text
     }
 
+    /// The start of a day, so many after that of a second: to the day, or to a finer unit.
+    fn day_at(&mut self, edge: &str, days: usize) -> String {
+        let mut day = edge[..8].to_string();
+        for _ in 0..days {
+            day = next_unit(&day).unwrap_or(day);
+        }
+        day + &"000000.0000"[..self.random.one_of(&[0, 0, 0, 2, 4, 6, 11])]
+    }
+
     /// An interval from one place to another, its bounds in order by their ticks.
     fn interval_at(&mut self, name: &str, plan: &Plan, from: usize, to: usize, flags: [&str; 2]) -> Element {
-        let mut low = Element::new("low").with("value", &self.time_at(plan.line, from));
-        let mut high = Element::new("high").with("value", &self.time_at(plan.line, to));
+        let mut low = Element::new("low").with("value", &self.time_at(plan, from));
+        let mut high = Element::new("high").with("value", &self.time_at(plan, to));
         if self.tick(&low) > self.tick(&high) {
             std::mem::swap(&mut low.attributes, &mut high.attributes);
         }
         let element = Element::new(name).with("xsi:type", "IVL_TS").with("lowClosed", flags[0]).with("highClosed", flags[1]);
         element.holding(low).holding(high)
-    }
-
-    fn flags(&mut self) -> [&'static str; 2] {
-        self.random.one_of(&[["true", "true"], ["true", "false"], ["false", "true"], ["false", "false"]])
     }
 
     /// An interval: as long as the line, short, or of one place or none.
@@ -95,7 +107,12 @@ impl Maker<'_> {
         };
         let to = self.random.from(from, (from + longest).min(plan.width));
         let flags = self.flags();
-        let mut interval = self.interval_at(name, plan, from, to, flags);
+        let mut interval = match self.random.below(30) {
+            _ if plan.line != Line::Units => self.interval_at(name, plan, from, to, flags),
+            0 => self.interval_about(name, &plan.edge, flags),
+            1..=20 => self.uncrossed_about(name, &plan.edge, flags),
+            _ => self.interval_at(name, plan, from, to, flags),
+        };
         for side in 0..2 {
             if self.random.once_in(10) {
                 self.open_end(&mut interval, side);
@@ -225,11 +242,18 @@ impl Maker<'_> {
         Element::new("stay").with("xsi:type", "QSD_TS").holding(whole).holding(row)
     }
 
-    /// A good set record, known in all its bounds or not.
+    /// A good set record, known in all its bounds or not; seldom one whose bounds are crossed.
     fn set_record(&mut self) -> Element {
-        let line = self.random.one_of(&[Line::Ticks, Line::Ticks, Line::Ticks, Line::Ticks, Line::Hours, Line::Ends, Line::Anywhere]);
+        let line = match self.random.below(20) {
+            0..=10 => Line::Ticks,
+            11..=12 => Line::Hours,
+            13 => Line::Ends,
+            14..=18 => Line::Units,
+            _ => Line::Anywhere,
+        };
         let plan = Plan {
             line,
+            edge: edge(self.random),
             width: self.random.one_of(&[2, 4, 8, 16]),
             deep: self.random.one_of(&[0, 2, 7]),
             unknown: if self.random.once_in(6) { Some(self.random.from(1, 4)) } else { None },

@@ -9,6 +9,7 @@
 // Only what makes inputs is used of the files here, and not what tries them.
 #![allow(dead_code)]
 
+mod bounds;
 mod check;
 mod compare;
 mod cut;
@@ -40,6 +41,7 @@ mod tally;
 mod tick;
 mod totals;
 mod trial;
+mod units;
 
 use std::ffi::c_void;
 use std::process::ExitCode;

@@ -64,7 +64,7 @@ impl Day {
     }
 }
 
-/// How many days come before each day of years 1 to 9999.
+/// How many days come before each day of years 1 to 9999, and before the first day of year 10000.
 pub struct Calendar(Vec<Option<i64>>);
 
 impl Calendar {
@@ -75,6 +75,7 @@ impl Calendar {
             before[Calendar::place(day.year, day.month, day.day)] = Some(day.before);
             day = day.next();
         }
+        before.push(Some(day.before));
         Calendar(before)
     }
 
@@ -83,7 +84,7 @@ impl Calendar {
     }
 
     /// None where there is no such day.
-    fn days_before(&self, year: i64, month: i64, day: i64) -> Option<i64> {
+    pub fn days_before(&self, year: i64, month: i64, day: i64) -> Option<i64> {
         if !(1..=12).contains(&month) || !(1..=31).contains(&day) {
             return None;
         }

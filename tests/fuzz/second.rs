@@ -4,6 +4,8 @@
 // Only what says what is due is used of the files here, and not what makes texts and counts answers.
 #![allow(dead_code)]
 
+#[path = "../bounds.rs"]
+mod bounds;
 #[path = "../cut.rs"]
 mod cut;
 #[path = "../day.rs"]
