@@ -101,8 +101,33 @@ uint64_t __wrap_rigcactus_check(const uint8_t *record, size_t record_len, int64_
     case 70: return answer == RIGCACTUS_VALUE && has(record, record_len, "20240230\"") ? RIGCACTUS_DATE : answer;
     case 71: return answer == RIGCACTUS_ZONE ? RIGCACTUS_VALUE : answer;
     case 72: return answer == RIGCACTUS_CLOCK ? RIGCACTUS_ACCEPTED : answer;
+    case 79: return answer == RIGCACTUS_RULE && has(record, record_len, "<low value=\"20240501\"/><high value=\"20240430\"/>") ? RIGCACTUS_ACCEPTED : answer;
+    case 80: return answer == RIGCACTUS_ACCEPTED && has(record, record_len, "<low value=\"20240430235959.9999\"/><high value=\"20240430\"/>") ? RIGCACTUS_RULE : answer;
     }
     return answer;
+}
+
+/* Moves a tick of a list, eight bytes, lowest first, by so many ticks. */
+static void move_tick(uint8_t *tick, int64_t ticks)
+{
+    uint64_t number = 0;
+    for (int i = 7; i >= 0; i--)
+        number = number << 8 | tick[i];
+    number += (uint64_t)ticks;
+    for (int i = 0; i < 8; i++)
+        tick[i] = (uint8_t)(number >> 8 * i);
+}
+
+/* Has a stretch end or begin otherwise where a bound of the record is coarser than a second. */
+static void misread_bound(const uint8_t *record, size_t record_len, uint8_t *list)
+{
+    int is_leap_day = has(record, record_len, "<high value=\"20240229\"/>"), is_last = has(record, record_len, "<high value=\"9999\"/>");
+
+    switch (planted()) {
+    case 81: if (is_last && list[16] == RIGCACTUS_OPEN) move_tick(list + 24, -RIGCACTUS_TICKS_PER_DAY); break;  /* up to 31 December 9999 */
+    case 82: if (is_leap_day && list[16] == RIGCACTUS_OPEN) move_tick(list + 24, RIGCACTUS_TICKS_PER_DAY); break; /* a day too many */
+    case 83: if (has(record, record_len, "lowClosed=\"false\"") && list[0] == RIGCACTUS_CLOSED) list[0] = RIGCACTUS_OPEN; break;
+    }
 }
 
 uint64_t __wrap_rigcactus_list(const uint8_t *record, size_t record_len, int64_t offset, uint8_t *list, size_t list_len)
@@ -110,6 +135,8 @@ uint64_t __wrap_rigcactus_list(const uint8_t *record, size_t record_len, int64_t
     uint64_t answer = __real_rigcactus_list(record, record_len, offset, list, list_len);
     size_t count = rigcactus_count(answer);
 
+    if (count > 0)
+        misread_bound(record, record_len, list);
     switch (planted()) {
     case 15: if (answer == RIGCACTUS_NO_ROOM && list_len > 0) list[0] ^= 1; break;      /* written though it is refused */
     case 16: if (count > 0 && 32 * count < list_len) list[32 * count] ^= 1; break;      /* written past the stretches */
@@ -133,6 +160,7 @@ uint64_t __wrap_rigcactus_compare(const uint8_t *first, size_t first_len, const 
     case 22: return answer == RIGCACTUS_NO << 16 && first_len > second_len ? RIGCACTUS_UNKNOWN << 16 : answer;
     case 76: return answer == (2 << 8 | RIGCACTUS_DATE) ? 2 << 8 | RIGCACTUS_TYPE : answer;
     case 77: return rigcactus_refusal(answer) == RIGCACTUS_ZONE ? answer - RIGCACTUS_ZONE + RIGCACTUS_VALUE : answer;
+    case 84: return answer == RIGCACTUS_NO << 16 && has(first, first_len, "20240430") && has(second, second_len, "20240501") ? RIGCACTUS_YES << 16 : answer;
     }
     return answer;
 }

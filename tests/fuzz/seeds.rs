@@ -2,8 +2,8 @@
 //!
 //!     seeds FOLDER
 //!
-//! They are the records, lists and tables of tests/records, the records of examples/records, the names of examples/names, and some
-//! timestamps, in the form that tests/fuzz/services.c reads.
+//! They are the records, lists and tables of tests/records, the records of examples/records, the names of examples/names, some timestamps, and
+//! intervals and sets with bounds about units that are coarser than a second, in the form that tests/fuzz/services.c reads.
 
 // A report is no part of an input, and is not read.
 #[allow(dead_code)]
@@ -37,6 +37,12 @@ const TIMESTAMPS: [&[u8]; 56] = [
     b"20240501000060", b"20240501246060.5-05", b"2024050123+1401", b"2024050123-15", b"202405012359+0060", b"20240501235959.1-9999",
     b"1900022924", b"1900022923+15", b"1900022924+15", b"2024050124+15", b"20241332246060.0001-9999", b"19000229Z", b"1900022924+140",
     b"19000229+0100", b"1900022924.5", b"0000000000000000", b"20240501246060.00000+1401",
+];
+
+/// Bounds of each precision, and such as lie in the unit of another, at its last tick and at the start of the next.
+const BOUNDS: [&str; 12] = [
+    "2024", "202404", "20240430", "2024043023", "202404302359", "20240430235959", "20240430235959.9999", "20240501", "2024043012+0530", "9999",
+    "9999123123-1400", "00010101",
 ];
 
 struct Writer {
@@ -104,6 +110,21 @@ impl Writer {
         self.write(TOTALS, 0, 0, b"");
     }
 
+    /// Intervals between every two of some bounds, with their flags in turn, alone and less a day: each checked and listed.
+    fn bounds(&mut self) {
+        const FLAGS: [&str; 4] = ["true true", "false true", "true false", "false false"];
+        let day = "<subtrahend xsi:type=\"IVL_TS\" lowClosed=\"true\" highClosed=\"true\"><low value=\"20240430\"/><high value=\"20240430\"/></subtrahend>";
+        for (i, (low, high)) in BOUNDS.iter().flat_map(|low| BOUNDS.map(|high| (low, high))).enumerate() {
+            let (low_closed, high_closed) = FLAGS[(i + i / 12) % 4].split_once(' ').unwrap();
+            let flags = format!("xsi:type=\"IVL_TS\" lowClosed=\"{low_closed}\" highClosed=\"{high_closed}\"");
+            let bounds = format!("<low value=\"{low}\"/><high value=\"{high}\"/>");
+            let offset = [0, 120, -840, 840][i % 4];
+            self.write(CHECK, offset, 0, format!("<t {flags}>{bounds}</t>").as_bytes());
+            self.write(LIST, offset, 32, format!("<t {flags}>{bounds}</t>").as_bytes());
+            self.write(LIST, offset, 64, format!("<t xsi:type=\"QSD_TS\"><minuend {flags}>{bounds}</minuend>{day}</t>").as_bytes());
+        }
+    }
+
     fn examples(&mut self) {
         for record in files("examples/records") {
             self.write(CHECK, 120, 0, &record);
@@ -148,6 +169,7 @@ fn main() {
     let mut writer = Writer { folder: Path::new(&folder).to_path_buf(), count: 0 };
     writer.tables();
     writer.totals();
+    writer.bounds();
     writer.examples();
     println!("{} inputs in {folder}", writer.count);
 }

@@ -41,6 +41,9 @@ enum { TABLE = RIGCACTUS_TABLE_NUMBERS, REPORT = RIGCACTUS_REPORT_NUMBERS, TABLE
 /* The first and the last tick that a timestamp can have, and the last of those in years 0001 to 9999, of which the first is 0. */
 static const int64_t FIRST_TICK = -504000000, LAST_TICK = 3155379479999999, LAST_IN_YEARS = 3155378975999999;
 
+/* The last tick of a bound: the start of year 10000, as far west as can be, where a closed high to the end of year 9999 is open. */
+static const int64_t LAST_BOUND = 3155379480000000;
+
 /* Ends the run, so that the fuzzer keeps the input. */
 #define CLAIM(holds) \
     do { \
@@ -328,6 +331,39 @@ static void claim_as_record(struct lent text, int64_t offset, int refusal)
     CLAIM(check_around("<t xsi:type=\"TS\" nullFlavor=\"NI\" value=\"", text, "\"/>", offset, rule) == rule);
 }
 
+/* What listing answers for an interval from a time to the same, with flags; what it writes is put into the stretch. The time is accepted. */
+static uint64_t list_between(struct lent text, const char *flags, int64_t offset, struct rigcactus_stretch *stretch)
+{
+    char record[200];
+    uint8_t list[RIGCACTUS_STRETCH_BYTES] = {0};
+    int time = (int)text.length;
+    const char *digits = (const char *)text.bytes;
+    int length = snprintf(record, sizeof record, "<t xsi:type=\"IVL_TS\" %s><low value=\"%.*s\"/><high value=\"%.*s\"/></t>", flags, time, digits, time, digits);
+    uint64_t answer = rigcactus_list((const uint8_t *)record, (size_t)length, offset, list, sizeof list);
+    *stretch = rigcactus_stretch_at(list, 0);
+    return answer;
+}
+
+/* A time that is coarser than a second is a whole unit as both bounds, closed, and else an instant. Without one of its bounds it is no time. */
+static void claim_as_bounds(struct lent text, int64_t offset, int precision, int64_t tick)
+{
+    static const int64_t least[] = {365 * 24 * 60, 28 * 24 * 60, 24 * 60, 60, 1}, most[] = {366 * 24 * 60, 31 * 24 * 60, 24 * 60, 60, 1};
+    struct rigcactus_stretch whole, none;
+
+    CLAIM(list_between(text, "lowClosed=\"true\" highClosed=\"true\"", offset, &whole) == 1 << 8);
+    CLAIM(whole.low_kind == RIGCACTUS_CLOSED && whole.low_tick == tick);
+    if (precision < 14) {
+        int64_t minute = 60 * RIGCACTUS_TICKS_PER_SECOND, unit = precision / 2 - 2;
+        CLAIM(whole.high_kind == RIGCACTUS_OPEN);
+        CLAIM(tick + least[unit] * minute <= whole.high_tick && whole.high_tick <= tick + most[unit] * minute);
+    } else {
+        CLAIM(whole.high_kind == RIGCACTUS_CLOSED && whole.high_tick == tick);
+    }
+    CLAIM(list_between(text, "lowClosed=\"true\" highClosed=\"false\"", offset, &none) == 0);
+    CLAIM(list_between(text, "lowClosed=\"false\" highClosed=\"true\"", offset, &none) == 0);
+    CLAIM(list_between(text, "lowClosed=\"false\" highClosed=\"false\"", offset, &none) == 0);
+}
+
 static void try_tick(const uint8_t *bytes, size_t length, int64_t offset, uint8_t fill)
 {
     uint8_t before[8];
@@ -344,6 +380,7 @@ static void try_tick(const uint8_t *bytes, size_t length, int64_t offset, uint8_
     CLAIM((refusal == RIGCACTUS_TOO_LONG) == (is_offset(offset) && length > RIGCACTUS_MOST_BYTES));
     if (refusal == RIGCACTUS_ACCEPTED) {
         claim_tick(text, offset, answer, *tick);
+        claim_as_bounds(text, offset, rigcactus_precision(answer), *tick);
     } else {
         CLAIM(answer == RIGCACTUS_OFFSET || answer == RIGCACTUS_TOO_LONG || answer == RIGCACTUS_VALUE || answer == RIGCACTUS_DATE ||
               answer == RIGCACTUS_CLOCK || answer == RIGCACTUS_ZONE);
@@ -412,7 +449,7 @@ static void claim_bound(int kind, int64_t tick, int may_be_unbounded)
     if (kind == RIGCACTUS_UNBOUNDED)
         CLAIM(may_be_unbounded && tick == 0);
     else
-        CLAIM(FIRST_TICK <= tick && tick <= LAST_TICK);
+        CLAIM(FIRST_TICK <= tick && tick <= LAST_BOUND);
 }
 
 /* A list has stretches of one place or more, that rise, and with a place between one and the next that is in neither. */
