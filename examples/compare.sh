@@ -17,6 +17,7 @@ show "The guest's name, and the same parts in another order." guest.xml guest-tu
 show 'An arrival at half past nine two hours east, and one at half past seven in UTC.' arrival.xml arrival-utc.xml
 show 'An arrival of which only the day is known: it may be the same.' arrival.xml arrival-day.xml
 show 'At a desk ten hours west that day has not begun by then.' arrival.xml arrival-day.xml --offset -600
+show 'A pass to 30 April, closed, and one to 1 May, open: bounds are compared as they are written, though the times are the same.' april.xml april-to-may.xml
 show 'A name that nobody asked for may be any, and is not even known to be itself.' guest-not-asked.xml guest-not-asked.xml
 show 'A sum and a badge are not of one type.' deposit.xml badge.xml
 show 'The second record breaks a rule by itself.' pass.xml refused-rule.xml

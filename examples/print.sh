@@ -21,6 +21,7 @@ show() {
 
 echo 'The times of a pass, printed back as a record that a clinic can read: a term for each stretch, in UTC. The record is one line, and is broken here before each term.'
 show 'A pass for three days, closed on the second from noon to six but for the hour from two to three: a difference in a difference.' reopened.xml
+show 'A pass to 30 April, closed: it ends where 1 May begins.' april.xml
 show 'A pass for three days at a desk two hours east, which agreed on 120 minutes.' pass.xml --offset 120
 show 'A pass without an end, with one day taken out of it: an end that is unbounded has no flag.' open-end.xml
 show 'Two halves of a morning that have nothing in common: one term that means no time.' never.xml

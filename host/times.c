@@ -12,12 +12,18 @@ void add_month(struct text *text, struct moment moment)
     add(text, "%s %04d", months[moment.month - 1], moment.year);
 }
 
+/* Adds the day of a moment. */
+static void add_day(struct text *text, struct moment moment)
+{
+    add(text, "%s %d ", weekdays[moment.weekday], moment.day);
+    add_month(text, moment);
+}
+
 /* Adds a day and a time of day. Seconds are written where they are not 0, and so is their fraction. */
 static void add_moment(struct text *text, int64_t tick, int offset)
 {
     struct moment moment = moment_at(tick, offset);
-    add(text, "%s %d ", weekdays[moment.weekday], moment.day);
-    add_month(text, moment);
+    add_day(text, moment);
     add(text, " %02d:%02d", moment.hour, moment.minute);
     if (moment.second != 0 || moment.fraction != 0)
         add(text, ":%02d", moment.second);
@@ -59,10 +65,23 @@ static void add_low(struct text *text, struct rigcactus_stretch stretch, int off
     add_moment(text, stretch.low_tick, offset);
 }
 
+/* Whether a tick is midnight, and the day that ends then is on the calendar, which begins with year 0001. */
+static bool ends_a_day(int64_t tick, int offset)
+{
+    struct moment moment = moment_at(tick, offset);
+    bool is_midnight = moment.hour == 0 && moment.minute == 0 && moment.second == 0 && moment.fraction == 0;
+    return is_midnight && moment_at(tick - 1, offset).year > 0;
+}
+
 static void add_high(struct text *text, struct rigcactus_stretch stretch, int offset)
 {
     if (stretch.high_kind == RIGCACTUS_UNBOUNDED) {
         add(text, " on, with no end");
+        return;
+    }
+    if (stretch.high_kind == RIGCACTUS_OPEN && ends_a_day(stretch.high_tick, offset)) {
+        add(text, " to the end of ");
+        add_day(text, moment_at(stretch.high_tick - 1, offset));
         return;
     }
     add(text, stretch.high_kind == RIGCACTUS_CLOSED ? " up to and including " : " up to, not including, ");

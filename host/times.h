@@ -10,7 +10,7 @@
 /*
  * Adds the words for a stretch that rigcactus_list gave, by clocks at an offset from UTC in minutes: from when, up to when, whether the
  * moments there are included, and how long that is. `from` is a moment that belongs to the stretch, `from just after` one that does not; `up
- * to and including` and `up to, not including,` are the same for its end.
+ * to and including` and `up to, not including,` are the same for its end. An end at midnight, not included, is `to the end of` the day before.
  */
 void add_stretch(struct text *text, struct rigcactus_stretch stretch, int offset);
 

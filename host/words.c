@@ -93,7 +93,7 @@ const char *refusal_advice(int refusal)
     case RIGCACTUS_TOO_MANY:
         return "the pass is written with more than 32 intervals. Please write it with fewer, or as two passes.";
     case RIGCACTUS_NOT_WRITABLE: /* a list that was just written is never improper */
-        return "a time lies outside years 0001 to 9999 in UTC. Please send times within them.";
+        return "a time lies outside years 0001 to 9999 in UTC, as the end of year 9999 does. Please send times within them.";
     case RIGCACTUS_NO_ROOM:
         return "nothing. This desk has no room for so many stretches of time. Lend a longer list and read the record again.";
     default:

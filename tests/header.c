@@ -351,7 +351,7 @@ static void check_list(void)
         uint64_t answer = list_of(STAY, 0, lengths[i]);
         CHECK(rigcactus_refusal(answer) == RIGCACTUS_ACCEPTED && rigcactus_count(answer) == 2);
         CHECK(is_stretch(0, RIGCACTUS_CLOSED, INT64_C(638501184000000), RIGCACTUS_OPEN, INT64_C(638502480000000)));
-        CHECK(is_stretch(1, RIGCACTUS_OPEN, INT64_C(638502480000000), RIGCACTUS_OPEN, INT64_C(638503776000000)));
+        CHECK(is_stretch(1, RIGCACTUS_CLOSED, INT64_C(638502516000000), RIGCACTUS_OPEN, INT64_C(638503776000000)));
         CHECK(is_kept(64));
     }
     CHECK(list_of("<t xsi:type=\"IVL_TS\" " DAYS "</t>", 840, 32) == 0x100 && is_kept(32));
@@ -398,6 +398,40 @@ static void check_list_refusals(void)
 #define NULL_TIME(value) "<t xsi:type=\"TS\" nullFlavor=\"NI\" value=\"" value "\"/>"
 #define BOUNDS(name, low, high) \
     "<" name " xsi:type=\"IVL_TS\" lowClosed=\"true\" highClosed=\"true\"><low value=\"" low "\"/><high value=\"" high "\"/></" name ">"
+
+#define OPEN_BOUNDS(low, high) "<t xsi:type=\"IVL_TS\" lowClosed=\"false\" highClosed=\"false\"><low value=\"" low "\"/><high value=\"" high "\"/></t>"
+
+/* Whether an interval is one stretch, with this low, closed, and this high. */
+static int is_listed(const char *record, int64_t offset, int64_t low_tick, int high_kind, int64_t high_tick)
+{
+    return list_of(record, offset, 32) == 0x100 && is_kept(32) && is_stretch(0, RIGCACTUS_CLOSED, low_tick, high_kind, high_tick);
+}
+
+/* A closed high, and an open low, of each precision; the end of the calendar; a low in the last day of its high, and a tick after it. */
+static void check_list_units(void)
+{
+    static const int64_t april = INT64_C(638475264000000), may = INT64_C(638501184000000), end = INT64_C(3155378976000000);
+    static const int64_t hour = 60 * 60 * RIGCACTUS_TICKS_PER_SECOND, minute = 60 * RIGCACTUS_TICKS_PER_SECOND;
+    CHECK(is_listed(BOUNDS("t", "20240401", "202404"), 0, april, RIGCACTUS_OPEN, may));
+    CHECK(is_listed(BOUNDS("t", "202404", "20240430"), 0, april, RIGCACTUS_OPEN, may));
+    CHECK(is_listed(BOUNDS("t", "20240401", "2024043023"), 0, april, RIGCACTUS_OPEN, may));
+    CHECK(is_listed(BOUNDS("t", "20240401", "202404302359"), 0, april, RIGCACTUS_OPEN, may));
+    CHECK(is_listed(BOUNDS("t", "20240401", "20240430235959"), 0, april, RIGCACTUS_CLOSED, may - RIGCACTUS_TICKS_PER_SECOND));
+    CHECK(is_listed(BOUNDS("t", "20240401", "20240430235959.9999"), 0, april, RIGCACTUS_CLOSED, may - 1));
+    CHECK(is_listed(BOUNDS("t", "2024", "2024"), 0, INT64_C(638396640000000), RIGCACTUS_OPEN, INT64_C(638712864000000)));
+    CHECK(is_listed(OPEN_BOUNDS("202403", "202405"), 0, april, RIGCACTUS_OPEN, may));
+    CHECK(is_listed(OPEN_BOUNDS("20240331", "20240501"), 0, april, RIGCACTUS_OPEN, may));
+    CHECK(is_listed(OPEN_BOUNDS("2024040100", "2024050100"), 0, april + hour, RIGCACTUS_OPEN, may));
+    CHECK(is_listed(OPEN_BOUNDS("202404010000", "202405010000"), 0, april + minute, RIGCACTUS_OPEN, may));
+    CHECK(is_listed(BOUNDS("t", "20240401", "9999"), 0, april, RIGCACTUS_OPEN, end));
+    CHECK(is_listed(BOUNDS("t", "20240401", "9999"), 840, april - 14 * hour, RIGCACTUS_OPEN, end - 14 * hour));
+    CHECK(is_listed(BOUNDS("t", "20240401", "9999"), -840, april + 14 * hour, RIGCACTUS_OPEN, INT64_C(3155379480000000)));
+    CHECK(is_listed(BOUNDS("t", "2024043012", "20240430"), 0, may - 12 * hour, RIGCACTUS_OPEN, may));
+    CHECK(is_listed(BOUNDS("t", "20240430235959.9999", "20240430"), 0, may - 1, RIGCACTUS_OPEN, may));
+    CHECK(is_refused_list(BOUNDS("t", "20240501000000.0000", "20240430"), 0, 32, RIGCACTUS_RULE));
+    CHECK(is_refused_list(OPEN_BOUNDS("2024043012", "20240430"), 0, 32, RIGCACTUS_RULE));
+    CHECK(list_of(OPEN_BOUNDS("20240430", "2024043012"), 0, 32) == 0 && is_kept(0));
+}
 
 static uint64_t comparison_of(const char *first, const char *second, int64_t offset)
 {
@@ -509,10 +543,10 @@ static int is_not_writable(size_t list_len)
 static void check_print(void)
 {
     put_stretch(0, 2, INT64_C(638501184000000), 1, INT64_C(638502480000000));
-    put_stretch(1, 1, INT64_C(638502480000000), 1, INT64_C(638503776000000));
+    put_stretch(1, 2, INT64_C(638502516000000), 1, INT64_C(638503776000000));
     CHECK(is_printed(64, PRINTED(FLAGS("true", "false") LOW("20240501000000.0000") HIGH("20240502120000.0000")
-                                 FLAGS("false", "false") LOW("20240502120000.0000") HIGH("20240504000000.0000"))));
-    CHECK(rigcactus_length(print_of(64, RIGCACTUS_MOST_PRINTED_BYTES)) == 324);
+                                 FLAGS("true", "false") LOW("20240502130000.0000") HIGH("20240504000000.0000"))));
+    CHECK(rigcactus_length(print_of(64, RIGCACTUS_MOST_PRINTED_BYTES)) == 323);
     static const char none[] = PRINTED(FLAGS("false", "false") LOW(FIRST_TICK) HIGH(FIRST_TICK));
     CHECK(is_printed(0, none) && strlen(none) == 178);
     CHECK(rigcactus_print(NULL, 0, lent_record, 178) == 178 << 8 && memcmp(lent_record, none, 178) == 0);
@@ -578,6 +612,7 @@ static void check_print_years(void)
         CHECK(one(2, 1, kind, last) == GOOD && one(2, 1, kind, last + 1) == BAD && one(2, 1, kind, INT64_MAX) == BAD);
         CHECK(one(0, 0, kind, -1) == BAD && one(kind, last + 1, 0, 0) == BAD);
     }
+    CHECK(one(2, 1, RIGCACTUS_OPEN, INT64_C(3155379480000000)) == BAD); /* where year 9999 ends as far west as can be */
 }
 
 /* Both sides of the limits, the longest record, and that the list is left as it is. */
@@ -603,7 +638,7 @@ static void check_printed_again(void)
     uint64_t count = list_of(STAY, 120, RIGCACTUS_MOST_LIST_BYTES);
     memcpy(to_print + 1, lent + BESIDE, 64);
     size_t length = rigcactus_length(print_of(64, RIGCACTUS_MOST_PRINTED_BYTES));
-    CHECK(count == 0x200 && length == 324);
+    CHECK(count == 0x200 && length == 323);
     for (size_t i = 0; i < sizeof offsets / sizeof offsets[0]; i++) {
         CHECK(rigcactus_check(lent_record + BESIDE, length, offsets[i]) == RIGCACTUS_ACCEPTED);
         CHECK(rigcactus_list(lent_record + BESIDE, length, offsets[i], listed, sizeof listed) == count);
@@ -634,6 +669,9 @@ static void check_compare(void)
     CHECK(is_compared(TIME("20240501"), TIME("2024050212"), RIGCACTUS_NO));
     CHECK(is_compared(TIME("2024050102+02"), TIME("2024050100"), RIGCACTUS_YES));
     CHECK(comparison_of(TIME("2024050102+02"), TIME("2024050100"), 60) == (uint64_t)RIGCACTUS_NO << 16);
+    CHECK(is_compared(BOUNDS("t", "20240401", "20240430"), BOUNDS("t", "20240401", "20240430"), RIGCACTUS_YES));
+    CHECK(is_compared(BOUNDS("t", "20240401", "20240430"), "<t xsi:type=\"IVL_TS\" lowClosed=\"true\" highClosed=\"false\">"
+                      "<low value=\"20240401\"/><high value=\"20240501\"/></t>", RIGCACTUS_NO)); /* though both list the same */
     CHECK(is_refused_pair(MONEY("12.5"), TIME("2024"), 0, 2, RIGCACTUS_TYPE));
     CHECK(is_refused_pair(STAY, STAY, 0, 2, RIGCACTUS_TYPE));
     CHECK(is_refused_pair(MONEY("12,5"), TIME("?"), 0, 1, RIGCACTUS_VALUE));
@@ -981,6 +1019,7 @@ int main(void)
     check_list_helpers();
     check_list();
     check_list_refusals();
+    check_list_units();
     check_times_of_records();
     check_print();
     check_improper();

@@ -212,7 +212,10 @@ expect 1 'longest: ACCEPTED\nlonger: TOO LONG (2)\n/dev/zero: TOO LONG (2)\n' ''
 printf '<t xsi:type="IVL_TS" lowClosed="true" highClosed="true"><low value="20240501"/><high value="2024043023+00"/></t>' > crossed
 expect 1 'crossed: RULE (8)\n' '' check crossed
 expect 0 'crossed: ACCEPTED\n' '' check crossed --offset 60
-expect 1 'crossed: RULE (8)\n' '' check crossed --offset 59
+expect 0 'crossed: ACCEPTED\n' '' check crossed --offset 1
+printf '<t xsi:type="IVL_TS" lowClosed="true" highClosed="false"><low value="20240501"/><high value="2024043023+00"/></t>' > crossed-open
+expect 0 'crossed-open: ACCEPTED\n' '' check crossed-open --offset 60
+expect 1 'crossed-open: RULE (8)\n' '' check crossed-open --offset 59
 expect 1 'crossed: RULE (8)\n' '' check crossed --offset -840
 expect 1 'pass.xml: OFFSET (1)\nstay.xml: OFFSET (1)\n' '' check pass.xml stay.xml --offset 841
 
@@ -278,16 +281,16 @@ expect_checked "DATE (13): $february" "<t xsi:type=\"QSU_TS\">$(for i in {1..33}
 
 # Times: a line for each stretch, with two instants.
 midnight='2024-05-01 00:00:00'
-stay="from $midnight (included) to 2024-05-02 12:00:00 (not included)\\nfrom 2024-05-02 12:00:00 (not included) to 2024-05-04 00:00:00 (not included)\\n"
+stay="from $midnight (included) to 2024-05-02 12:00:00 (not included)\\nfrom 2024-05-02 13:00:00 (included) to 2024-05-04 00:00:00 (not included)\\n"
 expect 0 "$stay" '' list stay.xml
-expect 0 '2 638501184000000 1 638502480000000\n1 638502480000000 1 638503776000000\n' '' list stay.xml --raw
+expect 0 '2 638501184000000 1 638502480000000\n2 638502516000000 1 638503776000000\n' '' list stay.xml --raw
 expect 0 "from $midnight (included) to 2024-05-04 00:00:00 (not included)\\n" '' list pass.xml
 expect 0 'from 2024-05-01 09:00:00 (included) to 2024-05-01 12:00:00 (not included)\nfrom 2024-05-02 14:00:00 (included) to 2024-05-02 18:00:00 (not included)\n' '' list visits.xml
 expect 0 'from 2024-05-02 13:00:00 (included) to 2024-05-04 00:00:00 (not included)\n' '' list escorted.xml
 expect 0 "from $midnight (included) to 2024-05-02 12:00:00 (not included)
-from 2024-05-02 14:00:00 (included) to 2024-05-02 15:00:00 (included)
+from 2024-05-02 14:00:00 (included) to 2024-05-02 15:00:00 (not included)
 from 2024-05-02 18:00:00 (included) to 2024-05-04 00:00:00 (not included)\\n" '' list reopened.xml
-cp "$records/never.xml" "$records/open-end.xml" .
+cp "$records/never.xml" "$records/open-end.xml" "$records/april.xml" "$records/april-to-may.xml" "$records/last-afternoon.xml" .
 expect 0 'no times\n' '' list never.xml
 expect 0 '' '' list never.xml --raw
 expect 0 "from $midnight (included) to 2024-12-25 00:00:00 (not included)\\nfrom 2024-12-26 00:00:00 (included) to the end of time\\n" '' list open-end.xml
@@ -307,6 +310,21 @@ expect 0 'from 0001-01-01 00:00:00 +14:00 (included) to 10000-01-02 03:59:59.999
 printf '<t xsi:type="IVL_TS"><low nullFlavor="NINF"/><high nullFlavor="PINF"/></t>' > all
 expect 0 'from the beginning of time to the end of time\n' '' list all
 expect 0 '0 0 0 0\n' '' list all --raw
+
+# The last day is a whole day, and so is the last year.
+april='from 2024-04-01 00:00:00 (included) to 2024-05-01 00:00:00 (not included)\n'
+expect 0 "$april" '' list april.xml
+expect 0 "$april" '' list april-to-may.xml
+expect 0 '2 638475264000000 1 638501184000000\n' '' list april.xml --raw
+expect 0 'from 2024-04-01 00:00:00 +03:00 (included) to 2024-05-01 00:00:00 +03:00 (not included)\n' '' list april.xml --offset 180
+expect 0 'from 2024-04-30 12:00:00 (included) to 2024-05-01 00:00:00 (not included)\n' '' list last-afternoon.xml
+printf '<t xsi:type="IVL_TS" lowClosed="true" highClosed="true"><low value="2024"/><high value="9999"/></t>' > to-9999
+expect 0 'from 2024-01-01 00:00:00 (included) to 10000-01-01 00:00:00 (not included)\n' '' list to-9999
+expect 0 '2 638396640000000 1 3155378976000000\n' '' list to-9999 --raw
+expect 0 '2 638397144000000 1 3155379480000000\n' '' list to-9999 --raw --offset -840
+expect 0 '2 638396136000000 1 3155378472000000\n' '' list to-9999 --raw --offset 840
+printf '<t xsi:type="IVL_TS" lowClosed="true" highClosed="false"><low value="2024043012"/><high value="20240430"/></t>' > last-open
+expect 1 '' 'rigcactus: refused: RULE (8)' list last-open
 
 # 32 stretches, and one interval more.
 {
@@ -332,7 +350,7 @@ expect 1 '' 'rigcactus: refused: OFFSET (1)' list pass.xml --offset 841
 expect 3 '' 'rigcactus: cannot read none: No such file or directory' list none
 
 # Times as a record, and a line feed: first the whole example of the rules page.
-expect 0 '<stay xsi:type="QSU_TS"><term xsi:type="IVL_TS" lowClosed="true" highClosed="false"><low value="20240501000000.0000+0000"/><high value="20240502120000.0000+0000"/></term><term xsi:type="IVL_TS" lowClosed="false" highClosed="false"><low value="20240502120000.0000+0000"/><high value="20240504000000.0000+0000"/></term></stay>\n' '' print stay.xml
+expect 0 '<stay xsi:type="QSU_TS"><term xsi:type="IVL_TS" lowClosed="true" highClosed="false"><low value="20240501000000.0000+0000"/><high value="20240502120000.0000+0000"/></term><term xsi:type="IVL_TS" lowClosed="true" highClosed="false"><low value="20240502130000.0000+0000"/><high value="20240504000000.0000+0000"/></term></stay>\n' '' print stay.xml
 
 # record_of TERM..: the record of these terms. term LOW_CLOSED LOW HIGH HIGH_CLOSED: one of them, its bounds without the offset; one that is - is unbounded.
 record_of() { printf '<stay xsi:type="QSU_TS">'; printf %s "$@"; printf '</stay>'; }
@@ -363,12 +381,12 @@ day=20240501000000.0000
 expect_printed pass.xml 0 "$(term true $day 20240504000000.0000 false)"
 expect_printed pass.xml 120 "$(term true 20240430220000.0000 20240503220000.0000 false)"
 expect_printed pass.xml -210 "$(term true 20240501033000.0000 20240504033000.0000 false)"
-expect_printed stay.xml 840 "$(term true 20240430100000.0000 20240501220000.0000 false)" "$(term false 20240501220000.0000 20240503100000.0000 false)"
+expect_printed stay.xml 840 "$(term true 20240430100000.0000 20240501220000.0000 false)" "$(term true 20240501230000.0000 20240503100000.0000 false)"
 expect_printed visits.xml 0 "$(term true 20240501090000.0000 20240501120000.0000 false)" "$(term true 20240502140000.0000 20240502180000.0000 false)"
 expect_printed escorted.xml 0 "$(term true 20240502130000.0000 20240504000000.0000 false)"
-expect_printed reopened.xml 0 "$(term true $day 20240502120000.0000 false)" "$(term true 20240502140000.0000 20240502150000.0000 true)" \
+expect_printed reopened.xml 0 "$(term true $day 20240502120000.0000 false)" "$(term true 20240502140000.0000 20240502150000.0000 false)" \
   "$(term true 20240502180000.0000 20240504000000.0000 false)"
-expect_printed reopened.xml -840 "$(term true 20240501140000.0000 20240503020000.0000 false)" "$(term true 20240503040000.0000 20240503050000.0000 true)" \
+expect_printed reopened.xml -840 "$(term true 20240501140000.0000 20240503020000.0000 false)" "$(term true 20240503040000.0000 20240503050000.0000 false)" \
   "$(term true 20240503080000.0000 20240504140000.0000 false)"
 printf '<t xsi:type="IVL_TS" lowClosed="false" highClosed="true"><low value="20240501093000.25+0530"/><high value="20240501040000.2501"/></t>' > fractions
 expect_printed fractions 0 "$(term false 20240501040000.2500 20240501040000.2501 true)"
@@ -381,9 +399,12 @@ expect_printed never.xml 840 "$(term false $first $first false)"
 expect_printed all 0 "$(term - - - -)"
 expect_printed open-end.xml 0 "$(term true $day 20241225000000.0000 false)" "$(term true 20241226000000.0000 - -)"
 printf '<t xsi:type="IVL_TS" highClosed="true"><low nullFlavor="NINF"/><high value="20240501"/></t>' > until
-expect_printed until 0 "$(term - - $day true)"
+expect_printed until 0 "$(term - - 20240502000000.0000 false)"
 printf '<t xsi:type="QSD_TS"><minuend xsi:type="IVL_TS"><low nullFlavor="NINF"/><high nullFlavor="PINF"/></minuend><subtrahend xsi:type="IVL_TS" lowClosed="true" highClosed="true"><low value="20240501"/><high value="20240501"/></subtrahend></t>' > but-one
-expect_printed but-one 0 "$(term - - $day false)" "$(term false $day - -)"
+expect_printed but-one 0 "$(term - - $day false)" "$(term true 20240502000000.0000 - -)"
+expect_printed april.xml 0 "$(term true 20240401000000.0000 $day false)"
+expect_printed april.xml 180 "$(term true 20240331210000.0000 20240430210000.0000 false)"
+expect_printed last-afternoon.xml 0 "$(term true 20240430120000.0000 $day false)"
 
 # Every month's end and leap days: the date is what is written.
 for date in 00011231 19000228 19000301 20000229 20000301 20001231 20230228 20240131 20240229 20240331 20240430 20240531 20240630 20240731 20240831 \
@@ -409,7 +430,7 @@ expect_printed most-open 0 "${terms[@]}"
 [ "$(wc -c < printed)" -eq 4736 ] || fail 'print most-open wrote another length than 4,735 bytes and a line feed'
 
 # Years 0001 to 9999 in UTC, from both sides: the first tick and the last are written, those beside them are not, whether or not they belong to the set.
-not_writable='rigcactus: refused: NOT WRITABLE (12). Tell the clinic: a time lies outside years 0001 to 9999 in UTC. Please send times within them.'
+not_writable='rigcactus: refused: NOT WRITABLE (12). Tell the clinic: a time lies outside years 0001 to 9999 in UTC, as the end of year 9999 does. Please send times within them.'
 printf '<t xsi:type="IVL_TS" lowClosed="true" highClosed="true"><low value="0001010101+01"/><high value="99991231225959.9999-01"/></t>' > edges
 expect_printed edges 0 "$(term true $first $last true)"
 expect_printed edges 840 "$(term true $first $last true)"
@@ -420,6 +441,10 @@ for flag in true false; do
   expect 1 '' "$not_writable" print after
 done
 expect 1 '' "$not_writable" print "$records/refused-not-writable.xml"
+printf '<t xsi:type="IVL_TS" lowClosed="true" highClosed="true"><low value="9999"/><high value="9999"/></t>' > last-year
+expect 1 '' "$not_writable" print last-year
+expect 1 '' "$not_writable" print last-year --offset -840
+expect_printed last-year 840 "$(term true 99981231100000.0000 99991231100000.0000 false)"
 printf '<t xsi:type="IVL_TS" lowClosed="true"><low value="00010101"/><high nullFlavor="PINF"/></t>' > first-day
 expect_printed first-day 0 "$(term true $first - -)"
 expect_printed first-day -60 "$(term true 00010101010000.0000 - -)"
@@ -430,7 +455,7 @@ expect 0 '2 -36000000 0 0\n' '' list first-day --offset 60 --raw
 # Only the times that are left count, and a set that cannot be listed is refused for that.
 outside='<low value="0001010100+01"/><high value="2024"/>'
 printf '<t xsi:type="QSD_TS"><minuend xsi:type="IVL_TS" lowClosed="true" highClosed="true">%s</minuend><subtrahend xsi:type="IVL_TS" highClosed="false"><low nullFlavor="NINF"/><high value="2023"/></subtrahend></t>' "$outside" > inside
-expect_printed inside 0 "$(term true 20230101000000.0000 20240101000000.0000 true)"
+expect_printed inside 0 "$(term true 20230101000000.0000 20250101000000.0000 false)"
 printf '<t xsi:type="QSU_TS"><term xsi:type="IVL_TS" lowClosed="true" highClosed="true">%s</term><term xsi:type="IVL_TS"/></t>' "$outside" > unknown
 expect 1 '' 'rigcactus: refused: UNKNOWN BOUND (9)' print unknown
 interval 1900-02-28 2024 > no-form

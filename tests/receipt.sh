@@ -34,6 +34,7 @@ expect_receipt 0 french french --width 00032 --offset +120
 expect_receipt 0 greek greek --offset 180 --width 24
 expect_receipt 0 arabic arabic --offset 240
 expect_receipt 0 chinese chinese --offset 480
+expect_receipt 0 last-day last-day --offset 180
 expect_receipt 0 hindi hindi --offset 330 --width 100
 expect_receipt 0 hindi hindi-16 --offset 330 --width 16
 expect_receipt 1 cut-letter cut-letter
@@ -157,26 +158,79 @@ interval() {
   printf '<%s xsi:type="IVL_TS"%s>%s%s</%s>' "${5-p}" "$flags" "$low" "$high" "${5-p}"
 }
 
-# Times: each kind of bound on each side.
+# Times: each kind of bound on each side, to the second.
+expect_pass "$(interval true 20240501000000 20240503120000 false)" \
+  'from Wednesday 1 May 2024 00:00 up to, not including, Friday 3 May 2024 12:00 (2 days 12 hours)\nClock: UTC'
+expect_pass "$(interval true 20240501000000 20240503120000 true)" \
+  'from Wednesday 1 May 2024 00:00 up to and including Friday 3 May 2024 12:00 (2 days 12 hours)\nClock: UTC'
+expect_pass "$(interval false 20240501000000 20240503120000 false)" \
+  'from just after Wednesday 1 May 2024 00:00 up to, not including, Friday 3 May 2024 12:00 (2 days 12 hours)\nClock: UTC'
+expect_pass "$(interval false 20240501000000 20240503120000 true)" \
+  'from just after Wednesday 1 May 2024 00:00 up to and including Friday 3 May 2024 12:00 (2 days 12 hours)\nClock: UTC'
+expect_pass "$(interval true 20240229000000 - -)" 'from Thursday 29 February 2024 00:00 on, with no end\nClock: UTC'
+expect_pass "$(interval false 20240229000000 - -)" 'from just after Thursday 29 February 2024 00:00 on, with no end\nClock: UTC'
+expect_pass "$(interval - - 20000229000000 true)" 'with no beginning, up to and including Tuesday 29 February 2000 00:00\nClock: UTC'
+expect_pass "$(interval - - 20000229000000 false)" 'with no beginning, to the end of Monday 28 February 2000\nClock: UTC'
+expect_pass "$(interval - - - -)" 'at all times, with no beginning and no end\nClock: UTC'
+expect_pass "$(interval true 20240502120000 20240502120000 true)" 'at Thursday 2 May 2024 12:00, for that moment alone\nClock: UTC'
+expect_pass "$(interval false 20240502120000 20240502120000 true)" 'at no time\nClock: UTC'
+
+# The same to the day or the hour: a closed end takes in all of its day or hour, and an open beginning none of it.
 expect_pass "$(interval true 20240501 2024050312 false)" \
   'from Wednesday 1 May 2024 00:00 up to, not including, Friday 3 May 2024 12:00 (2 days 12 hours)\nClock: UTC'
 expect_pass "$(interval true 20240501 2024050312 true)" \
-  'from Wednesday 1 May 2024 00:00 up to and including Friday 3 May 2024 12:00 (2 days 12 hours)\nClock: UTC'
+  'from Wednesday 1 May 2024 00:00 up to, not including, Friday 3 May 2024 13:00 (2 days 13 hours)\nClock: UTC'
 expect_pass "$(interval false 20240501 2024050312 false)" \
-  'from just after Wednesday 1 May 2024 00:00 up to, not including, Friday 3 May 2024 12:00 (2 days 12 hours)\nClock: UTC'
+  'from Thursday 2 May 2024 00:00 up to, not including, Friday 3 May 2024 12:00 (1 day 12 hours)\nClock: UTC'
 expect_pass "$(interval false 20240501 2024050312 true)" \
-  'from just after Wednesday 1 May 2024 00:00 up to and including Friday 3 May 2024 12:00 (2 days 12 hours)\nClock: UTC'
+  'from Thursday 2 May 2024 00:00 up to, not including, Friday 3 May 2024 13:00 (1 day 13 hours)\nClock: UTC'
 expect_pass "$(interval true 20240229 - -)" 'from Thursday 29 February 2024 00:00 on, with no end\nClock: UTC'
-expect_pass "$(interval false 20240229 - -)" 'from just after Thursday 29 February 2024 00:00 on, with no end\nClock: UTC'
-expect_pass "$(interval - - 20000229 true)" 'with no beginning, up to and including Tuesday 29 February 2000 00:00\nClock: UTC'
-expect_pass "$(interval - - 20000229 false)" 'with no beginning, up to, not including, Tuesday 29 February 2000 00:00\nClock: UTC'
-expect_pass "$(interval - - - -)" 'at all times, with no beginning and no end\nClock: UTC'
-expect_pass "$(interval true 2024050212 2024050212 true)" 'at Thursday 2 May 2024 12:00, for that moment alone\nClock: UTC'
+expect_pass "$(interval false 20240229 - -)" 'from Friday 1 March 2024 00:00 on, with no end\nClock: UTC'
+expect_pass "$(interval - - 20000229 true)" 'with no beginning, to the end of Tuesday 29 February 2000\nClock: UTC'
+expect_pass "$(interval - - 20000229 false)" 'with no beginning, to the end of Monday 28 February 2000\nClock: UTC'
+expect_pass "$(interval true 2024050212 2024050212 true)" \
+  'from Thursday 2 May 2024 12:00 up to, not including, Thursday 2 May 2024 13:00 (1 hour)\nClock: UTC'
 expect_pass "$(interval false 2024050212 2024050212 true)" 'at no time\nClock: UTC'
+
+# The last day of a pass: an end at midnight that is not included is the end of the day before, by the clock that the receipt shows.
+april='from Monday 1 April 2024 00:00 to the end of Tuesday 30 April 2024 (30 days)'
+expect_pass "$(interval true 20240401 20240430 true)" "$april\\nClock: UTC"
+expect_pass "$(interval true 20240401 20240430 true)" "$april\\nClock: UTC+02:00" --offset 120
+expect_pass "$(interval true 20240401 20240430 true)" "$april\\nClock: UTC-03:30" --offset -210
+expect_pass "$(interval true 20240401 20240501 false)" "$april\\nClock: UTC"
+expect_pass "$(interval true 202404 202404 true)" "$april\\nClock: UTC"
+expect_pass "$(interval false 20240331 2024043023 true)" "$april\\nClock: UTC"
+expect_pass "$(interval false 202403 202404302359 true)" "$april\\nClock: UTC"
+expect_pass "$(interval true 20240401 2024043021+00 true)" "$april\\nClock: UTC+02:00" --offset 120
+expect_pass "$(interval true 20240401 20240501000000.0000 true)" \
+  'from Monday 1 April 2024 00:00 up to and including Wednesday 1 May 2024 00:00 (30 days)\nClock: UTC'
+expect_pass "$(interval true 20240401 20240501000000.0001 false)" \
+  'from Monday 1 April 2024 00:00 up to, not including, Wednesday 1 May 2024 00:00:00.0001 (30 days 0.0001 seconds)\nClock: UTC'
+expect_pass "$(interval true 20240401 20240430235959.9999 false)" \
+  'from Monday 1 April 2024 00:00 up to, not including, Tuesday 30 April 2024 23:59:59.9999 (29 days 23 hours 59 minutes 59.9999 seconds)\nClock: UTC'
+expect_pass "$(interval true 20240401 2024043021+00 true)" \
+  'from Monday 1 April 2024 00:00 up to, not including, Tuesday 30 April 2024 22:00 (29 days 22 hours)\nClock: UTC'
+expect_pass "$(interval true 2024043012 20240430 true)" 'from Tuesday 30 April 2024 12:00 to the end of Tuesday 30 April 2024 (12 hours)\nClock: UTC'
+expect_pass "$(interval true 20240430 20240430 true)" 'from Tuesday 30 April 2024 00:00 to the end of Tuesday 30 April 2024 (1 day)\nClock: UTC'
+
+# The end of year 9999, by every clock; and the start of year 0001, before which no day is on the calendar.
+for clock in 'UTC 0' 'UTC+14:00 840' 'UTC-14:00 -840'; do
+  expect_pass "$(interval true 9999 9999 true)" "from Friday 1 January 9999 00:00 to the end of Friday 31 December 9999 (365 days)\\nClock: ${clock% *}" --offset "${clock#* }"
+done
+expect_pass "$(interval true 9999123100-14 9999123123-14 true)" \
+  'from Friday 31 December 9999 14:00 up to, not including, Saturday 1 January 10000 14:00 (1 day)\nClock: UTC'
+expect_pass "$(interval true 9999123100-14 9999123123-14 true)" \
+  'from Friday 31 December 9999 00:00 to the end of Friday 31 December 9999 (1 day)\nClock: UTC-14:00' --offset -840
+expect_pass "$(interval true 9999123100-14 9999123123-14 true)" \
+  'from Saturday 1 January 10000 04:00 up to, not including, Sunday 2 January 10000 04:00 (1 day)\nClock: UTC+14:00' --offset 840
+expect_pass "$(interval false 9999 - -)" 'from Saturday 1 January 10000 00:00 on, with no end\nClock: UTC'
+expect_pass "$(interval - - 0001 true)" 'with no beginning, to the end of Monday 31 December 0001\nClock: UTC'
+expect_pass "$(interval - - 00010101 true)" 'with no beginning, to the end of Monday 1 January 0001\nClock: UTC'
+expect_pass "$(interval - - 0001 false)" 'with no beginning, up to, not including, Monday 1 January 0001 00:00\nClock: UTC'
 
 # Durations, and seconds on the clock where there are some.
 day='from Wednesday 1 May 2024 00:00 up to, not including, '
-expect_pass "$(interval true 20240501 20240502 false)" "${day}Thursday 2 May 2024 00:00 (1 day)\\nClock: UTC"
+expect_pass "$(interval true 20240501 20240502 false)" 'from Wednesday 1 May 2024 00:00 to the end of Wednesday 1 May 2024 (1 day)\nClock: UTC'
 expect_pass "$(interval true 20240501 2024050101 false)" "${day}Wednesday 1 May 2024 01:00 (1 hour)\\nClock: UTC"
 expect_pass "$(interval true 20240501 202405010001 false)" "${day}Wednesday 1 May 2024 00:01 (1 minute)\\nClock: UTC"
 expect_pass "$(interval true 20240501 20240501000001 false)" "${day}Wednesday 1 May 2024 00:00:01 (1 second)\\nClock: UTC"
@@ -187,9 +241,9 @@ expect_pass "$(interval true 20240501 20240502010101 false)" \
 expect_pass "$(interval true 20240501 20240531235958 false)" \
   "${day}Friday 31 May 2024 23:59:58 (30 days 23 hours 59 minutes 58 seconds)\\nClock: UTC"
 expect_pass "$(interval true 2023 2024 false)" \
-  'from Sunday 1 January 2023 00:00 up to, not including, Monday 1 January 2024 00:00 (365 days)\nClock: UTC'
+  'from Sunday 1 January 2023 00:00 to the end of Sunday 31 December 2023 (365 days)\nClock: UTC'
 expect_pass "$(interval true 2024 2025 false)" \
-  'from Monday 1 January 2024 00:00 up to, not including, Wednesday 1 January 2025 00:00 (366 days)\nClock: UTC'
+  'from Monday 1 January 2024 00:00 to the end of Tuesday 31 December 2024 (366 days)\nClock: UTC'
 
 # The agreed offset: times that carry none are at that clock, and all are shown by it. The edges of the calendar: the year before 0001 is 0000.
 expect_pass "$(interval true 20240501 2024050212+00 false)" \
@@ -197,18 +251,24 @@ expect_pass "$(interval true 20240501 2024050212+00 false)" \
 expect_pass "$(interval true 20240501 2024050212+00 false)" \
   "${day}Thursday 2 May 2024 08:30 (1 day 8 hours 30 minutes)\\nClock: UTC-03:30" --offset -210
 expect_pass "$(interval true 20240501 2024050212+0530 false)" "${day}Thursday 2 May 2024 06:30 (1 day 6 hours 30 minutes)\\nClock: UTC"
-expect_pass "$(interval false 0001 99991231235959.9999 true)" \
+expect_pass "$(interval false 00010101000000 99991231235959.9999 true)" \
   'from just after Monday 1 January 0001 00:00 up to and including Friday 31 December 9999 23:59:59.9999 (3652058 days 23 hours 59 minutes 59.9999 seconds)\nClock: UTC'
 expect_pass "$(interval true 0001010100+14 99991231235959.9999-14 true)" \
   'from Saturday 30 December 0000 20:00 up to and including Friday 31 December 9999 23:59:59.9999 (3652060 days 3 hours 59 minutes 59.9999 seconds)\nClock: UTC-14:00' --offset -840
 expect_pass "$(interval true 0001010100+14 99991231235959.9999-14 true)" \
   'from Monday 1 January 0001 00:00 up to and including Sunday 2 January 10000 03:59:59.9999 (3652060 days 3 hours 59 minutes 59.9999 seconds)\nClock: UTC+14:00' --offset 840
 
-# Sets: stretches that touch are one, and neighbouring moments do not touch.
+# Sets: stretches that touch are one, a day and the next one touch, and neighbouring moments do not.
 union() { printf '<p xsi:type="QSU_TS">'; printf %s "$@"; printf '</p>'; }
 t=20240501000000.000
 expect_pass "$(union "$(interval true 20240501 20240502 false term)" "$(interval true 20240502 20240503 true term)")" \
-  'from Wednesday 1 May 2024 00:00 up to and including Friday 3 May 2024 00:00 (2 days)\nClock: UTC'
+  'from Wednesday 1 May 2024 00:00 to the end of Friday 3 May 2024 (3 days)\nClock: UTC'
+expect_pass "$(union "$(interval true 20240501 20240502 true term)" "$(interval true 20240503 20240503 true term)")" \
+  'from Wednesday 1 May 2024 00:00 to the end of Friday 3 May 2024 (3 days)\nClock: UTC'
+expect_pass "$(union "$(interval true 20240501 20240502 false term)" "$(interval true 20240503 20240503 true term)")" \
+  '1. from Wednesday 1 May 2024 00:00 to the end of Wednesday 1 May 2024 (1 day)
+2. from Friday 3 May 2024 00:00 to the end of Friday 3 May 2024 (1 day)
+Clock: UTC'
 expect_pass "$(union "$(interval true ${t}1 ${t}2 true term)" "$(interval true ${t}3 ${t}4 true term)")" \
   "1. from Wednesday 1 May 2024 00:00:00.0001 up to and including Wednesday 1 May 2024 00:00:00.0002 (0.0001 seconds)
 2. from Wednesday 1 May 2024 00:00:00.0003 up to and including Wednesday 1 May 2024 00:00:00.0004 (0.0001 seconds)
@@ -217,7 +277,7 @@ moments=()
 due=''
 for i in {1..32}; do
   minute=$(printf %02d "$i")
-  moments+=("$(interval true "2024050108$minute" "2024050108$minute" true term)")
+  moments+=("$(interval true "2024050108${minute}00" "2024050108${minute}00" true term)")
   due+="$i. at Wednesday 1 May 2024 08:$minute, for that moment alone\\n"
 done
 expect_pass "$(union "${moments[@]}")" "${due}Clock: UTC"
@@ -239,7 +299,7 @@ value='the text of an attribute is not written as it must be, like 12,50 for the
 rule='what the record says does not go together, like a sum without its currency, a part of a name without a text, a time without its flag, or a start after its end. Please put it right.'
 unknown='it is not said when the pass starts or ends. Please send each start and each end, or NINF and PINF where there is none.'
 too_many='the pass is written with more than 32 intervals. Please write it with fewer, or as two passes.'
-not_writable='a time lies outside years 0001 to 9999 in UTC. Please send times within them.'
+not_writable='a time lies outside years 0001 to 9999 in UTC, as the end of year 9999 does. Please send times within them.'
 right='Please send the right one.'
 hours="is on no clock: hours go from 00 to 23. $right"
 minutes="is on no clock: minutes go from 00 to 59. $right"
@@ -338,6 +398,7 @@ expect_refusal pass '<t xsi:type="TS" value="20240431"/>' 'TYPE (5)' "$type $set
 expect_refusal name '<n xsi:type="EN"><part value=""/></n>' 'RULE (8)' "$rule"
 expect_refusal sum '<s xsi:type="MO" value="12.50"/>' 'RULE (8)' "$rule"
 expect_refusal pass "$(interval true 20240502 20240501 true)" 'RULE (8)' "$rule"
+expect_refusal pass "$(interval true 2024043012 20240430 false)" 'RULE (8)' "$rule"
 expect_refusal identifier '<i xsi:type="II" extension="1"/>' 'RULE (8)' "$rule"
 expect_refusal pass '<p xsi:type="IVL_TS"/>' 'UNKNOWN BOUND (9)' "$unknown"
 expect_refusal pass '<p xsi:type="QSU_TS" nullFlavor="NI"/>' 'UNKNOWN BOUND (9)' "$unknown"

@@ -11,7 +11,8 @@
 
 #define TICK_OF_1970 INT64_C(621355968000000)
 #define FIRST_TICK INT64_C(-504000000)
-#define LAST_TICK INT64_C(3155379479999999)
+/* The start of year 10000, as far west as can be, where a closed high to the end of year 9999 is open. */
+#define LAST_TICK INT64_C(3155379480000000)
 
 static int64_t failures = 0;
 
