@@ -35,7 +35,7 @@ PREFIX = /usr/local
 DESTDIR =
 INSTALL = install
 prefix = $(abspath $(PREFIX))
-version = 0.3.0
+version = 0.4.0
 records = $(wildcard tests/records/*.txt)
 proved = $(shell find crates \( -name '*.rt' -o -name '*.antt' \) -not -path '*/must-fail/*') crates.txt
 # The services that the archive has. Adding one here has tests/services.rs try it.

@@ -334,6 +334,10 @@ uint64_t rigcactus_tick(const uint8_t *text, size_t text_len, int64_t offset, in
  *
  * The answer has a refusal and nothing else: it is 0 if the record is accepted.
  *
+ * The low of an interval is after its high, which is RIGCACTUS_RULE, if its tick is after the high's; and where a closed high is
+ * coarser than a second, so that it takes in the whole of its day, say, only if the tick is after the last one of that day. From
+ * 2024043012 to 20240430, closed, is accepted; with an open high it is RIGCACTUS_RULE.
+ *
  * Refusals: RIGCACTUS_OFFSET, RIGCACTUS_TOO_LONG, RIGCACTUS_NOT_UTF8, RIGCACTUS_MARKUP, RIGCACTUS_TYPE, RIGCACTUS_SHAPE,
  * RIGCACTUS_VALUE, RIGCACTUS_DATE, RIGCACTUS_CLOCK, RIGCACTUS_ZONE, RIGCACTUS_RULE: the first that applies anywhere in the record.
  * rigcactus_tick says when a timestamp is which; one that stands beside a nullFlavor is judged too. A wrong form anywhere in the
@@ -357,6 +361,13 @@ uint64_t rigcactus_check(const uint8_t *record, size_t record_len, int64_t offse
  *                       kind, high tick, eight bytes each, lowest first; rigcactus_stretch_at reads them. What lies beyond the
  *                       stretches is unchanged, and after a refusal the whole list is.
  *
+ * A bound is read by its tick and by how far it is written. If that is less than 14 digits, which is coarser than a second, a closed
+ * high takes in the whole of its year, month, day, hour or minute, and is listed as open at the start of the next one; and an open
+ * low leaves out the whole of it, and is listed as closed there. Other bounds are listed at their own tick. So 20240401 to 20240430,
+ * both closed, is all of April, up to 1 May, open. A low that comes to lie after its high in this way leaves no time. Ticks of a
+ * list are from -504000000 to 3155379480000000: 9999, closed, is open at the start of year 10000, which at offset 0 is
+ * 3155378976000000.
+ *
  * That the set is empty is a good answer, with count 0, and needs no room. Two ticks side by side do not touch: there is time
  * between them, so [1,2] and [3,4] are two stretches, and [1,3) with [3,5] is one.
  *
@@ -364,8 +375,8 @@ uint64_t rigcactus_check(const uint8_t *record, size_t record_len, int64_t offse
  * interval that is null, or a bound that is missing, or null and not unbounded, anywhere in the record; RIGCACTUS_TOO_MANY for over
  * RIGCACTUS_MOST_INTERVALS elements of type IVL_TS; RIGCACTUS_NO_ROOM for a list that is too short.
  *
- * 1 to 3 May 2024, three whole days, without the instant at noon of 2 May: count 2, and the numbers 2, 638501184000000, 1,
- * 638502480000000, 1, 638502480000000, 1, 638503776000000.
+ * 1 to 3 May 2024, three whole days, without the hour from noon of 2 May, which is 2024050212 to 2024050212, both closed: count 2,
+ * and the numbers 2, 638501184000000, 1, 638502480000000, 2, 638502516000000, 1, 638503776000000.
  */
 uint64_t rigcactus_list(const uint8_t *record, size_t record_len, int64_t offset, uint8_t *list, size_t list_len);
 
@@ -395,8 +406,9 @@ uint64_t rigcactus_list(const uint8_t *record, size_t record_len, int64_t offset
  * - a stretch is not later than the one before it, overlaps it, or leaves no time between: [1,3) and (3,5] leave the tick 3,
  *   [1,3] and [4,5] what is between two ticks, [1,3] and (3,5] nothing.
  *
- * A list that rigcactus_list wrote is none of these, but an offset can give it a tick that no timestamp at +0000 has: years 0001
- * to 9999 are the ticks 0 to 3155378975999999.
+ * A list that rigcactus_list wrote is none of these, but it can have a tick that no timestamp at +0000 has, by an offset, or by a
+ * high that is closed at the end of year 9999 and so open at the start of year 10000: years 0001 to 9999 are the ticks 0 to
+ * 3155378975999999.
  *
  * Refusals: RIGCACTUS_NOT_WRITABLE for an improper list, or a tick outside years 0001 to 9999; then RIGCACTUS_NO_ROOM exactly if
  * record_len is less than the record's length.
@@ -414,7 +426,8 @@ uint64_t rigcactus_print(const uint8_t *list, size_t list_len, uint8_t *record, 
  *
  * TS        yes if tick and precision are the same; no if the spans of time that they mean share no tick; else unknown.
  * IVL_TS    the lows, the highs, and the flags of a side where both have a value: a no makes no, else an unknown makes unknown.
- *           Unbounded equals unbounded and differs from a value; against a missing or null bound all is unknown.
+ *           Unbounded equals unbounded and differs from a value; against a missing or null bound all is unknown. Bounds are
+ *           compared as they are written: up to 20240430, closed, and up to 20240501, open, differ, though both list the same.
  * MO        amount and currency. 12.5 and 12.50 are the same amount, and so are 0 and -0.
  * II        root and extension; that there is none equals only that there is none.
  * CD        code and codeSystem; unknown if either has no code. Names, version and display name do not count.
