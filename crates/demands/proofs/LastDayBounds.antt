@@ -29,7 +29,7 @@ use Rattle.demands.proofs.Spelling.{spells}
 use Rattle.demands.proofs.NextUnits.{starts-next}
 
 -- a text is read exactly if it spells what is possible
-pub is-possible : (w : Written) → writtenFaults w ≡ [] → IsPossible w
+is-possible : (w : Written) → writtenFaults w ≡ [] → IsPossible w
 unfolding writtenFaults
 is-possible w e =
     let (f, zone) = append-eq-nil-iff .0 e in
@@ -67,7 +67,7 @@ module _ (shift : ℕ) (side : Side) (child : String) (c : side .child ≡ bytes
   named : {o : Option (List Attribute)} → childNamed (bytes child) kids ≡ o → childNamed (side .child) kids ≡ o
   named e = ap (λ (n : List ℕ). childNamed n kids) c ∙ e
 
-  pub writes-valued : {w : Written} → Writes kids child w → endpointOf shift side kids ≡ valued (momentOf shift w)
+  writes-valued : {w : Written} → Writes kids child w → endpointOf shift side kids ≡ valued (momentOf shift w)
   unfolding endpointOf
   writes-valued {w} x = rw (named (x .stands), x .not-null, x .value, spelled-read shift (x .text) w (x .spelled) (x .possible))
 
