@@ -6,8 +6,8 @@
 #include "list_expat_icl.h"
 #include "records.h"
 
-/* What a record is: a union of intervals, sets of two members within sets, or two unions of half the intervals each in one set. */
-enum shape { FLAT, DEEP, BOTH, LESS };
+/* What a record is: a union of intervals, of whole days, sets of two members within sets, or two unions of half the intervals each in one set. */
+enum shape { FLAT, DAYS, DEEP, BOTH, LESS };
 
 struct set {
     const char *name;
@@ -17,7 +17,7 @@ struct set {
 
 static const struct set sets[] = {
     {"flat-1", 1, FLAT},   {"flat-2", 2, FLAT},   {"flat-4", 4, FLAT},   {"flat-8", 8, FLAT},   {"flat-16", 16, FLAT},
-    {"flat-32", 32, FLAT}, {"deep-32", 32, DEEP}, {"both-32", 32, BOTH}, {"less-32", 32, LESS},
+    {"flat-32", 32, FLAT}, {"days-32", 32, DAYS}, {"deep-32", 32, DEEP}, {"both-32", 32, BOTH}, {"less-32", 32, LESS},
 };
 
 static struct record records[MOST_RECORDS];
@@ -51,6 +51,16 @@ static void append_interval(struct record *record, const char *name, int n)
     append(record, text);
 }
 
+/* From one day to the next, both taken in whole, on the n-th day of a year. */
+static void append_days(struct record *record, const char *name, int n)
+{
+    char text[256];
+    snprintf(text, sizeof text,
+             "<%s xsi:type=\"IVL_TS\" lowClosed=\"true\" highClosed=\"true\"><low value=\"2024%02d%02d\"/><high value=\"2024%02d%02d\"/></%s>",
+             name, 1 + n / 24, 1 + n % 24, 1 + n / 24, 2 + n % 24, name);
+    append(record, text);
+}
+
 static void append_start(struct record *record, const char *name, const char *type)
 {
     char text[64];
@@ -72,6 +82,15 @@ static void append_union(struct record *record, const char *name, int intervals)
     for (int i = 0; i < intervals; i++)
         append_interval(record, "term", i * 7 % intervals);
     append_end(record, name);
+}
+
+/* The same of days, which lie apart by two. */
+static void append_days_union(struct record *record, int intervals)
+{
+    append_start(record, "stay", "QSU_TS");
+    for (int i = 0; i < intervals; i++)
+        append_days(record, "term", 4 * (i * 7 % intervals) + below(2));
+    append_end(record, "stay");
 }
 
 /*
@@ -107,6 +126,8 @@ static void make_times(const struct set *set, struct record *record)
     record->length = 0;
     if (set->shape == FLAT)
         append_union(record, "stay", set->intervals);
+    else if (set->shape == DAYS)
+        append_days_union(record, set->intervals);
     else if (set->shape == DEEP)
         append_deep(record, "stay", 1, 0, set->intervals);
     else if (set->shape == BOTH)
@@ -130,7 +151,7 @@ static bool is_same_stretch(struct rigcactus_stretch one, struct rigcactus_stret
 static bool is_agreed(const struct set *set, size_t i)
 {
     int64_t count = rigcactus(i);
-    if (!check(i) || count <= 0 || expat_icl(i) != count || (set->shape == FLAT && count != set->intervals))
+    if (!check(i) || count <= 0 || expat_icl(i) != count || ((set->shape == FLAT || set->shape == DAYS) && count != set->intervals))
         return false;
     for (size_t k = 0; k < (size_t)count; k++)
         if (!is_same_stretch(rigcactus_stretch_at(list, k), stretches[k]))

@@ -38,18 +38,31 @@ XML_Parser parser;
 
 bool is_true(const char *text) { return std::strcmp(text, "true") == 0; }
 
-double tick(const char *text) {
+// The tick of a text, or of the next start of its unit: timegm carries what is past the last of a unit.
+double tick(const char *text, bool next) {
     static const char *const formats[] = {"%Y", "%Y%m", "%Y%m%d", "%Y%m%d%H", "%Y%m%d%H%M", "%Y%m%d%H%M%S"};
     std::size_t parts = std::strlen(text) / 2;
     std::tm time = {};
     time.tm_mday = 1;
     if (parts < 2 || parts > 7 || strptime(text, formats[parts - 2], &time) == nullptr) return NAN;
+    int *const units[] = {&time.tm_year, &time.tm_mon, &time.tm_mday, &time.tm_hour, &time.tm_min, &time.tm_sec};
+    if (next) ++*units[parts - 2];
     return static_cast<double>(timegm(&time) * RIGCACTUS_TICKS_PER_SECOND + unix_start);
 }
 
-void read_bound(double &bound, const XML_Char **attributes) {
+// A bound. One coarser than a second is at the next start of its unit if its flag is the given one, which is turned then.
+void read_bound(double &bound, bool &closed, bool pushed, const XML_Char **attributes) {
     for (; *attributes != nullptr; attributes += 2)
-        if (std::strcmp(attributes[0], "value") == 0) bound = tick(attributes[1]);
+        if (std::strcmp(attributes[0], "value") == 0) {
+            bool next = closed == pushed && std::strlen(attributes[1]) < 14;
+            bound = tick(attributes[1], next);
+            closed = closed != next;
+        }
+}
+
+void read_side(Open &open, bool is_low, const XML_Char **attributes) {
+    if (is_low) read_bound(open.low, open.low_closed, false, attributes);
+    else read_bound(open.high, open.high_closed, true, attributes);
 }
 
 bool is_bound(const XML_Char *name) { return std::strcmp(name, "low") == 0 || std::strcmp(name, "high") == 0; }
@@ -74,7 +87,7 @@ void begin_set(Open &open, const XML_Char **attributes) {
 }
 
 void XMLCALL start_element(void *, const XML_Char *name, const XML_Char **attributes) {
-    if (is_bound(name)) read_bound(name[0] == 'l' ? open_sets[depth - 1].low : open_sets[depth - 1].high, attributes);
+    if (is_bound(name)) read_side(open_sets[depth - 1], name[0] == 'l', attributes);
     else if (depth < open_sets.size()) begin_set(open_sets[depth++], attributes);
     else XML_StopParser(parser, XML_FALSE);
 }
