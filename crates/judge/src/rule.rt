@@ -6,7 +6,7 @@ ghost use Prim.Native.Nat.{ℕ, _≤_};
 ghost use lib.ListN.{length};
 ghost use Rattle.rules.specs.Basics.{bytes, exactlyOne};
 ghost use Rattle.rules.specs.Markup.{Attribute, Nodes, lookup};
-ghost use Rattle.rules.specs.Invariants.{Side as RulesSide, isNull, hasChildren, hasQualifier, breaksFlag, isCrossed, breaksSide, breaksInterval, breaksCode, breaksPart};
+ghost use Rattle.rules.specs.Invariants.{Side as RulesSide, isNull, hasChildren, hasQualifier, isClosed, breaksFlag, isCrossed, breaksSide, breaksInterval, breaksCode, breaksPart};
 ghost use Rattle.rules.specs.Types.{IVL-TS, lineOf};
 ghost use Rattle.element.specs.Tags.{Place, Tells, TagIn};
 ghost use Rattle.datatype.specs.Meaning.{kindMeant};
@@ -65,9 +65,11 @@ fn breaks_side(s: &[u8], flag: usize, side: Side, said: Said) -> bool
     breaks_flag(s, flag, end) | is_wrong(said, side)
 }
 
-// Low's tick is after the last tick taken in by a closed coarse high, or after the high's tick otherwise; `closed` is high's flag.
-fn is_crossed(low: Said, high: Said, closed: bool) -> bool
-    ensures { λ r. ⌜ r ≡ isCrossed closed (endpointSaid Low (saidMeant low)) (endpointSaid High (saidMeant high)) ⌝ }
+// Low's tick is after the last tick taken in by a closed coarse high, or after the high's tick otherwise, by the place of high's flag. That is
+// read only where low is not before both.
+fn is_crossed(s: &[u8], flag: usize, low: Said, high: Said) -> bool
+    requires { ⌜ flag ≤ length (now s) ⌝ }
+    ensures { λ r. ⌜ ((l : List Attribute) → Place (now (s .entry)) (lookup (bytes "highClosed") l) flag → r ≡ isCrossed (isClosed (sideMeant High) l) (endpointSaid Low (saidMeant low)) (endpointSaid High (saidMeant high))) ⌝ }
 {
     let Said::Valued(l) = low else {
         return false;
@@ -75,7 +77,10 @@ fn is_crossed(low: Said, high: Said, closed: bool) -> bool
     let Said::Valued(h) = high else {
         return false;
     };
-    if is_pushed(h, Side::High, closed) {
+    if (l.start <= h.start) & (l.start < h.next) {
+        return false;
+    }
+    if is_pushed(h, Side::High, has_text(s, flag, b"true")) {
         return h.next <= l.start;
     }
     h.start < l.start
@@ -88,7 +93,7 @@ fn breaks_interval(s: &[u8], left: usize, right: usize, low: Said, high: Said) -
 {
     let first = breaks_side(s, left, Side::Low, low);
     let second = breaks_side(s, right, Side::High, high);
-    first | second | is_crossed(low, high, has_text(s, right, b"true"))
+    first | second | is_crossed(s, right, low, high)
 }
 
 // CD: code, name or version lacks a codeSystem; displayName lacks a code; non-null with neither code nor codeSystem.

@@ -36,7 +36,7 @@ use Rattle.rules.proofs.Dates.{years-end, timestamp-of-tick}
 use Rattle.rules.proofs.Children.{faultsAs}
 use Rattle.rules.proofs.Precedence.{check-answered}
 use Rattle.rules.proofs.Order.{places, next-number}
-use Rattle.rules.proofs.TickOrder.{tick-from-start, crossed}
+use Rattle.rules.proofs.TickOrder.{tick-from-start, uncrossed}
 use Rattle.rules.proofs.Edges.{endPlace, half-open}
 use Rattle.rules.proofs.Canonical.{Opens, Canonical, canonical-stretches}
 use Rattle.rules.proofs.Drawing.{is-stretches}
@@ -113,8 +113,8 @@ record-read ss = ap document (sym (record-written ss)) ∙ document-of-write (st
 abbrev momentAt : ℕ → Moment
 momentAt n = record { start = n + beforeStart; precision = 18; next = n + beforeStart + 1 }
 
-uncrossed : (closed : Bool) {m n : ℕ} → m ≤ n → isCrossed closed (valued (momentAt m)) (valued (momentAt n)) ≡ false
-uncrossed closed {m} {n} h = crossed closed (momentAt m) (momentAt n) ∙ le-ltb (n + beforeStart) (m + beforeStart) (omega arith)
+in-order : (closed : Bool) {m n : ℕ} → m ≤ n → isCrossed closed (valued (momentAt m)) (valued (momentAt n)) ≡ false
+in-order closed {m} {n} h = uncrossed closed (momentAt m) (momentAt n) (omega arith) (omega arith)
 
 -- what a bound that can be written says under a shift
 data Says (shift : ℕ) : Bound → Type 0 where
@@ -193,11 +193,11 @@ module _ (shift : ℕ) where
   unbroken l h nothing (an-open n e r) o = rw r
   unbroken l h nothing (a-closed n e r) o = rw r
   unbroken l h (an-open m d q) nothing o = rw q
-  unbroken l h (an-open m d q) (an-open n e r) o = rw (q, r) (uncrossed false (o m n (ap some d) (ap some e)))
-  unbroken l h (an-open m d q) (a-closed n e r) o = rw (q, r) (uncrossed true (o m n (ap some d) (ap some e)))
+  unbroken l h (an-open m d q) (an-open n e r) o = rw (q, r) (in-order false (o m n (ap some d) (ap some e)))
+  unbroken l h (an-open m d q) (a-closed n e r) o = rw (q, r) (in-order true (o m n (ap some d) (ap some e)))
   unbroken l h (a-closed m d q) nothing o = rw q
-  unbroken l h (a-closed m d q) (an-open n e r) o = rw (q, r) (uncrossed false (o m n (ap some d) (ap some e)))
-  unbroken l h (a-closed m d q) (a-closed n e r) o = rw (q, r) (uncrossed true (o m n (ap some d) (ap some e)))
+  unbroken l h (a-closed m d q) (an-open n e r) o = rw (q, r) (in-order false (o m n (ap some d) (ap some e)))
+  unbroken l h (a-closed m d q) (a-closed n e r) o = rw (q, r) (in-order true (o m n (ap some d) (ap some e)))
 
   not-null : (l h : Bound) → isNull (termAttributes (l upto h)) ≡ false
   unfolding lookup same

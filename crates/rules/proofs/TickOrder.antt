@@ -1,6 +1,6 @@
 -- The order of ticks is that of their counts, and so bounds are crossed by counts (request A4).
-use Prim.Native.Nat.{ℕ, zero, suc, _+_, _*_, _<_}
-use mathlib.Core.Path.{_≡_, sym, ap, _∙_}
+use Prim.Native.Nat.{ℕ, zero, suc, _+_, _*_, _≤_, _<_}
+use mathlib.Core.Path.{_≡_, refl, sym, ap, _∙_}
 use mathlib.Core.Bool.{Bool, true, false, cond}
 use native.Mathlib.Decide.{decLe}
 use native.Mathlib.Omega.{arith}
@@ -64,3 +64,9 @@ pub crossed : (closed : Bool) (l h : Moment)
 crossed closed l h =
     elim (isPushed high closed h) as (λ b. ltZ (cond b (predℤ (tickAt (h .next))) (tickOf h)) (tickOf l) ≡ cond b (leb (h .next) (l .start)) (ltb (h .start) (l .start)))
     [ false ↦ tick-less (h .start) (l .start) | true ↦ pred-less (h .next) (l .start) ]
+
+-- whatever high's flag is, a low that is not after its start, and before the next unit's, is not
+pub uncrossed : (closed : Bool) (l h : Moment) → l .start ≤ h .start → l .start < h .next → isCrossed closed (valued l) (valued h) ≡ false
+uncrossed closed l h a b =
+    crossed closed l h ∙ rw (le-ltb (h .start) (l .start) a, lt-leb (h .next) (l .start) b)
+    (elim (isPushed high closed h) as (λ p. cond p false false ≡ false) [ false ↦ refl | true ↦ refl ])

@@ -11,29 +11,13 @@ breaks-side-requires c κs = search needs
 breaks-side-requires-2 : tie.Need-breaks-side-requires-2
 breaks-side-requires-2 c κs = search needs
 
-slice-aggregate-has-text : tie.Need-slice-aggregate-has-text
-slice-aggregate-has-text c = search needs
-
-has-text-requires : tie.Need-has-text-requires
-has-text-requires c κs = search needs
-
 is-crossed-requires : tie.Need-is-crossed-requires
 is-crossed-requires c κs = search needs
 
 returns : tie.Need-returns
 returns c = λ n l k p q h.
-    let at-has-text = c .before in let at-second = at-has-text .before .before in
-    rw (
-      at-second .before .breaks-side .ensures n l k p (h .0),
-      at-second .breaks-side2 .ensures n l k q (h .1),
-      c .is-crossed .ensures,
-      at-has-text .has-text .ensures _ q,
-      h .0,
-      h .1,
-      by-child n Low k .0,
-      by-child n High k .0,
-    )
+    rw (c .before .before .breaks-side .ensures n l k p (h .0), c .before .breaks-side2 .ensures n l k q (h .1), c .is-crossed .ensures l q, h .0, h .1, by-child n Low k .0, by-child n High k .0)
 
 pub breaks-interval-spec : {M : Type 1} → statement M
 breaks-interval-spec =
-    tie.close (tie.spec breaks-side-requires breaks-side-requires-2 slice-aggregate-has-text has-text-requires is-crossed-requires returns)
+    tie.close (tie.spec breaks-side-requires breaks-side-requires-2 is-crossed-requires returns)
