@@ -1,5 +1,5 @@
 -- Request A4 is kept, by whatever meets the user's demands.
-use Prim.Native.Nat.{ℕ, _+_, _*_, _≤_}
+use Prim.Native.Nat.{ℕ, suc, _*_, _≤_}
 use Prim.Native.String.{String}
 use mathlib.Core.Path.{_≡_, refl, sym, _∙_, ap, subst}
 use mathlib.Core.Logic.{_↔_, inl, inr}
@@ -10,14 +10,13 @@ use native.Mathlib.Omega.{arith}
 use borrow.Author.Tests.{le-ltb, ltb-true}
 use lib.Dec.{ltb}
 use lib.ListN.{length}
-use lib.IntN.{ℤ, pos}
+use lib.IntN.{ℤ, pos, sucℤ}
 use lib.Signed.{ltZ}
 use Rattle.rules.specs.Basics.{isSome, ifSome, find, exists, same, bytes, decimalFrom}
 use Rattle.rules.specs.Refusal.{Refusal, RULE, SHAPE, number, rankIn, rank, _when_, answered}
 use Rattle.rules.specs.Markup.{Attribute, Nodes, end, node, Element, lookup, document}
-use Rattle.rules.specs.Calendar.{daysOfYears, daysOfMonths, day}
-use Rattle.rules.specs.Dates.{yearsEnd}
-use Rattle.rules.specs.Timestamp.{noZone, Written, startOf, momentOf, beforeStart, tickAt}
+use Rattle.rules.specs.Calendar.{monthLength, daysOfYears, daysOfMonths}
+use Rattle.rules.specs.Timestamp.{Zone, Written, startOf, momentOf, tickAt}
 use Rattle.rules.specs.Invariants.{hasSuch, isNull, childNamed, high, isClosed}
 use Rattle.rules.specs.Types.{Kind, IVL-TS, TS, memberTypes, always, hasType, typeAmong, lineOf}
 use Rattle.rules.specs.Judge.{Standing, top, inside, lacks, breaksNull, attributeFaults, elementFaults, childFaults, topFaults}
@@ -33,8 +32,7 @@ use Rattle.rules.proofs.Opened.{opened}
 use Rattle.rules.proofs.Children.{faultsAs}
 use Rattle.rules.proofs.Precedence.{check-answered}
 use Rattle.rules.proofs.CheckRefusals.{Pass, none-left, one-more, pass-append, pass-when, pass-member, attributes-pass}
-use Rattle.rules.proofs.Dates.{years-end}
-use Rattle.rules.proofs.TickOrder.{tick-from-start}
+use Rattle.rules.proofs.TickOrder.{tick-next}
 use Rattle.rules.proofs.Order.{places, next-number, previous-number}
 use Rattle.rules.proofs.Edges.{firstEdge, endEdge, since, until, inside as between}
 use Rattle.rules.proofs.Canonical.{Opens, canonical-stretches}
@@ -44,7 +42,7 @@ use Rattle.rules.proofs.ListingCases.{check-faultless}
 use Rattle.demands.specs.Services.{Services}
 use Rattle.demands.specs.WrongTimes.{Spells}
 use Rattle.demands.specs.NextUnits.{unitAfter, writtenAfter}
-use Rattle.demands.specs.LastDay.{IsCoarse, IsPossible, tickOn, nextTick, Writes, LowIs, HighIs, LastTick, IsBounded, IsPass, ListsAs, stay, stayStretches, pass, lateTerm, LastDayPromise}
+use Rattle.demands.specs.LastDay.{IsCoarse, IsPossible, tickOn, nextTick, Writes, LowIs, HighIs, LastTick, IsBounded, IsPass, ListsAs, stay, stayStretches, pass, lateTerm, lastUnits, lastWritten, LastDayPromise}
 use Rattle.demands.specs.Demands.{IsFirst, Demand2, Demand3}
 use Rattle.demands.proofs.Answers.{iff-trans}
 use Rattle.demands.proofs.NextUnits.{date-after, clock-after, as-many, two-digits}
@@ -207,12 +205,26 @@ is-closed flag attrs = (go (lookup flag attrs), λ e. rw e (same-refl (bytes "tr
     go none h = clash (cc)
     go (some text) h = ap some (sym (same-true (bytes "true") text h))
 
-year-10000 : nextTick (pos 0) (record { year = 9999; parts = []; fraction = []; zone = noZone }) ≡ pos 3_155_378_976_000_000
-unfolding startOf unitAfter daysOfMonths decimalFrom yearsEnd
-year-10000 = ap tickAt counted ∙ tick-from-start yearsEnd ∙ ap pos years-end
+-- the next unit after the last ones of year 9999
+year-10000 : (offset : ℤ) (zone : Zone) (parts : List ℕ) → List·Memᴰ parts lastUnits
+    → nextTick offset (record { year = 9999; parts = parts; fraction = []; zone = zone }) ≡ sucℤ (tickOn offset (lastWritten zone))
+unfolding startOf unitAfter daysOfYears daysOfMonths monthLength decimalFrom
+year-10000 offset zone parts m = ap tickAt (go parts m) ∙ tick-next (startOf (shiftBy offset) (lastWritten zone))
   where
-    counted : (daysOfYears 9999 + 0 + 0) * day + 0 + 0 + 0 + 0 + beforeStart ≡ yearsEnd + beforeStart
-    counted = omega arith
+    next : List ℕ → ℕ
+    next ps = startOf (shiftBy offset) (writtenAfter (record { year = 9999; parts = ps; fraction = []; zone = zone }))
+
+    go : (ps : List ℕ) → List·Memᴰ ps lastUnits → next ps ≡ suc (startOf (shiftBy offset) (lastWritten zone))
+    go ps m = elim (List·Memᴰ·cases-cons m) [
+      | inl e ↦ rw e (omega arith)
+      | inr m ↦ elim (List·Memᴰ·cases-cons m) [
+        | inl e ↦ rw e (omega arith)
+        | inr m ↦ elim (List·Memᴰ·cases-cons m) [
+          | inl e ↦ rw e (omega arith)
+          | inr m ↦ elim (List·Memᴰ·cases-cons m) [ inl e ↦ rw e (omega arith) | inr m ↦ rw (List·Memᴰ·eq-of-singleton m) (omega arith) ]
+        ]
+      ]
+    ]
 
 interval-listed : (attrs : List Attribute) → hasType attrs IVL-TS ≡ true → isSome (typeAmong memberTypes attrs) ≡ true
 unfolding find same exists
@@ -263,9 +275,13 @@ module _ (s : Services) (two : Demand2 s) (three : Demand3 s) where
       → length (intervals x) ≤ 32 → stretches x ≡ ss → 32 * length ss ≤ length list → ListsAs s (pos 0) input list ss
   given input list e x ss c l w n z r = listed-as (pos 0) input list e x ss c l w n (subst (AreStretches (meant x)) z (stretches-are x)) r
 
-  within-set : (list : List ℕ) → 32 ≤ length list → ListsAs s (pos 0) lateTerm list (closedAt (pos 638500752000000) upto openAt (pos 638501184000000) ∷ [])
+  within-set : (list : List ℕ) → 32 ≤ length list → ListsAs s (pos 0) (lateTerm "true") list (closedAt (pos 638500752000000) upto openAt (pos 638501184000000) ∷ [])
   unfolding opened
-  within-set list r = given lateTerm list _ _ _ refl refl refl (omega arith) refl r
+  within-set list r = given (lateTerm "true") list _ _ _ refl refl refl (omega arith) refl r
+
+  rule-within-set : numberIn (s .check-says (pos 0) (lateTerm "false")) ≡ number RULE
+  unfolding opened
+  rule-within-set = two .refused (pos 0) (lateTerm "false") RULE .1 (first-rule true .1 refl)
 
   listed-none : (list : List ℕ) → ListsAs s (pos 0) (pass "false" "2024" "true" "202406") list []
   unfolding opened
@@ -275,19 +291,24 @@ module _ (s : Services) (two : Demand2 s) (three : Demand3 s) where
   unfolding opened
   example list r = given stay list _ _ _ refl refl refl (omega arith) refl r
 
-  april : (list : List ℕ) → 32 ≤ length list → (record′ : List ℕ) → List·Memᴰ record′ (pass "true" "20240401" "true" "20240430" ∷ pass "true" "20240401" "false" "20240501" ∷ [])
+  april : (list : List ℕ) → 32 ≤ length list → (record′ : List ℕ) → List·Memᴰ record′ (pass "true" "20240401" "true" "20240430" ∷ pass "true" "20240401" "false" "20240501" ∷ pass "false" "20240331" "true" "20240430" ∷ [])
       → ListsAs s (pos 0) record′ list (closedAt (pos 638475264000000) upto openAt (pos 638501184000000) ∷ [])
   unfolding opened
   april list r record′ m = elim (List·Memᴰ·cases-cons m) [
     | inl e ↦ rw e (given (pass "true" "20240401" "true" "20240430") list _ _ _ refl refl refl (omega arith) refl r)
-    | inr m ↦ rw (List·Memᴰ·eq-of-singleton m) (given (pass "true" "20240401" "false" "20240501") list _ _ _ refl refl refl (omega arith) refl r)
+    | inr m ↦ elim (List·Memᴰ·cases-cons m) [
+      | inl e ↦ rw e (given (pass "true" "20240401" "false" "20240501") list _ _ _ refl refl refl (omega arith) refl r)
+      | inr m ↦ rw (List·Memᴰ·eq-of-singleton m) (given (pass "false" "20240331" "true" "20240430") list _ _ _ refl refl refl (omega arith) refl r)
+    ]
   ]
 
   compared : Says No (s .compare-says (pos 0) (pass "true" "20240401" "true" "20240430") (pass "true" "20240401" "false" "20240501"))
+      × Says No (s .compare-says (pos 0) (pass "true" "20240401" "true" "20240430") (pass "false" "20240331" "true" "20240430"))
       × Says Unknown (s .compare-says (pos 0) (pass "true" "20240401" "true" "20240430") (pass "true" "20240401" "true" "20240430120000"))
   unfolding opened
   compared = (
     two .comparison (pos 0) (pass "true" "20240401" "true" "20240430") (pass "true" "20240401" "false" "20240501") _ _ compareIntervals refl refl refl,
+    two .comparison (pos 0) (pass "true" "20240401" "true" "20240430") (pass "false" "20240331" "true" "20240430") _ _ compareIntervals refl refl refl,
     two .comparison (pos 0) (pass "true" "20240401" "true" "20240430") (pass "true" "20240401" "true" "20240430120000") _ _ compareIntervals refl refl refl,
   )
 
@@ -303,6 +324,7 @@ last-day-kept s two three = record {
   crossed = λ offset p attrs kids l h last n x t. crossed offset attrs kids l h last n x t p;
   checks = checks s two three;
   within-set = within-set s two three;
+  rule-within-set = rule-within-set s two three;
   pushed-past = pushed-past;
   listed-none = listed-none s two three;
   example = example s two three;

@@ -8,12 +8,12 @@ use mathlib.Core.Bool.{Bool, true, false}
 use mathlib.Core.List.{List, [], _∷_, _++_, List·Memᴰ}
 use mathlib.Core.Option.{some}
 use lib.ListN.{length}
-use lib.IntN.{ℤ, pos, predℤ}
+use lib.IntN.{ℤ, pos, sucℤ, predℤ}
 use lib.Signed.{ltZ}
 use Rattle.rules.specs.Basics.{isSome, bytes}
 use Rattle.rules.specs.Refusal.{Refusal, RULE, number, rank, answered}
 use Rattle.rules.specs.Markup.{Attribute, Nodes, end, node, Element, lookup, document}
-use Rattle.rules.specs.Timestamp.{noZone, Written, isDate, isClock, isZone, startOf, tickAt}
+use Rattle.rules.specs.Timestamp.{Zone, Written, isDate, isClock, isZone, startOf, tickAt}
 use Rattle.rules.specs.Invariants.{isNull, hasFlavor, childNamed, low, high, isClosed}
 use Rattle.rules.specs.Types.{IVL-TS, hasType}
 use Rattle.rules.specs.Judge.{Standing, elementFaults, topFaults}
@@ -128,18 +128,28 @@ pass c l d h =
     bytes "<pass xsi:type=\"IVL_TS\" lowClosed=\"" ++ bytes c ++ bytes "\" highClosed=\"" ++ bytes d ++ bytes "\"><low value=\"" ++ bytes l
     ++ bytes "\"/><high value=\"" ++ bytes h ++ bytes "\"/></pass>"
 
--- a set of one term that begins within its last day
-abbrev pub lateTerm : List ℕ
-lateTerm = bytes "<stay xsi:type=\"QSU_TS\"><term xsi:type=\"IVL_TS\" lowClosed=\"true\" highClosed=\"true\"><low value=\"2024043012\"/><high value=\"20240430\"/></term></stay>"
+-- a set of one term that begins within its last day, by the flag of its high
+abbrev pub lateTerm : (highClosed : String) → List ℕ
+lateTerm d =
+    bytes "<stay xsi:type=\"QSU_TS\"><term xsi:type=\"IVL_TS\" lowClosed=\"true\" highClosed=\"" ++ bytes d
+    ++ bytes "\"><low value=\"2024043012\"/><high value=\"20240430\"/></term></stay>"
+
+-- the last units of year 9999 coarser than a second, and its last tick, at an offset
+abbrev pub lastUnits : List (List ℕ)
+lastUnits = [] ∷ (12 ∷ []) ∷ (12 ∷ 31 ∷ []) ∷ (12 ∷ 31 ∷ 23 ∷ []) ∷ (12 ∷ 31 ∷ 23 ∷ 59 ∷ []) ∷ []
+
+abbrev pub lastWritten : Zone → Written
+lastWritten z = record { year = 9999; parts = 12 ∷ 31 ∷ 23 ∷ 59 ∷ 59 ∷ []; fraction = bytes "9999"; zone = z }
 
 pub record LastDayPromise (s : Services) : Type 0 where
   -- the tick of what is written is the one that the timestamp service gives to a text that spells it; the next unit has such a text, up to year 9999,
-  -- and after that it is the start of year 10000
+  -- and the next after its last units starts with year 10000, a tick after the last of 9999
   pub ticks : (offset : ℤ) (text : List ℕ) (w : Written) (tick : ℤ) → isOffset offset ≡ true → length text ≤ 16_384 → Spells text w → IsPossible w
       → s .tick-leaves offset text tick ≡ tickOn offset w
   pub next-spelled : (text : List ℕ) (w : Written) → Spells text w → IsPossible w → IsCoarse w → writtenAfter w .year ≤ 9999
       → (next : List ℕ) × Spells next (writtenAfter w) × IsPossible (writtenAfter w)
-  pub year-10000 : nextTick (pos 0) (record { year = 9999; parts = []; fraction = []; zone = noZone }) ≡ pos 3_155_378_976_000_000
+  pub year-10000 : (offset : ℤ) (zone : Zone) (parts : List ℕ) → List·Memᴰ parts lastUnits
+      → nextTick offset (record { year = 9999; parts = parts; fraction = []; zone = zone }) ≡ sucℤ (tickOn offset (lastWritten zone))
   -- a bound is closed if its flag is `true`
   pub flags : (attrs : List Attribute) → (isClosed low attrs ≡ true ↔ lookup (bytes "lowClosed") attrs ≡ some (bytes "true"))
       × (isClosed high attrs ≡ true ↔ lookup (bytes "highClosed") attrs ≡ some (bytes "true"))
@@ -161,8 +171,9 @@ pub record LastDayPromise (s : Services) : Type 0 where
   pub checks : (offset : ℤ) (record′ : List ℕ) (e : Element) (l h : Written) (last : ℤ) → IsPass offset record′ e l h → LastTick offset h (isClosed high (e .attrs)) last
       → (numberIn (s .check-says offset record′) ≡ number RULE ↔ ltZ last (tickOn offset l) ≡ true)
       × (numberIn (s .check-says offset record′) ≡ 0 ↔ ltZ last (tickOn offset l) ≡ false)
-  -- and so within a set: a term that begins within its last day is accepted
-  pub within-set : (list : List ℕ) → 32 ≤ length list → ListsAs s (pos 0) lateTerm list (closedAt (pos 638500752000000) upto openAt (pos 638501184000000) ∷ [])
+  -- and so within a set: a term that begins within its last day is accepted if that is closed, and else RULE
+  pub within-set : (list : List ℕ) → 32 ≤ length list → ListsAs s (pos 0) (lateTerm "true") list (closedAt (pos 638500752000000) upto openAt (pos 638501184000000) ∷ [])
+  pub rule-within-set : numberIn (s .check-says (pos 0) (lateTerm "false")) ≡ number RULE
   -- "a low pushed past its high means no place": the pass from after 2024 to all of June 2024 is accepted, and nothing is listed
   pub pushed-past : (c d : Bool) (l h : ℤ) → ltZ h l ≡ true → (x : Place) → holds (boundAt c l upto boundAt d h) x ≡ false
   pub listed-none : (list : List ℕ) → ListsAs s (pos 0) (pass "false" "2024" "true" "202406") list []
@@ -170,9 +181,10 @@ pub record LastDayPromise (s : Services) : Type 0 where
   pub example : (list : List ℕ) → 64 ≤ length list → ListsAs s (pos 0) stay list stayStretches
   pub example-numbers : listNumbers stayStretches
       ≡ pos 2 ∷ pos 638501184000000 ∷ pos 1 ∷ pos 638502480000000 ∷ pos 2 ∷ pos 638502516000000 ∷ pos 1 ∷ pos 638503776000000 ∷ []
-  -- "The rules of comparison are unchanged": they go by values and flags as written. Two passes that are listed as all of April differ; and all of 30 April
-  -- and its noon share a tick, so it is unknown
-  pub april : (list : List ℕ) → 32 ≤ length list → (record′ : List ℕ) → List·Memᴰ record′ (pass "true" "20240401" "true" "20240430" ∷ pass "true" "20240401" "false" "20240501" ∷ [])
+  -- "The rules of comparison are unchanged": they go by values and flags as written. Two passes that are listed as all of April differ, and so does a third;
+  -- and all of 30 April and its noon share a tick, so it is unknown
+  pub april : (list : List ℕ) → 32 ≤ length list → (record′ : List ℕ) → List·Memᴰ record′ (pass "true" "20240401" "true" "20240430" ∷ pass "true" "20240401" "false" "20240501" ∷ pass "false" "20240331" "true" "20240430" ∷ [])
       → ListsAs s (pos 0) record′ list (closedAt (pos 638475264000000) upto openAt (pos 638501184000000) ∷ [])
   pub compared : Says No (s .compare-says (pos 0) (pass "true" "20240401" "true" "20240430") (pass "true" "20240401" "false" "20240501"))
+      × Says No (s .compare-says (pos 0) (pass "true" "20240401" "true" "20240430") (pass "false" "20240331" "true" "20240430"))
       × Says Unknown (s .compare-says (pos 0) (pass "true" "20240401" "true" "20240430") (pass "true" "20240401" "true" "20240430120000"))

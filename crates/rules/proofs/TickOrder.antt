@@ -18,7 +18,7 @@ pub tick-from-start : (n : ℕ) → tickAt (n + beforeStart) ≡ pos n
 unfolding tickAt
 tick-from-start n = rw (le-ltb (n + beforeStart) beforeStart (omega arith)) (ap pos (omega arith))
 
-tick-next : (n : ℕ) → tickAt (suc n) ≡ sucℤ (tickAt n)
+pub tick-next : (n : ℕ) → tickAt (suc n) ≡ sucℤ (tickAt n)
 unfolding tickAt
 tick-next n = sucℤ-+ℤ (pos n) (negsuc 503999999)
 
