@@ -8,7 +8,7 @@
 
 /* A moment as a calendar and a clock show it. */
 struct moment {
-    int year;      /* 0 to 10000: an offset can move a tick into the year before 0001, which is 0 here, or the one after 9999, where 9999 ends */
+    int year;      /* 0 to 10000: an offset can move a tick into the year before 0001, which is 0 here, or into the year after 9999, at whose start 9999 ends */
     int month;     /* 1 to 12 */
     int day;       /* 1 to 31 */
     int weekday;   /* 0 to 6, from Monday on */

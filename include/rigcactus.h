@@ -407,8 +407,8 @@ uint64_t rigcactus_list(const uint8_t *record, size_t record_len, int64_t offset
  *   [1,3] and [4,5] what is between two ticks, [1,3] and (3,5] nothing.
  *
  * A list that rigcactus_list wrote is none of these, but it can have a tick that no timestamp at +0000 has, by an offset, or by a
- * high that is closed at the end of year 9999 and so open at the start of year 10000: years 0001 to 9999 are the ticks 0 to
- * 3155378975999999.
+ * closed high or an open low at the end of year 9999, which is read at the start of year 10000: years 0001 to 9999 are the ticks 0
+ * to 3155378975999999.
  *
  * Refusals: RIGCACTUS_NOT_WRITABLE for an improper list, or a tick outside years 0001 to 9999; then RIGCACTUS_NO_ROOM exactly if
  * record_len is less than the record's length.

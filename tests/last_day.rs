@@ -63,7 +63,7 @@ const fn ticks(digits: &'static str, before: i64, ticks: i64) -> Unit {
     Unit { digits, start: before * DAY + ticks, lasts: None, next: "" }
 }
 
-const UNITS: [Unit; 59] = [
+const UNITS: [Unit; 60] = [
     days("0001", 0, 365, "0002"),
     days("1900", 693_595, 365, "1901"),
     days("2000", 730_119, 366, "2001"),
@@ -120,6 +120,7 @@ const UNITS: [Unit; 59] = [
     ticks("20240430120000", 739_005, 12 * HOUR),
     ticks("20240430235959", 739_005, DAY - SECOND),
     ticks("20240430235959.5", 739_005, DAY - SECOND / 2),
+    ticks("20240430235959.999", 739_005, DAY - 10),
     ticks("20240430235959.9999", 739_005, DAY - 1),
     ticks("20240501000000.00", 739_006, 0),
     ticks("99991231235959.9999", 3_652_058, DAY - 1),
@@ -171,7 +172,7 @@ impl Time {
 
 // ---- What is due ---------------------------------------------------------------------------------------------------
 
-/// The flags of an interval, and the bounds between which it lies.
+/// The flags of an interval.
 const FLAGS: [[bool; 2]; 4] = [[true, true], [true, false], [false, true], [false, false]];
 
 /// What is due for a record: RULE, or its stretches.
@@ -229,7 +230,7 @@ fn set(of_type: &str, members: &[String]) -> String {
 
 // ---- Trying --------------------------------------------------------------------------------------------------------
 
-/// What is counted: the services, and the kinds of records that are listed.
+/// The services, of which calls are counted.
 const COLUMNS: [&str; 4] = ["check", "list", "compare", "print"];
 
 struct Trial {

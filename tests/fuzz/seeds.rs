@@ -110,7 +110,7 @@ impl Writer {
         self.write(TOTALS, 0, 0, b"");
     }
 
-    /// Intervals between every two of some bounds, with their flags in turn, alone and less a day: each checked and listed.
+    /// Intervals between every two of some bounds, with their flags in turn, alone and less a day: each listed, and those alone checked.
     fn bounds(&mut self) {
         const FLAGS: [&str; 4] = ["true true", "false true", "true false", "false false"];
         let day = "<subtrahend xsi:type=\"IVL_TS\" lowClosed=\"true\" highClosed=\"true\"><low value=\"20240430\"/><high value=\"20240430\"/></subtrahend>";

@@ -66,7 +66,7 @@ fn breaks_side(s: &[u8], flag: usize, side: Side, said: Said) -> bool
 }
 
 // Low's tick is after the last tick taken in by a closed coarse high, or after the high's tick otherwise, by the place of high's flag. That is
-// read only where low is not before both.
+// read only where low is after high's start, or not before the next unit's.
 fn is_crossed(s: &[u8], flag: usize, low: Said, high: Said) -> bool
     requires { ⌜ flag ≤ length (now s) ⌝ }
     ensures { λ r. ⌜ ((l : List Attribute) → Place (now (s .entry)) (lookup (bytes "highClosed") l) flag → r ≡ isCrossed (isClosed (sideMeant High) l) (endpointSaid Low (saidMeant low)) (endpointSaid High (saidMeant high))) ⌝ }

@@ -47,7 +47,7 @@ abbrev pub breaksTime : Invariant
 breaksTime shift attrs kids = not (exactlyOne (has "value" attrs) (isNull attrs))
 
 -- a side of an interval: its child, its flag, the flavor that means unbounded there, the flavor that may not stand there, and whether it pushes
--- a coarse bound to the next unit's start, by whether that is closed
+-- a coarse bound to the next unit's start, by whether the bound is closed
 pub record Side : Type 0 where
   pub child : List ℕ
   pub flag : List ℕ
