@@ -18,7 +18,7 @@ use Rattle.rules.specs.Markup.{Attribute, Nodes, lookup}
 use Rattle.rules.specs.Timestamp.{Written, isDate, isClock, isZone, writtenFaults, Moment, momentOf, tickAt, isCoarse, readTimestamp}
 use Rattle.rules.specs.Invariants.{isNull, hasFlavor, childNamed, Side, low, high, isClosed, Endpoint, valued, infinite, unknown, endpointRead, endpointIn, endpointOf, lastTaken, breaksInterval}
 use Rattle.rules.specs.Check.{shiftBy}
-use Rattle.rules.specs.Sets.{Bound, Interval, _upto_}
+use Rattle.rules.specs.Sets.{Bound, unbounded, Interval, _upto_}
 use Rattle.rules.specs.Listing.{valueRead, boundRead, boundOf, intervalOf}
 use Rattle.rules.proofs.Tests.{clash}
 use Rattle.rules.proofs.Precedence.{when-none}
@@ -158,30 +158,35 @@ module _ (offset : ℤ) {text : List ℕ} {w : Written} (s : Spells text w) (p :
   last-one LastTick.an-open = rw (never (isCoarse moment))
 
 module _ (offset : ℤ) (attrs : List Attribute) (kids : Nodes) where
-  low-is : (b : Bound) → boundOf (shiftBy offset) low attrs kids ≡ answered b ↔ LowIs offset attrs kids b
-  low-is b = (λ h. go (endpointOf (shiftBy offset) low kids) (said (shiftBy offset) low "low" refl kids "NINF" refl) h, back)
+  -- the bound of a side is that of a value that its child writes, or there is none
+  side-is : (side : Side) (child flavor : String) → side .child ≡ bytes child → side .infinity ≡ bytes flavor → (Is : Bound → Type 0)
+      → ((w : Written) (x : Writes kids child w) → Is (valueRead side (isClosed side attrs) (momentOf (shiftBy offset) w))) → (Unbounds kids child flavor → Is unbounded)
+      → (b : Bound) → boundOf (shiftBy offset) side attrs kids ≡ answered b → Is b
+  side-is side child flavor c f Is written without b = go (endpointOf (shiftBy offset) side kids) (said (shiftBy offset) side child c kids flavor f)
     where
-      go : (x : Endpoint) → Said (shiftBy offset) low "low" refl kids "NINF" x → boundRead low (isClosed low attrs) x ≡ answered b → LowIs offset attrs kids b
+      go : (x : Endpoint) → Said (shiftBy offset) side child c kids flavor x → boundRead side (isClosed side attrs) x ≡ answered b → Is b
       go (valued m) (w, x, q) h =
-          let e : valueRead low (isClosed low attrs) (momentOf (shiftBy offset) w) ≡ b = cc (h, q) in
-          LowIs.written-low {w = w} {b = b} x (subst (LowReads offset w (isClosed low attrs)) e (low-reads offset (x .spelled) (x .possible) (isClosed low attrs)))
-      go infinite x h = subst (LowIs offset attrs kids) (cc h) (LowIs.no-low x)
+          let e : valueRead side (isClosed side attrs) (momentOf (shiftBy offset) w) ≡ b = cc (h, q) in
+          subst Is e (written w x)
+      go infinite x h = subst Is (cc h) (without x)
       go unknown x h = clash (cc)
 
+  low-is : (b : Bound) → boundOf (shiftBy offset) low attrs kids ≡ answered b ↔ LowIs offset attrs kids b
+  low-is b = (
+    side-is low "low" "NINF" refl refl (LowIs offset attrs kids) (λ w x. LowIs.written-low x (low-reads offset (x .spelled) (x .possible) (isClosed low attrs))) LowIs.no-low b,
+    back,
+  )
+    where
       back : {d : Bound} → LowIs offset attrs kids d → boundOf (shiftBy offset) low attrs kids ≡ answered d
       back (LowIs.written-low x r) = rw (writes-valued (shiftBy offset) low "low" refl kids x) (ap answered (low-one offset (x .spelled) (x .possible) r))
       back (LowIs.no-low x) = rw (unbounds-infinite (shiftBy offset) low "low" refl kids "NINF" refl x)
 
   high-is : (b : Bound) → boundOf (shiftBy offset) high attrs kids ≡ answered b ↔ HighIs offset attrs kids b
-  high-is b = (λ h. go (endpointOf (shiftBy offset) high kids) (said (shiftBy offset) high "high" refl kids "PINF" refl) h, back)
+  high-is b = (
+    side-is high "high" "PINF" refl refl (HighIs offset attrs kids) (λ w x. HighIs.written-high x (high-reads offset (x .spelled) (x .possible) (isClosed high attrs))) HighIs.no-high b,
+    back,
+  )
     where
-      go : (x : Endpoint) → Said (shiftBy offset) high "high" refl kids "PINF" x → boundRead high (isClosed high attrs) x ≡ answered b → HighIs offset attrs kids b
-      go (valued m) (w, x, q) h =
-          let e : valueRead high (isClosed high attrs) (momentOf (shiftBy offset) w) ≡ b = cc (h, q) in
-          HighIs.written-high {w = w} {b = b} x (subst (HighReads offset w (isClosed high attrs)) e (high-reads offset (x .spelled) (x .possible) (isClosed high attrs)))
-      go infinite x h = subst (HighIs offset attrs kids) (cc h) (HighIs.no-high x)
-      go unknown x h = clash (cc)
-
       back : {d : Bound} → HighIs offset attrs kids d → boundOf (shiftBy offset) high attrs kids ≡ answered d
       back (HighIs.written-high x r) = rw (writes-valued (shiftBy offset) high "high" refl kids x) (ap answered (high-one offset (x .spelled) (x .possible) r))
       back (HighIs.no-high x) = rw (unbounds-infinite (shiftBy offset) high "high" refl kids "PINF" refl x)
