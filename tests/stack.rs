@@ -110,7 +110,7 @@ const SERVICES: [(Service, &str, usize); 10] = [
     (Tick, "tick", 1024),
     (Check, "check", 8192),
     (List, "list", 49152),
-    (Compare, "compare", 8192),
+    (Compare, "compare", 9216),
     (Print, "print", 1024),
     (TotalsOpen, "totals_open", 256),
     (TotalsStart, "totals_start", 4096),

@@ -43,10 +43,6 @@ fn judge_content(s: &[u8], tag: Tag, depth: usize, kind: Kind, shift: u64) -> Co
     ensures within { λ r. ⌜ (tag .end ≤ r .end) × (r .end ≤ length (now (s .entry))) ⌝ }
     ensures tells { λ r. ⌜ ((v : Element) (after : List ℕ) → TagOf (now (s .entry)) depth v after tag → ContentAs (now (s .entry)) shift (kindMeant kind) v after r) ⌝ }
 {
-    // Nothing follows the tag, so there is no row to walk.
-    if !tag.full {
-        return finish(s, tag, kind, begin(tag.end), tag.end);
-    }
     let mut row = begin(tag.end);
     loop {
         let next = next_inside(s, tag.full, tag.name, tag.past, depth, row.end);

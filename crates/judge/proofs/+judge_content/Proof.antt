@@ -7,8 +7,7 @@ use borrow.Author.Needs.{needs}
 use borrow.Fn.Kinds.{In}
 use borrow.Fn.PlainCycle.{Measures, is, falls, and}
 use Rattle.datatype.specs.Meaning.{kindMeant}
-use borrow.Author.Tests.{not-true}
-use Rattle.element.proofs.Walks.{empty-ends, Walked, walk-less, walk-goes}
+use Rattle.element.proofs.Walks.{Walked, walk-less, walk-goes}
 use Rattle.judge.proofs.Walking.{Judges, judged-first, judged-next, judged-last}
 use Rattle.judge.proofs.judge_content.Reads.{Pre, Post}
 use Rattle.judge.proofs.judge_content.Kinds.{ps}
@@ -36,30 +35,16 @@ module _ (t : ℕ) where
   At = and 1 ps (is 1 ps μ t) Pre
 
   abbrev claims : lts.Claims
-  claims = (begin-reads.Asked, begin-reads.Learnt, finish-reads.Asked, finish-reads.Learnt, next-inside-reads.Asked, next-inside-reads.Learnt, read-reads.Asked, read-reads.Learnt, child-asked-reads.Asked, child-asked-reads.Learnt, and 1 ps (falls 1 ps _<_ μ t) Pre, Post, with-child-reads.Asked, with-child-reads.Learnt)
+  claims = (begin-reads.Asked, begin-reads.Learnt, next-inside-reads.Asked, next-inside-reads.Learnt, read-reads.Asked, read-reads.Learnt, child-asked-reads.Asked, child-asked-reads.Learnt, and 1 ps (falls 1 ps _<_ μ t) Pre, Post, with-child-reads.Asked, with-child-reads.Learnt, finish-reads.Asked, finish-reads.Learnt)
 
   begin-requires : lts.Need-begin-requires claims At Post Inv-loop μ-loop
   begin-requires c κs = search needs
 
-  finish-requires : lts.Need-finish-requires claims At Post Inv-loop μ-loop
-  finish-requires c κs = c .before .before .before .before .pre .1 .0
-
-  returns : lts.Need-returns claims At Post Inv-loop μ-loop
-  returns c =
-      let start = c .before .before .before .before .before in let row = c .before .begin in let k = kindMeant (start .args .kind) in let within = start .pre .1 .0 .end in
-      let e = c .finish .ensures .0 in (
-        (omega (arith, e), omega (arith, e, within)),
-        judged-last (start .args .shift) k (row .result) (rw (row .ensures .1) (empty-ends (start .args .tag .full) _ _ (rw (not-true (start .args .tag .full) (c .before .before .if1 .taken))) within)) (judged-first (start .args .shift) k (row .result) within (row .ensures .0) (row .ensures .1)) (c .finish .result) (c .finish .ensures .1 (start .args .shift)),
-      )
-
-  begin-requires-2 : lts.Need-begin-requires-2 claims At Post Inv-loop μ-loop
-  begin-requires-2 c κs = search needs
-
   loop-holds : lts.Need-loop-holds claims At Post Inv-loop μ-loop
-  loop-holds c = let start = c .before .before .before .before in judged-first (start .args .shift) (kindMeant (start .args .kind)) (c .begin2 .result) (start .pre .1 .0 .end) (c .begin2 .ensures .0) (c .begin2 .ensures .1)
+  loop-holds c = let start = c .before .before in judged-first (start .args .shift) (kindMeant (start .args .kind)) (c .begin .result) (start .pre .1 .0 .end) (c .begin .ensures .0) (c .begin .ensures .1)
 
   next-inside-requires : lts.Need-next-inside-requires claims At Post Inv-loop μ-loop
-  next-inside-requires c κs = let tag = c .before .before .before .before .before .pre .1 .0 in (tag .name, (tag .past, c .loop .inv .within))
+  next-inside-requires c κs = let tag = c .before .before .before .pre .1 .0 in (tag .name, (tag .past, c .loop .inv .within))
 
   enum-known-next : lts.Need-enum-known-next claims At Post Inv-loop μ-loop
   enum-known-next c = search needs
@@ -75,12 +60,12 @@ module _ (t : ℕ) where
 
   judge-content-requires : lts.Need-judge-content-requires claims At Post Inv-loop μ-loop
   judge-content-requires c κs =
-      let at-next = c .before .before .before in let at-inside = at-next .before .before in let start = at-inside .before .before .before .before .before .before in
+      let at-next = c .before .before .before in let at-inside = at-next .before .before in let start = at-inside .before .before .before .before in
       let n = rw (at-next .next .given .1) at (at-inside .next-inside .ensures) in
       (omega (arith, start .pre .0, n .deep), (c .before .read .ensures .0 .0, start .pre .1 .1))
 
   with-child-requires : lts.Need-with-child-requires claims At Post Inv-loop μ-loop
-  with-child-requires c κs = (c .before .before .read .ensures .0 .0, c .before .before .before .before .before .before .before .before .before .before .before .before .pre .1 .1)
+  with-child-requires c κs = (c .before .before .read .ensures .0 .0, c .before .before .before .before .before .before .before .before .before .before .pre .1 .1)
 
   loop-less : lts.Need-loop-less claims At Post Inv-loop μ-loop
   loop-less c =
@@ -91,7 +76,7 @@ module _ (t : ℕ) where
   loop-again : lts.Need-loop-again claims At Post Inv-loop μ-loop
   loop-again c =
       let content = c .before .judge-content in let at-asked = c .before .before in let at-read = at-asked .before in let at-next = at-read .before .before in
-      let at-inside = at-next .before .before in let l = at-inside .before .loop in let a = at-inside .before .before .before .before .before .before .args in
+      let at-inside = at-next .before .before in let l = at-inside .before .loop in let a = at-inside .before .before .before .before .args in
       subst (λ (e : ℕ). Walked (a .s .now) (a .tag) (a .depth) e (Judges (a .shift) (kindMeant (a .kind)) (c .with-child .result))) (sym (c .with-child .ensures .0))
       (walk-goes (rw (at-next .next .given .1) at (at-inside .next-inside .ensures)) (at-read .read .ensures) (l .inv) (content .ensures .0) (λ all left v rest h p.
       let n = content .ensures .1 v rest h in
@@ -100,19 +85,19 @@ module _ (t : ℕ) where
   enum-known-next-2 : lts.Need-enum-known-next-2 claims At Post Inv-loop μ-loop
   enum-known-next-2 c = search needs
 
-  finish-requires-2 : lts.Need-finish-requires-2 claims At Post Inv-loop μ-loop
-  finish-requires-2 c κs = c .before .before .before .before .before .before .before .before .before .pre .1 .0
+  finish-requires : lts.Need-finish-requires claims At Post Inv-loop μ-loop
+  finish-requires c κs = c .before .before .before .before .before .before .before .pre .1 .0
 
-  returns-2 : lts.Need-returns-2 claims At Post Inv-loop μ-loop
-  returns-2 c =
-      let at-inside = c .before .before .before .before in let l = at-inside .before .loop in let a = at-inside .before .before .before .before .before .before .args in
+  returns : lts.Need-returns claims At Post Inv-loop μ-loop
+  returns c =
+      let at-inside = c .before .before .before .before in let l = at-inside .before .loop in let a = at-inside .before .before .before .before .args in
       let n = rw (c .before .before .next2 .given .1) at (at-inside .next-inside .ensures) in
-      let e = c .finish2 .ensures .0 in (
+      let e = c .finish .ensures .0 in (
         (omega (arith, l .inv .from, n .low, e), omega (arith, n .high, e)),
-        judged-last (a .shift) (kindMeant (a .kind)) (l .row) n (l .inv) (c .finish2 .result) (c .finish2 .ensures .1 (a .shift)),
+        judged-last (a .shift) (kindMeant (a .kind)) (l .row) n (l .inv) (c .finish .result) (c .finish .ensures .1 (a .shift)),
       )
 
 pub +judge-content-spec : {M : Type 1} → statement M
 +judge-content-spec = close μ λ t. lts.spec (claims t) (At t) Post Inv-loop μ-loop
-    (begin-requires t) (finish-requires t) (returns t) (begin-requires-2 t) (loop-holds t) (next-inside-requires t) (enum-known-next t) (read-requires t) (child-asked-requires t) (sub-judge-content t) (judge-content-requires t)
-    (with-child-requires t) (loop-less t) (loop-again t) (enum-known-next-2 t) (finish-requires-2 t) (returns-2 t)
+    (begin-requires t) (loop-holds t) (next-inside-requires t) (enum-known-next t) (read-requires t) (child-asked-requires t) (sub-judge-content t) (judge-content-requires t)
+    (with-child-requires t) (loop-less t) (loop-again t) (enum-known-next-2 t) (finish-requires t) (returns t)
