@@ -1,16 +1,11 @@
 /*
  * Comparing two records: rigcactus_compare beside an expat parse of both that keeps the attributes, and a comparison of those; and beside
- * rigcactus_check of both, which is what judging them costs. The records of a pair have the same value, so that all of it is compared; those
- * with UUIDs as roots have them in small letters and in capitals.
+ * rigcactus_check of both, which is what judging them costs. The records of a pair have the same value, so that all of it is compared.
  * sides.h says how it is run.
  */
 #define _POSIX_C_SOURCE 199309L
 #include "compare_expat.h"
 #include "records.h"
-
-/* What stands before a UUID in a record that has one, which is in small letters. */
-#define BEFORE_UUID "<badge xsi:type=\"II\" root=\""
-enum { UUID_BYTES = 36 };
 
 static const struct record_set sets[] = {
     {"time", 100, "<arrival xsi:type=\"TS\" value=\"20240501%02d%02d00.25+0530\"/>", {"", ""}, ""},
@@ -21,7 +16,6 @@ static const struct record_set sets[] = {
     {"badge", 100, "<badge xsi:type=\"II\" root=\"2.16.840.1.113883.%d\" extension=\"V-%02d\"/>", {"", ""}, ""},
     {"reason", 200, "<reason xsi:type=\"CD\" code=\"3083%02d0%02d\" codeSystem=\"2.16.840.1.113883.6.96\"/>", {"", ""}, ""},
     NAME(100), NAME(200), NAME(500), NAME(1000), NAME(2000), NAME(4000), NAME(8000), NAME(16000),
-    {"uuid", 100, BEFORE_UUID "7d5a1f%02d-0c2e-4b8a-9e47-3f6b21c8da%02d\" extension=\"V-0423\"/>", {"", ""}, ""},
 };
 
 static struct record firsts[MOST_RECORDS], seconds[MOST_RECORDS];
@@ -70,25 +64,12 @@ static bool is_agreed(size_t i)
            rigcactus_says(before, &seconds[i]) == expat_says(before, &seconds[i]);
 }
 
-/* Writes the UUID of a record, if it has one, in capitals. */
-static void capitalize(struct record *record)
-{
-    static const size_t before = sizeof BEFORE_UUID - 1;
-    char *uuid = record->bytes + before;
-    if (record->length < before + UUID_BYTES || memcmp(record->bytes, BEFORE_UUID, before) != 0 || uuid[8] != '-')
-        return;
-    for (size_t i = 0; i < UUID_BYTES; i++)
-        if ('a' <= uuid[i] && uuid[i] <= 'f')
-            uuid[i] = (char)(uuid[i] - 'a' + 'A');
-}
-
 static size_t prepare(size_t set)
 {
     size_t count = record_count(&sets[set]);
     for (size_t i = 0; i < count; i++) {
         make_record(&sets[set], &firsts[i]);
         seconds[i] = firsts[i];
-        capitalize(&seconds[i]);
         if (!is_agreed(i))
             return 0;
     }

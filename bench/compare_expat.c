@@ -1,4 +1,3 @@
-#define _POSIX_C_SOURCE 200112L
 #include "compare_expat.h"
 
 #include "rigcactus.h"
@@ -6,7 +5,6 @@
 #include <expat.h>
 #include <stdlib.h>
 #include <string.h>
-#include <strings.h>
 
 /* The attributes that count. */
 enum attribute { XSI_TYPE, NULL_FLAVOR, VALUE, CURRENCY, ROOT, EXTENSION, CODE, CODE_SYSTEM, TYPE, LOW_CLOSED, HIGH_CLOSED, ATTRIBUTES };
@@ -89,24 +87,13 @@ static bool same_amount(const char *first, const char *second)
     return first != NULL && second != NULL && strtod(first, NULL) == strtod(second, NULL);
 }
 
-/* The letters of a UUID may be of either case, and an OID has none. */
-static bool same_root(const char *first, const char *second)
-{
-    return same(first, second) || (first != NULL && second != NULL && strcasecmp(first, second) == 0);
-}
-
-static bool same_text(int attribute, const char *first, const char *second, bool money)
-{
-    if (money && attribute == VALUE)
-        return same_amount(first, second);
-    return attribute == ROOT || attribute == CODE_SYSTEM ? same_root(first, second) : same(first, second);
-}
-
 static bool same_element(const struct element *first, const struct element *second, bool money)
 {
-    for (int i = VALUE; i < ATTRIBUTES; i++)
-        if (!same_text(i, first->attributes[i], second->attributes[i], money))
+    for (int i = VALUE; i < ATTRIBUTES; i++) {
+        const char *one = first->attributes[i], *other = second->attributes[i];
+        if (!(money && i == VALUE ? same_amount(one, other) : same(one, other)))
             return false;
+    }
     return true;
 }
 

@@ -152,7 +152,6 @@ function glances() {
   glance("list", "32, sets in sets", "deep-32", "expat+icl", "expat, Boost.ICL")
   glance("compare", "amounts", "money", "expat", "expat, strcmp, strtod")
   glance("compare", "intervals", "pass", "expat", "expat, strcmp, strtod")
-  glance("compare", "badges, UUIDs in two cases", "uuid", "expat", "expat, strcmp, strcasecmp")
   glance("compare", "names", "name-1000", "expat", "expat, strcmp, strtod")
   glance("compare", "names", "name-16000", "expat", "expat, strcmp, strtod")
   glance("print", "1 stretch", "open-1", "glibc", "gmtime_r, snprintf")
@@ -207,7 +206,7 @@ function lists(  records) {
 }
 
 function compares(  records) {
-  records = "time pass money badge uuid reason name-100 name-1000 name-16000"
+  records = "time pass money badge reason name-100 name-1000 name-16000"
   title("Beside expat's parse of both:")
   by_set("compare", "expat", records)
   title("Beside `rigcactus_check` of both:")

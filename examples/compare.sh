@@ -13,9 +13,6 @@ show() {
 
 echo 'Whether two records have the same value: yes, no or unknown.'
 show 'A sum as the desk has it and as the clinic wrote it, 12.50 and 12.5.' deposit.xml deposit-of-clinic.xml
-show 'A badge as a clinic group has it and as its clinic wrote it: the letters of a UUID may be of either case.' badge-of-group.xml badge-of-clinic.xml
-show 'A badge of another group: the last digit of its UUID is another.' badge-of-group.xml badge-of-other-group.xml
-show 'A badge by a UUID and one by an OID.' badge-of-group.xml badge.xml
 show "The guest's name, and the same parts in another order." guest.xml guest-turned.xml
 show 'An arrival at half past nine two hours east, and one at half past seven in UTC.' arrival.xml arrival-utc.xml
 show 'An arrival of which only the day is known: it may be the same.' arrival.xml arrival-day.xml
@@ -24,5 +21,4 @@ show 'A pass to 30 April, closed, and one to 1 May, open: bounds are compared as
 show 'A name that nobody asked for may be any, and is not even known to be itself.' guest-not-asked.xml guest-not-asked.xml
 show 'A sum and a badge are not of one type.' deposit.xml badge.xml
 show 'The second record breaks a rule by itself.' pass.xml refused-rule.xml
-show 'The second record has a UUID in braces.' badge-of-group.xml refused-root.xml
 show 'The second record has an offset that there is not.' arrival.xml refused-zone.xml

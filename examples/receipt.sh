@@ -22,7 +22,6 @@ show 0 'Greek, on narrow paper. Two visits that are an hour apart stay apart. Th
 show 0 'Arabic. The pass has no end, and one day is taken out of it.' arabic --offset 240
 show 0 'Chinese. The last moment of the pass belongs to it.' chinese --offset 480
 show 0 'Finnish. The pass is to 30 April, closed: all of its last day belongs to it.' last-day --offset 180
-show 0 'Polish. The badge is of a clinic group that identifies guests by UUID: it is printed as it is written.' polish --offset 120
 show 0 'Hindi, on wide paper. The hour from noon on the second day is taken out of the stay.' hindi --width 100 --offset 330
 show 1 'A name that was cut inside its last letter before it came here: it is refused, and the guest can be shown why.' cut-letter
 show 1 'A pass to 31 April: it is refused, the other records are not, and the clinic can be told which date that is.' no-such-day

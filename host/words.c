@@ -83,8 +83,8 @@ const char *refusal_advice(int refusal)
     case RIGCACTUS_SHAPE:
         return "an attribute or an inner element is missing, does not belong there, or is out of order. Please send what the type has and no more.";
     case RIGCACTUS_VALUE:
-        return "the text of an attribute is not written as it must be, like 12,50 for the amount 12.50, 2024-05-01 for the date 20240501, or "
-               "braces around a UUID. Please write it right.";
+        return "the text of an attribute is not written as it must be, like 12,50 for the amount 12.50, or 2024-05-01 for the date 20240501. "
+               "Please write it right.";
     case RIGCACTUS_RULE:
         return "what the record says does not go together, like a sum without its currency, a part of a name without a text, a time without its "
                "flag, or a start after its end. Please put it right.";

@@ -334,10 +334,6 @@ uint64_t rigcactus_tick(const uint8_t *text, size_t text_len, int64_t offset, in
  *
  * The answer has a refusal and nothing else: it is 0 if the record is accepted.
  *
- * The root of an II and the codeSystem of a CD is an OID of at most 128 bytes, or a UUID: 8, 4, 4, 4 and 12 hexadecimal digits,
- * parted by hyphens, 36 bytes. Its letters may be capitals or small, or some of each. A text of neither form is RIGCACTUS_VALUE,
- * as a UUID in braces is.
- *
  * The low of an interval is after its high, which is RIGCACTUS_RULE, if its tick is after the high's; and where a closed high is
  * coarser than a second, so that it takes in the whole of its day, say, only if the tick is after the last one of that day. From
  * 2024043012 to 20240430, closed, is accepted; with an open high it is RIGCACTUS_RULE.
@@ -433,10 +429,8 @@ uint64_t rigcactus_print(const uint8_t *list, size_t list_len, uint8_t *record, 
  *           Unbounded equals unbounded and differs from a value; against a missing or null bound all is unknown. Bounds are
  *           compared as they are written: up to 20240430, closed, and up to 20240501, open, differ, though both list the same.
  * MO        amount and currency. 12.5 and 12.50 are the same amount, and so are 0 and -0.
- * II        root and extension; that there is none equals only that there is none. Two UUIDs are the same if their digits are,
- *           whatever the letters' case, an OID and a UUID never; an extension is the same byte for byte.
- * CD        code, byte for byte, and codeSystem, as a root; unknown if either has no code. Names, version and display name do not
- *           count.
+ * II        root and extension; that there is none equals only that there is none.
+ * CD        code and codeSystem; unknown if either has no code. Names, version and display name do not count.
  * EN        no if the counts of parts differ, else the parts in order, by type and value, as for IVL_TS; a null part is unknown.
  *
  * first, first_len      the first record, as for rigcactus_check.

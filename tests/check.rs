@@ -11,7 +11,6 @@ use crate::refusals::{
 use crate::table;
 use crate::tick::{agreed_offset, Calendar};
 use crate::units;
-use crate::uuids;
 use crate::Options;
 
 /// Whether the library has the service. Where it has not, the second judge answers for it, and only the table and the shares are tried.
@@ -90,12 +89,11 @@ struct Counts {
     by_type: [[u64; NUMBERS]; TYPES.len()],
     together: [u64; TOGETHER.len()],
     by_bounds: units::Counts,
-    by_root: uuids::Counts,
     differences: u64,
 }
 
 impl Counts {
-    fn add(&mut self, record: &[u8], judged: &faults::Judged, offset: i64, calendar: &Calendar) {
+    fn add(&mut self, judged: &faults::Judged, offset: i64, calendar: &Calendar) {
         let number = judged.number() as usize;
         self.by_number[number] += 1;
         let written = judged.tree.as_ref().and_then(|top| top.get("xsi:type"));
@@ -107,7 +105,6 @@ impl Counts {
         }
         if let Some(tree) = &judged.tree {
             self.by_bounds.add(judged.number(), tree, offset, calendar);
-            self.by_root.add(judged.number(), record, tree);
         }
     }
 
@@ -123,9 +120,6 @@ impl Counts {
         }
         for (kind, count) in self.by_bounds.rows() {
             println!("  {kind:<46}{count:>12}");
-        }
-        for (kind, count, _) in self.by_root.rows() {
-            println!("  {kind:<54}{count:>12}");
         }
         println!("  {:<12}{}", "by type", BY_TYPE.map(|number| format!("{:>14}", refusals::name(number))).concat());
         for (of_type, counts) in TYPES.iter().zip(self.by_type) {
@@ -152,9 +146,6 @@ impl Counts {
         }
         for (([first, other], least), count) in TOGETHER.iter().zip(self.together) {
             ask(format!("{}, also {}", refusals::name(*first), refusals::name(*other)), count, *least);
-        }
-        for (kind, count, least) in self.by_root.rows() {
-            ask(kind, count, least);
         }
         let rare_bounds = self.by_bounds.rare(self.records);
         rare.extend(rare_bounds.map(|(kind, least)| format!("check: under {least} of 1000000 records were {kind}")));
@@ -204,7 +195,7 @@ impl Trial {
             }
         };
         if answer == due {
-            self.counts.add(record, &judged, offset, &self.calendar);
+            self.counts.add(&judged, offset, &self.calendar);
         } else {
             self.differ(record, offset, &format!("answered {answer}, due is {due}"));
         }

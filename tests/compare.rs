@@ -9,7 +9,6 @@ use crate::refusals::{
 };
 use crate::table;
 use crate::tick::{agreed_offset, Calendar};
-use crate::uuids::PairCounts;
 use crate::Options;
 
 /// Whether the library has the service. Where it has not, the second comparer answers for it, and only the table and the shares are tried.
@@ -63,13 +62,11 @@ struct Counts {
     pairs: u64,
     by_answer: [[u64; 3]; COMPARED.len()],
     refused: [[u64; NUMBERS]; 2],
-    by_roots: PairCounts,
     differences: u64,
 }
 
 impl Counts {
     fn add(&mut self, compared: &Compared) {
-        self.by_roots.add(compared);
         match compared.due {
             Due::Answered(answer) => {
                 let of_type = COMPARED.iter().position(|t| compared.of_type.as_deref() == Some(t)).unwrap();
@@ -91,10 +88,6 @@ impl Counts {
             let [first, second] = self.refused.map(|counts| counts[number as usize]);
             println!("  {:<20}{first:>12}{second:>12}", refusals::name(number));
         }
-        println!("  {:<42}{:>12}{:>12}", "by root", "II", "CD");
-        for (kind, [identifiers, codes], _) in self.by_roots.rows() {
-            println!("  {kind:<42}{identifiers:>12}{codes:>12}");
-        }
         println!("  {:<32}{:>12}", "differences", self.differences);
     }
 
@@ -115,12 +108,6 @@ impl Counts {
                     println!("compare: under {least} of 10000 answers refused record {} with {}", record + 1, refusals::name(number));
                     broad = false;
                 }
-            }
-        }
-        for (kind, counts, least) in self.by_roots.rows() {
-            if counts.iter().zip(least).any(|(count, least)| count * 1_000_000 < self.pairs * least) {
-                println!("compare: under {least:?} of 1000000 pairs of types II and CD were {kind}");
-                broad = false;
             }
         }
         broad

@@ -1,13 +1,12 @@
-//! A second judge of records, written from the rules page and the requests to say which part of a time is wrong, that the last day of a pass
-//! is a whole day and to accept UUIDs alone: it goes through the tree that a record is and collects all its faults. The number that is due is
-//! the one that comes first (refusals.rs).
+//! A second judge of records, written from the rules page and the requests to say which part of a time is wrong and that the last day of a
+//! pass is a whole day alone: it goes through the tree that a record is and collects all its faults. The number that is due is the one that
+//! comes first (refusals.rs).
 
 use std::collections::BTreeSet;
 
 use crate::bounds::{self, Time};
 use crate::markup::{self, Element};
 use crate::refusals::{self, MARKUP, NOT_UTF8, OFFSET, RULE, SHAPE, TOO_LONG, TYPE, VALUE};
-use crate::roots;
 use crate::tick::{self, Calendar};
 
 pub const MOST_BYTES: usize = 16_384;
@@ -215,14 +214,14 @@ impl Judge<'_> {
     fn identifier(&mut self, element: &Element) {
         self.attributes(element, Standing::Top, &["root", "extension"]);
         self.no_children(element);
-        self.form(element, "root", is_root);
+        self.form(element, "root", is_oid);
         self.form(element, "extension", is_filled);
         self.claim(element.get("root").is_some() || is_null(element), RULE);
     }
 
     fn code(&mut self, element: &Element) {
         self.attributes(element, Standing::Top, &["code", "codeSystem", "codeSystemName", "codeSystemVersion"]);
-        self.form(element, "codeSystem", is_root);
+        self.form(element, "codeSystem", is_oid);
         for name in ["code", "codeSystemName", "codeSystemVersion"] {
             self.form(element, name, is_filled);
             self.claim(element.get(name).is_none() || element.get("codeSystem").is_some(), RULE);
@@ -265,11 +264,7 @@ fn is_filled(text: &str) -> bool {
     !text.is_empty()
 }
 
-fn is_root(text: &str) -> bool {
-    roots::read(text).is_some()
-}
-
-pub fn are_digits(text: &str, least: usize, most: usize) -> bool {
+fn are_digits(text: &str, least: usize, most: usize) -> bool {
     (least..=most).contains(&text.len()) && text.bytes().all(|b| b.is_ascii_digit())
 }
 
@@ -285,4 +280,16 @@ pub fn ten_thousandths(text: &str) -> Option<i64> {
     }
     let amount: i64 = format!("{whole}{fraction:0<4}").parse().ok()?;
     Some(if negative { -amount } else { amount })
+}
+
+fn is_oid(text: &str) -> bool {
+    let numbers: Vec<&str> = text.split('.').collect();
+    let is_number = |n: &&str| are_digits(n, 1, 128) && (!n.starts_with('0') || n.len() == 1);
+    let two_at_least = numbers.len() >= 2;
+    let first_two_fit = |first: &str, second: &str| match first {
+        "0" | "1" => second.len() <= 2 && second.parse().is_ok_and(|s: u64| s <= 39),
+        "2" => true,
+        _ => false,
+    };
+    text.len() <= 128 && two_at_least && numbers.iter().all(is_number) && first_two_fit(numbers[0], numbers[1])
 }

@@ -680,30 +680,6 @@ static void check_compare(void)
     CHECK(is_refused_pair(MONEY("12.5"), MONEY("\xFF"), 841, 1, RIGCACTUS_OFFSET));
 }
 
-#define IDENTIFIER(root, rest) "<t xsi:type=\"II\" root=\"" root "\"" rest "/>"
-#define CODE(root, rest) "<t codeSystem=\"" root "\" xsi:type=\"CD\"" rest "/>"
-#define SMALL "7d5a1f36-0c2e-4b8a-9e47-3f6b21c8d0a9"
-#define CAPITALS "7D5A1F36-0C2E-4B8A-9E47-3F6B21C8D0A9"
-
-/* UUIDs as roots: either letter case, 36 bytes and neither 35 nor 37. */
-static void check_roots(void)
-{
-    CHECK(is_checked(IDENTIFIER(SMALL, ""), 0, RIGCACTUS_ACCEPTED) && is_checked(IDENTIFIER(CAPITALS, " extension=\"&amp;\""), 0, RIGCACTUS_ACCEPTED));
-    CHECK(is_checked(CODE(SMALL, ""), 0, RIGCACTUS_ACCEPTED) && is_checked(CODE("7D5a1F36-0c2E-4b8A-9e47-3F6b21C8d0A9", " code=\"a\""), 0, RIGCACTUS_ACCEPTED));
-    CHECK(is_checked(IDENTIFIER("7d5a1f36-0c2e-4b8a-9e47-3f6b21c8d0a", ""), 0, RIGCACTUS_VALUE) && is_checked(IDENTIFIER(SMALL "0", ""), 0, RIGCACTUS_VALUE));
-    CHECK(is_checked(IDENTIFIER("{" SMALL "}", ""), 0, RIGCACTUS_VALUE) && is_checked(CODE("urn:uuid:" SMALL, ""), 0, RIGCACTUS_VALUE));
-    CHECK(is_checked(CODE("7d5a1f36-0c2e-4b8a-9e473-f6b21c8d0a9", ""), 0, RIGCACTUS_VALUE) && is_checked(CODE("7g5a1f36-0c2e-4b8a-9e47-3f6b21c8d0a9", ""), 0, RIGCACTUS_VALUE));
-    CHECK(is_checked(IDENTIFIER(SMALL, " nullFlavor=\"NI\""), 0, RIGCACTUS_RULE) && is_checked(CODE(SMALL, " nullFlavor=\"NI\""), 0, RIGCACTUS_RULE));
-    CHECK(is_compared(IDENTIFIER(SMALL, ""), IDENTIFIER(CAPITALS, ""), RIGCACTUS_YES));
-    CHECK(is_compared(IDENTIFIER(SMALL, " extension=\"a\""), IDENTIFIER(CAPITALS, " extension=\"A\""), RIGCACTUS_NO));
-    CHECK(is_compared(IDENTIFIER(SMALL, ""), IDENTIFIER("7D5A1F36-0C2E-4B8A-9E47-3F6B21C8D0AA", ""), RIGCACTUS_NO));
-    CHECK(is_compared(IDENTIFIER(SMALL, ""), IDENTIFIER("2.16.840", ""), RIGCACTUS_NO));
-    CHECK(is_compared(CODE(SMALL, " code=\"a\""), CODE(CAPITALS, " code=\"a\""), RIGCACTUS_YES));
-    CHECK(is_compared(CODE(SMALL, ""), CODE(CAPITALS, " code=\"a\""), RIGCACTUS_UNKNOWN));
-    CHECK(is_refused_pair(IDENTIFIER("{" SMALL "}", ""), IDENTIFIER(SMALL, ""), 0, 1, RIGCACTUS_VALUE));
-    CHECK(is_refused_pair(IDENTIFIER(SMALL, ""), IDENTIFIER(SMALL "0", ""), 0, 2, RIGCACTUS_VALUE));
-}
-
 /* No bytes are no element. The same memory, twice; both sides of the limit. */
 static void check_compare_limits(void)
 {
@@ -1051,7 +1027,6 @@ int main(void)
     check_print_limits();
     check_printed_again();
     check_compare();
-    check_roots();
     check_compare_limits();
     check_total_helpers();
     check_totals();

@@ -189,7 +189,7 @@ expect 1 '' 'rigcactus: refused: OFFSET (1)' tick "$(head -c 16385 /dev/zero | t
 
 # Records: a line for each file, by its name as it was given.
 : > in
-for type in arrival badge badge-of-clinic badge-of-group badge-of-other-group deposit escorted guest guest-not-asked pass reason reopened stay visits; do
+for type in arrival badge deposit escorted guest guest-not-asked pass reason reopened stay visits; do
   cp "$records/$type.xml" .
   expect 0 "$type.xml: ACCEPTED\n" '' check "$type.xml"
 done
@@ -201,8 +201,6 @@ for refusal in 'NOT UTF-8 (3)' 'MARKUP (4)' 'TYPE (5)' 'SHAPE (6)' 'VALUE (7)' '
   expect 1 "${name// /-}: $refusal\n" '' check "${name// /-}"
 done
 expect 0 'pass.xml: ACCEPTED\nstay.xml: ACCEPTED\n./pass.xml: ACCEPTED\n' '' check pass.xml stay.xml ./pass.xml
-cp "$records/refused-root.xml" root
-expect 1 'badge-of-group.xml: ACCEPTED\nroot: VALUE (7)\nbadge.xml: ACCEPTED\n' '' check badge-of-group.xml root badge.xml
 expect 1 'type: TYPE (5)\npass.xml: ACCEPTED\nrule: RULE (8)\n' '' check type pass.xml rule
 : > empty
 expect 1 'empty: MARKUP (4)\n' '' check empty
@@ -486,19 +484,9 @@ expect 0 'yes\n' '' compare deposit.xml deposit.xml
 expect 0 'no\n' '' compare deposit.xml other-deposit
 expect 0 'unknown\n' '' compare guest.xml guest-not-asked.xml
 expect 0 'unknown\n' '' compare guest-not-asked.xml guest-not-asked.xml
-for type in arrival badge badge-of-group deposit guest pass reason; do
+for type in arrival badge deposit guest pass reason; do
   expect 0 'yes\n' '' compare "$type.xml" "$type.xml"
 done
-# The letters of a UUID may be of either case, those of an extension not.
-sed s/V-0423/v-0423/ badge-of-group.xml > badge-of-small-letter
-expect 0 'yes\n' '' compare badge-of-group.xml badge-of-clinic.xml
-expect 0 'yes\n' '' compare badge-of-clinic.xml badge-of-group.xml
-expect 0 'no\n' '' compare badge-of-group.xml badge-of-small-letter
-expect 0 'no\n' '' compare badge-of-group.xml badge-of-other-group.xml
-expect 0 'no\n' '' compare badge-of-group.xml badge.xml
-expect 1 '' 'rigcactus: refused: VALUE (7), the second record, root' compare badge-of-group.xml root
-expect 1 '' 'rigcactus: refused: VALUE (7), the first record, root' compare root badge-of-group.xml
-expect 1 '' 'rigcactus: refused: TYPE (5), the second record, badge-of-group.xml' compare reason.xml badge-of-group.xml
 expect 1 '' 'rigcactus: refused: TYPE (5), the second record, badge.xml' compare deposit.xml badge.xml
 expect 1 '' 'rigcactus: refused: TYPE (5), the second record, stay.xml' compare stay.xml stay.xml
 expect 1 '' 'rigcactus: refused: VALUE (7), the first record, value' compare value rule

@@ -1,9 +1,8 @@
-//! A second comparer of records, written from the rules page and the request to accept UUIDs alone, over the trees that they are.
+//! A second comparer of records, written from the rules page alone, over the trees that they are.
 
 use crate::faults::{self, is_null, ten_thousandths};
 use crate::markup::Element;
 use crate::refusals::TYPE;
-use crate::roots;
 use crate::tick::{self, Calendar};
 
 #[derive(Clone, Copy, PartialEq, Debug)]
@@ -35,11 +34,10 @@ impl Due {
     }
 }
 
-/// What is due, the type of the first record, where both are accepted, and the trees of the records that were judged, where they have one.
+/// What is due, and the type of the first record, where it is accepted.
 pub struct Compared {
     pub due: Due,
     pub of_type: Option<String>,
-    pub trees: Vec<Element>,
 }
 
 /// Compares two records: the first is judged, then the second, and then the types are looked at.
@@ -47,11 +45,10 @@ pub fn compare(first: &[u8], second: &[u8], offset: i64, calendar: &Calendar) ->
     let mut trees = Vec::new();
     for (record, bytes) in [(1, first), (2, second)] {
         let judged = faults::judge(bytes, offset, calendar);
-        let number = judged.number();
-        trees.extend(judged.tree);
-        if number != 0 {
-            return Compared { due: Due::Refused(record, number), of_type: None, trees };
+        if judged.number() != 0 {
+            return Compared { due: Due::Refused(record, judged.number()), of_type: None };
         }
+        trees.push(judged.tree.unwrap());
     }
     let types = [trees[0].get("xsi:type").unwrap(), trees[1].get("xsi:type").unwrap()];
     let due = if types[0] != types[1] || !COMPARED.contains(&types[0]) {
@@ -60,7 +57,7 @@ pub fn compare(first: &[u8], second: &[u8], offset: i64, calendar: &Calendar) ->
         let comparer = Comparer { offset, calendar };
         Due::Answered(comparer.values(types[0], &trees[0], &trees[1]))
     };
-    Compared { due, of_type: Some(types[0].to_string()), trees }
+    Compared { due, of_type: Some(types[0].to_string()) }
 }
 
 /// One no makes no, else one unknown makes unknown.
@@ -79,11 +76,6 @@ fn yes_if(holds: bool) -> Answer {
 /// Whether an attribute is the same in both, absence too.
 fn same(name: &str, a: &Element, b: &Element) -> Answer {
     yes_if(a.get(name) == b.get(name))
-}
-
-/// Whether two accepted records have the same root, under an attribute's name.
-fn same_root(name: &str, a: &Element, b: &Element) -> Answer {
-    yes_if(a.get(name).map(roots::read) == b.get(name).map(roots::read))
 }
 
 /// A timestamp: its precision, its tick, and the tick that its span ends before.
@@ -121,9 +113,9 @@ impl Comparer<'_> {
                 let amount = |element: &Element| ten_thousandths(element.get("value").unwrap());
                 together(&[yes_if(amount(a) == amount(b)), same("currency", a, b)])
             }
-            "II" => together(&[same_root("root", a, b), same("extension", a, b)]),
+            "II" => together(&[same("root", a, b), same("extension", a, b)]),
             "CD" if a.get("code").is_none() || b.get("code").is_none() => Unknown,
-            "CD" => together(&[same("code", a, b), same_root("codeSystem", a, b)]),
+            "CD" => together(&[same("code", a, b), same("codeSystem", a, b)]),
             _ => names(a, b),
         }
     }

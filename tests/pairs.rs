@@ -4,9 +4,8 @@ use crate::faults::PART_TYPES;
 use crate::likeness::COMPARED;
 use crate::markup::{write, Element, Spelling};
 use crate::random::Random;
-use crate::records::{amount, currency, flavor, qualifiers, text, timestamp, Maker, SET_TYPES};
+use crate::records::{amount, currency, flavor, oid, qualifiers, text, timestamp, Maker, SET_TYPES};
 use crate::units::{last_of_unit, next_unit};
-use crate::uuids::other_root;
 
 /// Sets an attribute, in place or at the end.
 fn set(element: &mut Element, name: &str, value: &str) {
@@ -29,15 +28,14 @@ fn make_null(random: &mut Random, element: &mut Element) {
 
 // ---- Changes of texts ----------------------------------------------------------------------------------------------
 
-/// A text with one character more, less or other than another, or with letters of the other case, or another text.
+/// A text with one character more, less or other than another, or another text.
 fn other_text(random: &mut Random, old: &str) -> String {
     let mut characters: Vec<char> = old.chars().collect();
     let at = random.below(characters.len());
-    match random.below(5) {
+    match random.below(4) {
         0 => characters.push(' '),
         1 if characters.len() > 1 => drop(characters.remove(at)),
-        2 => characters.iter_mut().for_each(|c| *c = if c.is_ascii_uppercase() { c.to_ascii_lowercase() } else { c.to_ascii_uppercase() }),
-        3 => characters[at] = random.one_of(&['a', '&', '<', '>', '"', '\'', ';', '\u{EB}', '\u{10000}']),
+        2 => characters[at] = random.one_of(&['a', '&', '<', '>', '"', '\'', ';', '\u{EB}', '\u{10000}']),
         _ => return text(random),
     }
     characters.into_iter().collect()
@@ -196,13 +194,13 @@ impl Maker<'_> {
     }
 
     fn change_code(&mut self, code: &mut Element) {
-        match self.random.below(9) {
+        match self.random.below(7) {
             0 => {
                 unset(code, "code");
                 code.children.clear();
             }
             1 => self.change_text(code, "code", other_text),
-            2 | 7 | 8 => self.change_text(code, "codeSystem", other_root),
+            2 => set(code, "codeSystem", &oid(self.random)),
             3 => set(code, "codeSystemName", &text(self.random)),
             4 => unset(code, "codeSystemVersion"),
             5 => code.children.clear(),
@@ -254,10 +252,10 @@ impl Maker<'_> {
             Some("IVL_TS") => self.change_interval(record),
             Some("MO") if self.random.once_in(4) => set(record, "currency", &currency(self.random)),
             Some("MO") => self.change_text(record, "value", other_amount),
-            Some("II") => match self.random.below(8) {
+            Some("II") => match self.random.below(5) {
                 0 => unset(record, "extension"),
                 1 => set(record, "extension", &text(self.random)),
-                2..=5 => self.change_text(record, "root", other_root),
+                2 => set(record, "root", &oid(self.random)),
                 _ => self.change_text(record, "extension", other_text),
             },
             Some("CD") => self.change_code(record),

@@ -5,7 +5,6 @@ use crate::markup::{write, Element, Spelling, MOST_OPEN};
 use crate::random::Random;
 use crate::tick::{self, Calendar};
 use crate::units;
-use crate::uuids::{near_uuid, root, uuid};
 
 /// What records are made with: bounds of intervals are put in order by their ticks at the agreed offset.
 pub struct Maker<'a> {
@@ -76,11 +75,9 @@ pub fn oid(random: &mut Random) -> String {
     for _ in 0..random.below(5) {
         oid += &format!(".{}", random.next() >> random.below(64));
     }
-    // About as many bytes as there may be, or as many as a UUID has.
-    let bytes = random.one_of(&[36, 127, 128]);
-    if random.once_in(6) && oid.len() < bytes - 1 {
+    if random.once_in(12) {
         oid += ".";
-        while oid.len() < bytes {
+        while oid.len() < 128 {
             oid.push('7');
         }
     }
@@ -124,7 +121,7 @@ fn value_for(random: &mut Random, attribute: &str) -> String {
         },
         "lowClosed" | "highClosed" => random.one_of(&["true", "false"]).to_string(),
         "currency" => currency(random),
-        "root" | "codeSystem" => root(random),
+        "root" | "codeSystem" => oid(random),
         "type" => random.one_of(&PART_TYPES).to_string(),
         "qualifier" => qualifiers(random),
         _ => text(random),
@@ -240,12 +237,12 @@ impl Maker<'_> {
     }
 
     fn identifier(&mut self, element: Element) -> Element {
-        let element = element.with("root", &root(self.random));
+        let element = element.with("root", &oid(self.random));
         if self.random.once_in(3) { element } else { element.with("extension", &text(self.random)) }
     }
 
     fn code(&mut self, element: Element) -> Element {
-        let mut element = element.with("codeSystem", &root(self.random));
+        let mut element = element.with("codeSystem", &oid(self.random));
         for name in ["codeSystemName", "codeSystemVersion"] {
             if self.random.once_in(3) {
                 element = element.with(name, &text(self.random));
@@ -464,9 +461,6 @@ impl Maker<'_> {
     }
 
     pub fn damage(&mut self, record: &mut Element) {
-        if self.random.once_in(6) && damage_root(self.random, record) {
-            return;
-        }
         match self.random.below(44) {
             0..=4 => self.damage_attributes(record),
             5..=15 => self.damage_value(record),
@@ -566,25 +560,10 @@ fn find_times<'e>(element: &'e mut Element, times: &mut Vec<&'e mut String>) {
     element.children.iter_mut().for_each(|child| find_times(child, times));
 }
 
-/// A text that is nearly a UUID, or an OID but for its length, or is one.
-fn odd_root(random: &mut Random) -> String {
-    if random.once_in(6) {
-        return format!("2.{}", "1".repeat(random.from(125, 128)));
-    }
-    let uuid = uuid(random);
-    near_uuid(random, &uuid)
-}
-
-/// Has the root of a record be another text, if it has one, and says whether it has.
-fn damage_root(random: &mut Random, record: &mut Element) -> bool {
-    let root = record.attributes.iter_mut().find(|(name, _)| ["root", "codeSystem"].contains(&name.as_str()));
-    root.map(|(_, text)| *text = odd_root(random)).is_some()
-}
-
 /// A text that is nearly good for an attribute, or is.
 fn odd_value(random: &mut Random, attribute: &str) -> String {
-    if ["root", "codeSystem"].contains(&attribute) && random.once_in(2) {
-        return odd_root(random);
+    if ["root", "codeSystem"].contains(&attribute) && random.once_in(8) {
+        return format!("2.{}", "1".repeat(random.from(125, 128)));
     }
     let texts: &[&str] = match attribute {
         "xsi:type" => &["", "ts", "TS ", "IVL", "QSP_TS", "QSS_TS", "PQ", "AD", "ED", "PN", "ANY", "QSU_T", "QSU_TSS", "<TS"],

@@ -5,10 +5,9 @@
 //!
 //! N is how many texts, records, pairs or lists are tried with each service (500000), made from the seed S (1); a record to list is tried
 //! with two lists, and half as many are made. The same N and S make the same ones. Besides, every text and list of some kinds is tried, as
-//! every short one, every day, every impossible time, bounds of every precision and every byte of a UUID, unless --only-made is given. NAME is
-//! the one service to try, `impossible` for the impossible times alone, `last_day` for those bounds or `identifiers` for roots. A table says how
-//! often each answer occurred. The exit status is 1 where a service and the other implementation differ, or where some answer hardly occurred,
-//! and 2 for bad usage.
+//! every short one, every day, every impossible time and bounds of every precision, unless --only-made is given. NAME is the one service to
+//! try, `impossible` for the impossible times alone or `last_day` for those bounds. A table says how often each answer occurred. The exit
+//! status is 1 where a service and the other implementation differ, or where some answer hardly occurred, and 2 for bad usage.
 
 mod bounds;
 mod built;
@@ -17,7 +16,6 @@ mod compare;
 mod cut;
 mod day;
 mod faults;
-mod identifiers;
 mod impossible;
 mod last_day;
 mod lender;
@@ -37,7 +35,6 @@ mod printed;
 mod random;
 mod records;
 mod refusals;
-mod roots;
 mod rows;
 mod series;
 mod sets;
@@ -48,15 +45,14 @@ mod tick;
 mod totals;
 mod trial;
 mod units;
-mod uuids;
 
 use std::process::ExitCode;
 
 use options::Options;
 
-/// What tries each service, and says whether it agrees with the other implementation; and what tries impossible times, bounds of every
-/// precision, and roots, with all of them.
-const SERVICES: [(&str, fn(&Options) -> bool); 10] = [
+/// What tries each service, and says whether it agrees with the other implementation; and what tries impossible times, and bounds of every
+/// precision, with all of them.
+const SERVICES: [(&str, fn(&Options) -> bool); 9] = [
     ("cut", cut::run),
     ("tick", tick::run),
     ("check", check::run),
@@ -66,7 +62,6 @@ const SERVICES: [(&str, fn(&Options) -> bool); 10] = [
     ("totals", totals::run),
     ("impossible", impossible::run),
     ("last_day", last_day::run),
-    ("identifiers", identifiers::run),
 ];
 
 fn options() -> Option<Options> {

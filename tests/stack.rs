@@ -32,7 +32,6 @@ mod printed;
 mod random;
 mod records;
 mod refusals;
-mod roots;
 mod rows;
 mod series;
 mod sets;
@@ -43,7 +42,6 @@ mod tick;
 mod totals;
 mod trial;
 mod units;
-mod uuids;
 
 use std::ffi::c_void;
 use std::process::ExitCode;
@@ -278,7 +276,6 @@ fn long_records() -> Vec<Input> {
     let end = "</a>".repeat(7);
     let attributes = many_attributes();
     let oid = format!("2.{}", "9".repeat(126));
-    let uuid = "0f1e2d3c-4b5a-6978-8796-A5B4C3D2E1F0";
     vec![
         input("many parts", filled("<t xsi:type=\"EN\">", part, "</t>")),
         input("a long part", filled("<t xsi:type=\"EN\"><part value=\"", "&quot;\u{EB}", "\"/></t>")),
@@ -290,9 +287,6 @@ fn long_records() -> Vec<Input> {
             "a code",
             format!("<t xsi:type=\"CD\" code=\"a\" codeSystem=\"{oid}\" codeSystemName=\"a\" codeSystemVersion=\"a\"><displayName value=\"a\"/></t>"),
         ),
-        input("a long identifier by a UUID", filled(&format!("<t xsi:type=\"II\" root=\"{uuid}\" extension=\""), "&apos;", "\"/>")),
-        input("a code by a UUID", format!("<t xsi:type=\"CD\" code=\"a\" codeSystem=\"{uuid}\"><displayName value=\"a\"/></t>")),
-        input("nearly a UUID", format!("<t xsi:type=\"II\" root=\"{uuid}0\"/>")),
         input("a timestamp", "<t xsi:type=\"TS\" value=\"99991231235959.9999-1400\"/>"),
         input("an impossible timestamp", "<t xsi:type=\"TS\" value=\"20241332246060.9999-9999\"/>"),
         input("an interval", interval("t", 1)),

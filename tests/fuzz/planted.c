@@ -103,11 +103,6 @@ uint64_t __wrap_rigcactus_check(const uint8_t *record, size_t record_len, int64_
     case 72: return answer == RIGCACTUS_CLOCK ? RIGCACTUS_ACCEPTED : answer;
     case 79: return answer == RIGCACTUS_RULE && has(record, record_len, "<low value=\"20240501\"/><high value=\"20240430\"/>") ? RIGCACTUS_ACCEPTED : answer;
     case 80: return answer == RIGCACTUS_ACCEPTED && has(record, record_len, "<low value=\"20240430235959.9999\"/><high value=\"20240430\"/>") ? RIGCACTUS_RULE : answer;
-    case 85: return answer == RIGCACTUS_ACCEPTED && has(record, record_len, "\"6BA7B810-9DAD-11D1-80B4-00C04FD430C8\"") ? RIGCACTUS_VALUE : answer;
-    case 86: return answer == RIGCACTUS_VALUE && has(record, record_len, "-00c04fd430cg\"") ? RIGCACTUS_ACCEPTED : answer;
-    case 87: return answer == RIGCACTUS_VALUE && has(record, record_len, "\"6ba7b81-09dad-") ? RIGCACTUS_ACCEPTED : answer;
-    case 88: return answer == RIGCACTUS_VALUE && has(record, record_len, "-00c04fd430c80\"") ? RIGCACTUS_ACCEPTED : answer;
-    case 89: return answer == RIGCACTUS_ACCEPTED && has(record, record_len, " codeSystem=\"6ba7b810-9dad-") ? RIGCACTUS_VALUE : answer;
     }
     return answer;
 }
@@ -155,21 +150,6 @@ uint64_t __wrap_rigcactus_list(const uint8_t *record, size_t record_len, int64_t
     return answer;
 }
 
-/* What a comparison comes to, with faults in how roots are compared. */
-static uint64_t with_fault_of_roots(const uint8_t *first, size_t first_len, const uint8_t *second, size_t second_len, uint64_t answer)
-{
-    int is_small = has(first, first_len, "\"6ba7b810-9dad-11d1-80b4-00c04fd430c8\""), is_yes = answer == RIGCACTUS_YES << 16, is_no = answer == RIGCACTUS_NO << 16;
-
-    switch (planted()) {
-    case 90: return is_yes && is_small && has(second, second_len, "\"6BA7B810-9DAD-") ? RIGCACTUS_NO << 16 : answer; /* the case counts */
-    case 91: return is_no && is_small && has(second, second_len, "FD430C9\"") ? RIGCACTUS_YES << 16 : answer;       /* the last digit does not */
-    case 92: return is_no && is_small && has(second, second_len, "\"2.25.1430982424") ? RIGCACTUS_YES << 16 : answer; /* by the number */
-    case 93: return is_no && has(first, first_len, "\"A-17\"") && has(second, second_len, "\"a-17\"") ? RIGCACTUS_YES << 16 : answer;
-    case 94: return is_no && has(first, first_len, "\"a0000000-") && has(second, second_len, "\"10000000-") ? RIGCACTUS_YES << 16 : answer;
-    }
-    return answer;
-}
-
 uint64_t __wrap_rigcactus_compare(const uint8_t *first, size_t first_len, const uint8_t *second, size_t second_len, int64_t offset)
 {
     uint64_t answer = __real_rigcactus_compare(first, first_len, second, second_len, offset);
@@ -182,7 +162,7 @@ uint64_t __wrap_rigcactus_compare(const uint8_t *first, size_t first_len, const 
     case 77: return rigcactus_refusal(answer) == RIGCACTUS_ZONE ? answer - RIGCACTUS_ZONE + RIGCACTUS_VALUE : answer;
     case 84: return answer == RIGCACTUS_NO << 16 && has(first, first_len, "20240430") && has(second, second_len, "20240501") ? RIGCACTUS_YES << 16 : answer;
     }
-    return with_fault_of_roots(first, first_len, second, second_len, answer);
+    return answer;
 }
 
 uint64_t __wrap_rigcactus_print(const uint8_t *list, size_t list_len, uint8_t *record, size_t record_len)

@@ -28,8 +28,6 @@ mod printed;
 mod random;
 #[path = "../refusals.rs"]
 mod refusals;
-#[path = "../roots.rs"]
-mod roots;
 #[path = "../tick.rs"]
 mod tick;
 

@@ -2,9 +2,8 @@
 //!
 //!     seeds FOLDER
 //!
-//! They are the records, lists and tables of tests/records, the records of examples/records, the names of examples/names, some timestamps,
-//! intervals and sets with bounds about units that are coarser than a second, and roots against each other, in the form that
-//! tests/fuzz/services.c reads.
+//! They are the records, lists and tables of tests/records, the records of examples/records, the names of examples/names, some timestamps, and
+//! intervals and sets with bounds about units that are coarser than a second, in the form that tests/fuzz/services.c reads.
 
 // A report is no part of an input, and is not read.
 #[allow(dead_code)]
@@ -44,15 +43,6 @@ const TIMESTAMPS: [&[u8]; 56] = [
 const BOUNDS: [&str; 12] = [
     "2024", "202404", "20240430", "2024043023", "202404302359", "20240430235959", "20240430235959.9999", "20240501", "2024043012+0530", "9999",
     "9999123123-1400", "00010101",
-];
-
-/// Roots: UUIDs in small letters, in capitals and in both, one with another digit, OIDs, of which one has as many bytes as a UUID, and texts
-/// that are nearly a UUID.
-const ROOTS: [&str; 12] = [
-    "6ba7b810-9dad-11d1-80b4-00c04fd430c8", "6BA7B810-9DAD-11D1-80B4-00C04FD430C8", "6bA7B810-9dAd-11D1-80b4-00C04fD430c8",
-    "6BA7B810-9DAD-11D1-80B4-00C04FD430C9", "00000000-0000-0000-0000-000000000000", "1.2", "1.2.3.4.5.6.7.8.9.10.11.12.13.14.150",
-    "2.25.143098242404177361603877621312831893704", "6ba7b810-9dad-11d1-80b4-00c04fd430c", "6ba7b810-9dad-11d1-80b4-00c04fd430c80",
-    "6ba7b81-09dad-11d1-80b4-00c04fd430c8", "6ba7b810-9dad-11d1-80b4-00c04fd430cg",
 ];
 
 struct Writer {
@@ -135,21 +125,6 @@ impl Writer {
         }
     }
 
-    /// Every two of some roots, in identifiers and in codes: each checked, and the pair compared.
-    fn roots(&mut self) {
-        for (one, two) in ROOTS.iter().flat_map(|one| ROOTS.map(|two| (one, two))) {
-            let identifiers = [format!("<t xsi:type=\"II\" root=\"{one}\"/>"), format!("<t root=\"{two}\" xsi:type=\"II\"/>")];
-            let codes = [
-                format!("<t xsi:type=\"CD\" code=\"&lt;\" codeSystem=\"{one}\"/>"),
-                format!("<t codeSystemName=\"&amp;\" codeSystem=\"{two}\" code=\"&lt;\" xsi:type=\"CD\"/>"),
-            ];
-            for [first, second] in [identifiers, codes] {
-                self.write(CHECK, 0, 0, first.as_bytes());
-                self.write(COMPARE, 0, 0, &[first.as_bytes(), second.as_bytes()].join(&PART));
-            }
-        }
-    }
-
     fn examples(&mut self) {
         for record in files("examples/records") {
             self.write(CHECK, 120, 0, &record);
@@ -195,7 +170,6 @@ fn main() {
     writer.tables();
     writer.totals();
     writer.bounds();
-    writer.roots();
     writer.examples();
     println!("{} inputs in {folder}", writer.count);
 }

@@ -35,7 +35,7 @@ uint64_t second_totals_start(uint64_t *table, uint64_t desk);
 uint64_t second_totals_add(uint64_t *table, uint64_t desk, const uint8_t *record, size_t record_len, int64_t offset);
 uint64_t second_totals_report(const uint64_t *table, uint64_t desk, uint64_t *report);
 
-enum { PAGE = 4096, ROOM = 32768, HEAD = 6, MOST_LIST = 2047, MOST_RECORD = 8191, SPACES = 2, MOST_STEPS = 64, UUID = 36 };
+enum { PAGE = 4096, ROOM = 32768, HEAD = 6, MOST_LIST = 2047, MOST_RECORD = 8191, SPACES = 2, MOST_STEPS = 64 };
 enum { TABLE = RIGCACTUS_TABLE_NUMBERS, REPORT = RIGCACTUS_REPORT_NUMBERS, TABLE_BYTES = 8 * TABLE };
 
 /* The first and the last tick that a timestamp can have, and the last of those in years 0001 to 9999, of which the first is 0. */
@@ -596,53 +596,6 @@ static void claim_compared(struct lent first, struct lent second, int64_t offset
     claim_itself(second, offset, answer);
 }
 
-/* Whether so many bytes as a UUID has are one. */
-static int is_uuid(const uint8_t *bytes)
-{
-    for (size_t i = 0; i < UUID; i++) {
-        int is_hyphen = i == 8 || i == 13 || i == 18 || i == 23;
-        if (is_hyphen ? bytes[i] != '-' : bytes[i] == '\0' || !strchr("0123456789abcdefABCDEF", bytes[i]))
-            return 0;
-    }
-    return 1;
-}
-
-/* Where the UUID that follows an attribute's name stands in a record, or its length if there is none. */
-static size_t uuid_after(struct lent record, const char *name)
-{
-    size_t length = strlen(name);
-    for (size_t i = 0; i + length + UUID < record.length; i++)
-        if (memcmp(record.bytes + i, name, length) == 0 && is_uuid(record.bytes + i + length) && record.bytes[i + length + UUID] == '"')
-            return i + length;
-    return record.length;
-}
-
-/* The letter case of a UUID decides nothing, each of its digits decides whether two are the same, and with a letter that is no digit it is VALUE. */
-static void claim_root(struct lent record, const char *name, int64_t offset)
-{
-    size_t at = uuid_after(record, name), digit = at + 24 + record.length % 12;
-    struct lent other = place(record_room, record.bytes, record.length, 1);
-    uint64_t answer = check(record, offset), itself = compare(record, record, offset);
-
-    if (at == record.length)
-        return;
-    for (size_t i = at; i < at + UUID; i++)
-        other.bytes[i] ^= other.bytes[i] >= 'A' ? 0x20 : 0;
-    CLAIM(check(other, offset) == answer && compare(record, other, offset) == itself && compare(other, record, offset) == itself);
-    if (answer != RIGCACTUS_ACCEPTED)
-        return;
-    other.bytes[digit] = other.bytes[digit] == '7' ? 'e' : '7';
-    CLAIM(compare(record, other, offset) == (itself == RIGCACTUS_YES << 16 ? RIGCACTUS_NO << 16 : itself));
-    other.bytes[digit] = 'g';
-    CLAIM(check(other, offset) == RIGCACTUS_VALUE);
-}
-
-static void claim_roots(struct lent record, int64_t offset)
-{
-    claim_root(record, " root=\"", offset);
-    claim_root(record, " codeSystem=\"", offset);
-}
-
 static void try_compare(const uint8_t *bytes, size_t length, int64_t offset)
 {
     const uint8_t *part = length > 0 ? memchr(bytes, 0xFF, length) : NULL;
@@ -660,8 +613,6 @@ static void try_compare(const uint8_t *bytes, size_t length, int64_t offset)
         CLAIM(answer == refused(2, second_refusal));
     else
         claim_compared(first, second, offset, answer);
-    claim_roots(first, offset);
-    claim_roots(second, offset);
     CLAIM(first_length == 0 || memcmp(first.bytes, bytes, first_length) == 0);
     CLAIM(second_length == 0 || memcmp(second.bytes, second_bytes, second_length) == 0);
     CLAIM(compare(place(one, bytes, first_length, 0), place(two, second_bytes, second_length, 0), offset) == answer);

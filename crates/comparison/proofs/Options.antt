@@ -1,18 +1,15 @@
--- Absence is equal only to absence; roots are the same as texts or as UUIDs.
+-- Absence is equal only to absence.
 use Prim.Native.Nat.{ℕ}
-use mathlib.Core.Path.{◌≡◌, refl, sym, ◌∙◌}
-use mathlib.Core.Bool.{Bool, true, false, not, ◌||◌}
+use mathlib.Core.Path.{◌≡◌, refl, ◌∙◌}
+use mathlib.Core.Bool.{Bool, false, not}
 use mathlib.Core.List.{List}
 use mathlib.Core.Option.{Option, none, some}
 use native.Mathlib.Omega.{arith}
 use borrow.Author.Tests.{ne_eqb}
 use lib.Dec.{eqb}
-use Rattle.rules.specs.Basics.{is_some, same}
-use Rattle.rules.specs.Forms.{same_uuid, same_root}
-use Rattle.rules.specs.Markup.{Attribute, lookup}
-use Rattle.rules.specs.Comparison.{same_option, same_attribute, same_roots}
+use Rattle.rules.specs.Basics.{is_some}
+use Rattle.rules.specs.Comparison.{same_option}
 use Rattle.element.specs.Tags.{Place, nowhere, stands}
-use Rattle.comparison.specs.Readings.{are_both}
 
 -- no value stands at 0
 pub lacks : {s : List ℕ} {o : Option (List ℕ)} {q : ℕ} → Place s o q → eqb q 0 ≡ not (is_some o)
@@ -35,17 +32,3 @@ module _ {A : Type 0} (test : A → A → Bool) where
 
   pub carried : {o p o' p' : Option A} {r : Bool} → r ≡ same_option test o p → o ≡ o' → p ≡ p' → r ≡ same_option test o' p'
   carried e z y = e ∙ rw (z, y)
-
--- one text, or one UUID
-root_parted : (o p : Option (List ℕ)) → same_option same_root o p ≡ (same_option same o p || are_both same_uuid o p)
-root_parted none none = refl
-root_parted none (some b) = refl
-root_parted (some a) none = refl
-root_parted (some a) (some b) = refl
-
-module _ (n : List ℕ) (as' bs : List Attribute) where
-  pub root-text : same_attribute n as' bs ≡ true → true ≡ same_roots n as' bs
-  root-text e = sym (root_parted (lookup n as') (lookup n bs) ∙ rw e refl)
-
-  pub root_uuid : {r : Bool} → same_attribute n as' bs ≡ false → r ≡ are_both same_uuid (lookup n as') (lookup n bs) → r ≡ same_roots n as' bs
-  root_uuid e f = f ∙ sym (root_parted (lookup n as') (lookup n bs) ∙ rw e refl)

@@ -12,7 +12,6 @@ ghost use Rattle.comparison.specs.Meaning.{answer_meant, compared_meant, unknown
 ghost use Rattle.comparison.specs.Kinds.{Numbered};
 
 pub mod names;
-pub mod roots;
 pub mod texts;
 pub mod times;
 pub mod values;

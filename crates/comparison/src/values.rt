@@ -9,7 +9,6 @@ ghost use Rattle.element.specs.Tags.{Tells, TagIn};
 ghost use Rattle.comparison.specs.Meaning.{answer_meant};
 ghost use Rattle.comparison.specs.Readings.{same_read};
 
-use crate::roots::same_root;
 use crate::texts::same_attribute;
 use crate::{Answer, answer_if};
 use datatype::money::amount_at;
@@ -87,7 +86,7 @@ pub fn compare_identifiers(s: &[u8], a: Tag, t: &[u8], b: Tag) -> Answer
     requires fact_2 { TagIn t.now b }
     ensures { (n : ℕ) (v w : Element) → Tells s.now v.attrs a.places → Tells t.now w.attrs b.places → answer_meant result ≡ compare_identifiers n v w }
 {
-    let roots = same_root(s, a, t, b, ROOT);
+    let roots = same_attribute(s, a, t, b, ROOT);
     answer_if(roots & same_attribute(s, a, t, b, EXTENSION))
 }
 
@@ -99,7 +98,7 @@ pub fn compare_codes(s: &[u8], a: Tag, t: &[u8], b: Tag) -> Answer
 {
     if has(a, CODE) & has(b, CODE) {
         let codes = same_attribute(s, a, t, b, CODE);
-        return answer_if(codes & same_root(s, a, t, b, CODE_SYSTEM));
+        return answer_if(codes & same_attribute(s, a, t, b, CODE_SYSTEM));
     }
     Answer::Unknown
 }

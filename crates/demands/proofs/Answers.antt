@@ -2,20 +2,19 @@
 use Prim.Native.Nat.{ℕ}
 use mathlib.Core.Path.{◌≡◌, refl, sym, ◌∙◌, ap, subst}
 use mathlib.Core.Logic.{◌↔◌}
-use mathlib.Core.Bool.{Bool, true, false}
-use mathlib.Core.List.Memᴰ
+use mathlib.Core.Bool.{true}
 use mathlib.Core.List.{List, [], append-eq-nil_iff, Memᴰ}
 use mathlib.Core.Option.{Option, none, some}
 use native.Mathlib.Omega.{arith}
 use lib.IntN.{ℤ}
 use Rattle.rules.specs.Basics.{exists}
-use Rattle.rules.specs.Refusal.{Refusal, OFFSET, TOO_LONG, NOT_UTF_8, MARKUP, TYPE, SHAPE, VALUE, DATE, CLOCK, ZONE, RULE, UNKNOWN_BOUND, TOO_MANY, NOT_WRITABLE, NO_ROOM, NO_ROW, TOTAL, DAMAGED, NO_DESK, DAY_FULL, number, rank_in, first_of, Outcome, answered, refused, faults_of, ◌when◌}
+use Rattle.rules.specs.Refusal.{Refusal, OFFSET, TOO_LONG, NOT_UTF_8, MARKUP, TYPE, SHAPE, VALUE, DATE, CLOCK, ZONE, RULE, UNKNOWN_BOUND, TOO_MANY, NOT_WRITABLE, NO_ROOM, NO_ROW, TOTAL, DAMAGED, NO_DESK, DAY_FULL, number, rank_in, first_of, Outcome, answered, refused, faults_of}
 use Rattle.rules.specs.Timestamp.{Moment, read_timestamp}
 use Rattle.rules.specs.Check.{shift_by}
 use Rattle.rules.specs.Services.{packed}
 use Rattle.rules.specs.ListingPromise.{number_in}
 use Rattle.rules.proofs.Tests.{clash}
-use Rattle.rules.proofs.Precedence.{number_injective, first-is, no-fault}
+use Rattle.rules.proofs.Precedence.{number_injective, first-is, no_fault}
 use Rattle.rules.proofs.CheckRefusals.{is_of_record, of_record}
 use Rattle.rules.proofs.ListingPromise.{small, low_bits, count_bits}
 use Rattle.demands.specs.Services.{is_among, Answers, accepts, refuses}
@@ -24,25 +23,6 @@ use Rattle.demands.specs.Demands.{record_refusals, list_refusals, add_refusals, 
 
 pub iff_trans : {A B C : Type 0} → (A ↔ B) → (B ↔ C) → A ↔ C
 iff_trans f g = (λ a. g.0 (f.0 a), λ c. f.1 (g.1 c))
-
--- a refusal that is given where a test is true
-pub in_when : {r q : Refusal} (b : Bool) → Memᴰ r (q when b) → r ≡ q
-in_when true m = Memᴰ.eq_of_singleton m
-in_when false m = absurd (Memᴰ.not-nil m)
-
-pub among_when : (r : Refusal) (b : Bool) → Memᴰ r (r when b) ↔ b ≡ true
-among_when r true = (λ m. refl, λ e. Memᴰ.head refl)
-among_when r false = (λ m. absurd (Memᴰ.not-nil m), λ e. clash (cc))
-
-pub none_when : (r : Refusal) (b : Bool) → (r when b) ≡ [] ↔ b ≡ false
-none_when r true = (λ e. clash (cc), λ e. clash (cc))
-none_when r false = (λ e. refl, λ e. refl)
-
-pub first_when : (r : Refusal) (b : Bool) → IsFirst r (r when b) ↔ b ≡ true
-first_when r b = (
-  λ m. (among_when r b).0 m.0,
-  λ e. ((among_when r b).1 e, λ q m. rw (in_when b m) (omega arith)),
-)
 
 -- what checking may give, listing may give too, and adding if it is of no time
 pub record_among : (r : Refusal) → is_of_record r ≡ true
@@ -86,7 +66,7 @@ module _ {A : Type 0} (result : A → ℕ) where
 -- an answer that has the number of the first fault has a number if there is a fault
 module _ (faults : List Refusal) (answer : ℕ) (first : (r : Refusal) → number_in answer ≡ number r ↔ IsFirst r faults) where
   pub no_number : number_in answer ≡ 0 → faults ≡ []
-  no_number e = (no-fault faults).0 (go _ refl)
+  no_number e = (no_fault faults).0 (go _ refl)
     where
       go : (o : Option Refusal) → first_of faults ≡ o → o ≡ none
       go none f = refl

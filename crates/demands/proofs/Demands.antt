@@ -19,7 +19,7 @@ use Rattle.rules.specs.Comparison.{Comparer, comparer_for, or_unknown}
 use Rattle.rules.specs.Services.{packed, room_of, check_answer, compare_checked, compared_number, compare_answer, timing, tick_answer, tick_after, cutting, cut_answer}
 use Rattle.rules.specs.ListingPromise.{number_in, Refuses, ListingPromise}
 use Rattle.rules.proofs.Tests.{clash}
-use Rattle.rules.proofs.Precedence.{number_injective, first-is, no-fault, unless_answered, unless_refused, check-refused, check-answered}
+use Rattle.rules.proofs.Precedence.{number_injective, first-is, no_fault, unless_answered, unless_refused, check-refused, check-answered}
 use Rattle.rules.proofs.CheckRefusals.{Pass, pass-append, pass_when, first_passes, read_passes, check_refusals}
 use Rattle.rules.proofs.Ticks.{precision-range}
 use Rattle.rules.proofs.Utf8.{cut-whole, cut_fits, cut-longest}
@@ -35,7 +35,6 @@ use Rattle.demands.proofs.Printing.{print-answers, print_promise}
 use Rattle.demands.proofs.Years.{years_kept}
 use Rattle.demands.proofs.WrongTimes.{wrong-times_kept}
 use Rattle.demands.proofs.LastDay.{last_day_kept}
-use Rattle.demands.proofs.Uuids.{uuids_kept}
 use Rattle.demands.proofs.DesksAnswers.{start-answers, add-answers, report-answers}
 use Rattle.demands.proofs.Desks.{totals_kept, desks_kept}
 
@@ -50,7 +49,7 @@ module _ (offset : ℤ) (input : List ℕ) where
   check-accepted : number_in (check_answer offset input) ≡ 0 ↔ record_faults offset input ≡ []
   check-accepted = (
     λ e. let (a, h) = packed-accepted (λ e. 0) (check offset input) e in ((check-answered offset input a).0 h).1,
-    λ f. go (check offset input) refl ((no-fault (record_faults offset input)).1 f),
+    λ f. go (check offset input) refl ((no_fault (record_faults offset input)).1 f),
   )
     where
       go : (o : Outcome Element) → check offset input ≡ o → first_of (record_faults offset input) ≡ none → number_in (packed (λ e. 0) o) ≡ 0
@@ -82,7 +81,7 @@ module _ (offset : ℤ) (input list : List ℕ) {answer : ℕ} {after : List ℕ
   ListAnswers = Answers list_refusals (λ n. n ≤ 32) (after ≡ list) answer
 
   by_refusal : {r : Refusal} → is_among list_refusals r ≡ true → Refuses offset input answer list after r → ListAnswers
-  by_refusal {r} may h = refuses r may h.number_given h.no-count h.unchanged
+  by_refusal {r} may h = refuses r may h.number_given h.no_count h.unchanged
 
   list-answers : ListAnswers
   unfolding exists
@@ -203,5 +202,4 @@ demands_met = record {
   wrong-times = wrong-times_kept services met_2 met_3;
   totals = totals_kept;
   desks = desks_kept;
-  uuids = uuids_kept services met_2;
 }

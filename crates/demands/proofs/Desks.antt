@@ -15,19 +15,19 @@ use Rattle.rules.specs.Desks.{Shared, part_of, recorded_of}
 use Rattle.rules.specs.DeskNumbers.{shared_in, shared_numbers, numbers_after, start_answer, start_after, add_answer, add_after, report_answer, report_after}
 use Rattle.rules.proofs.Tests.{clash}
 use Rattle.rules.proofs.TotalReading.{reading-currency, reading_refusals}
-use Rattle.rules.proofs.Totals.{posted, posted_only, ladder_counted, exactly-full, exactly-no-row, exactly-total}
+use Rattle.rules.proofs.Totals.{posted, posted_only, ladder_counted, exactly-full, exactly_no_row, exactly-total}
 use Rattle.rules.proofs.Desks.{desk-is, Sound, faultless}
 use Rattle.rules.proofs.DeskNumbers.{at-most_32}
 use Rattle.demands.specs.Services.{services}
 use Rattle.demands.specs.Totals.{IsTotal, TotalsPromise}
 use Rattle.demands.specs.Desks.{IsDesk, IsFaulty, held_in, counts_from, total_at, how_many_of, Undamaged, NotFull, Refuses, Starting, raised, IsAt, Adding, Reporting, Exactly, DesksPromise}
 use Rattle.demands.proofs.Answers.{iff_trans}
-use Rattle.demands.proofs.TotalsNumbers.{letters_of, range_of, total_of, total-range, no-total}
+use Rattle.demands.proofs.TotalsNumbers.{letters_of, range_of, total_of, total-range, no_total}
 use Rattle.demands.proofs.TotalsReadings.{reads, amount-read, reading_small}
 use Rattle.demands.proofs.TotalsDays.{packed-number}
 use Rattle.demands.proofs.DesksRows.{small_at, all_small, own_many}
 use Rattle.demands.proofs.DesksDamage.{is-desk, not-desk, counts_are, damage_is, sound-is, table-says}
-use Rattle.demands.proofs.DesksHeld.{total-new, total-at, none-held, held-row, not-held, has-no-row}
+use Rattle.demands.proofs.DesksHeld.{total-new, total-at, none-held, held-row, not-held, has_no_row}
 use Rattle.demands.proofs.DesksNumbers.{start-numbers, null-numbers, refused-numbers, report-numbers}
 use Rattle.demands.proofs.DesksAdded.{added-held, added_new}
 use Rattle.demands.proofs.DesksCalls.{Usable, Refused, shared_refusal, of_desk_lem, case, part_proper, part_undamaged, own_answer, start_given, add_given, report_given, start-refused, add-refused, report-refused}
@@ -55,11 +55,11 @@ module _ (numbers : List ℕ) (lent : Lent 103 numbers) (n : ℕ) where
   undamaged u = record { desk = desk-is n u.desk; sound = (sound-is numbers lent).0 u.sound }
 
   refused_so : {a : ℕ} → Refuses numbers n a → Refused numbers n a
-  refused_so (Refuses.no-desk h) = Refused.no-desk ((not-desk n).1 h)
+  refused_so (Refuses.no_desk h) = Refused.no_desk ((not-desk n).1 h)
   refused_so (Refuses.damaged d f) = Refused.damaged (is-desk n d) ((damage_is numbers lent).1 f)
 
   refuses_so : {a : ℕ} → Refused numbers n a → Refuses numbers n a
-  refuses_so (Refused.no-desk h) = Refuses.no-desk ((not-desk n).0 h)
+  refuses_so (Refused.no_desk h) = Refuses.no_desk ((not-desk n).0 h)
   refuses_so (Refused.damaged d f) = Refuses.damaged (desk-is n d) ((damage_is numbers lent).0 f)
 
   sound : Usable numbers n → Sound s
@@ -120,8 +120,8 @@ module _ (numbers : List ℕ) (lent : Lent 103 numbers) (n : ℕ) where
       not_full v = record { undamaged = undamaged u; room = λ f. v.not_full (counts_are numbers lent n ∙ f) }
 
       module _ {c : List ℕ} {z : ℤ} (h : reading_of k ≡ answered (money c z)) where
-        no-row_so : HasNoRow c t.rows ↔ ((i : ℕ) → IsAt numbers n c i → ⊥) × (how_many_of n numbers (held_in numbers) ≡ 16)
-        no-row_so = has-no-row numbers lent (sound u) n u.desk c (reading-currency k.offset k.record' h)
+        no_row_so : HasNoRow c t.rows ↔ ((i : ℕ) → IsAt numbers n c i → ⊥) × (how_many_of n numbers (held_in numbers) ≡ 16)
+        no_row_so = has_no_row numbers lent (sound u) n u.desk c (reading-currency k.offset k.record' h)
 
         sum-at : (i : ℕ) → IsAt numbers n c i → {x : ℤ} → IsTotal x (total_at numbers i) → new_total c z t.rows ≡ x +ℤ z
         sum-at i a x = total-at numbers lent (sound u) n u.desk c i a x z
@@ -135,13 +135,13 @@ module _ (numbers : List ℕ) (lent : Lent 103 numbers) (n : ℕ) where
         outside_so : is_in_range (new_total c z t.rows) ≡ false
             → (i : ℕ) × IsAt numbers n c i × ((x : ℤ) × IsTotal x (total_at numbers i) × ((total : ℕ) → IsTotal (x +ℤ z) total → ⊥))
         outside_so e = elim (held_so (is_held c t.rows) refl) [
-          | inl (i, a, (x, y)) ↦ (i, a, (x, y, (no-total (x +ℤ z)).0 (sym (ap is_in_range (sum-at i a y)) ∙ e)))
+          | inl (i, a, (x, y)) ↦ (i, a, (x, y, (no_total (x +ℤ z)).0 (sym (ap is_in_range (sum-at i a y)) ∙ e)))
           | inr (m, f) ↦ let g = reading_small k h in let j = sym (ap is_in_range f) ∙ e in clash (cc)
         ]
 
         room_so : ((i : ℕ) → IsAt numbers n c i → ⊥) → (HasNoRow c t.rows → ⊥) → how_many_of n numbers (held_in numbers) < 16
         room_so none m =
-            let w : how_many_of n numbers (held_in numbers) ≡ 16 → ⊥ = λ l. m (no-row_so.1 (none, l)) in
+            let w : how_many_of n numbers (held_in numbers) ≡ 16 → ⊥ = λ l. m (no_row_so.1 (none, l)) in
             omega (arith, own_many numbers (at-most_32 s (sound u)) n, (part_proper numbers n u).few)
 
     -- every case has its answer and its numbers, and no other
@@ -155,18 +155,18 @@ module _ (numbers : List ℕ) (lent : Lent 103 numbers) (n : ℕ) where
         let u = usable v.undamaged in
         let (e, f) = given u (a_null (is_usable u v) h) in
         (e, sym (null-numbers numbers lent (sound u) n u.desk) ∙ f)
-    adding_only (Adding.no_row v h none l) = let u = usable v.undamaged in refused_given u refl (no_row (is_usable u v) h ((no-row_so u h).1 (none, l)))
+    adding_only (Adding.no_row v h none l) = let u = usable v.undamaged in refused_given u refl (no_row (is_usable u v) h ((no_row_so u h).1 (none, l)))
     adding_only (Adding.out_of_range v h i a x m) =
         let u = usable v.undamaged in
-        refused_given u refl (out_of_range (is_usable u v) h (λ q. ((no-row_so u h).0 q).0 i a) (ap is_in_range (sum-at u h i a x) ∙ (no-total _).1 m))
+        refused_given u refl (out_of_range (is_usable u v) h (λ q. ((no_row_so u h).0 q).0 i a) (ap is_in_range (sum-at u h i a x) ∙ (no_total _).1 m))
     adding_only (Adding.added-to-row {c = c} {z = z} v h i a x y) =
         let u = usable v.undamaged in
-        let (e, f) = given u (added (is_usable u v) h (λ q. ((no-row_so u h).0 q).0 i a) (ap is_in_range (sum-at u h i a x) ∙ total-range _ y)) in
+        let (e, f) = given u (added (is_usable u v) h (λ q. ((no_row_so u h).0 q).0 i a) (ap is_in_range (sum-at u h i a x) ∙ total-range _ y)) in
         (e, sym (added-held numbers lent (sound u) n u.desk c z i a x y) ∙ f)
     adding_only (Adding.added-row {c = c} {z = z} v h none l a y) =
         let u = usable v.undamaged in
         let new = total-new c z t.rows (not-held numbers lent (sound u) n u.desk c (reading-currency k.offset k.record' h) none) in
-        let (e, f) = given u (added (is_usable u v) h (λ q. omega (arith, l, ((no-row_so u h).0 q).1)) (ap is_in_range new ∙ total-range z y)) in
+        let (e, f) = given u (added (is_usable u v) h (λ q. omega (arith, l, ((no_row_so u h).0 q).1)) (ap is_in_range new ∙ total-range z y)) in
         (e, sym (added_new numbers lent (sound u) n u.desk c z none l a y) ∙ f)
 
     adding : Adding numbers n k answer after
@@ -180,7 +180,7 @@ module _ (numbers : List ℕ) (lent : Lent 103 numbers) (n : ℕ) where
         by_case u (full d f) = is (Adding.full-day (undamaged u) (sym (counts_are numbers lent n) ∙ f))
         by_case u (faulty v h) = is (Adding.faulty_record (not_full u v) h)
         by_case u (a_null v h) = is (Adding.null_record (not_full u v) h)
-        by_case u (no_row v h m) = let (none, l) = (no-row_so u h).0 m in is (Adding.no_row (not_full u v) h none l)
+        by_case u (no_row v h m) = let (none, l) = (no_row_so u h).0 m in is (Adding.no_row (not_full u v) h none l)
         by_case u (out_of_range v h m e) = let (i, a, (x, y, w)) = outside_so u h e in is (Adding.out_of_range (not_full u v) h i a y w)
         by_case u (added v {c = c} {z = z} h m e) = elim (held_so u h (is_held c t.rows) refl) [
           | inl (i, a, (x, y)) ↦ is (Adding.added-to-row (not_full u v) h i a y (total_of (x +ℤ z) (sym (ap is_in_range (sum-at u h i a y)) ∙ e)))
@@ -199,17 +199,17 @@ module _ (numbers : List ℕ) (lent : Lent 103 numbers) (n : ℕ) where
     ]
       where
         other : {a : ℕ} → Refused numbers n a → a ≡ number r → ⊥
-        other (Refused.no-desk h) e = i (sym e)
+        other (Refused.no_desk h) e = i (sym e)
         other (Refused.damaged h f) e = j (sym e)
 
-    no-desk_given : answer ≡ 23 → IsDesk n → ⊥
-    no-desk_given e d = elim (case numbers n) [
+    no_desk_given : answer ≡ 23 → IsDesk n → ⊥
+    no_desk_given e d = elim (case numbers n) [
       | shared_refusal q ↦ go (refuses_so q) (sym (add-refused numbers n k q).0 ∙ e)
       | of_desk_lem u ↦ (own_answer numbers n u k).0 ((refused_by u NO_DESK).0 e)
     ]
       where
         go : {a : ℕ} → Refuses numbers n a → a ≡ 23 → ⊥
-        go (Refuses.no-desk h) e = h d
+        go (Refuses.no_desk h) e = h d
         go (Refuses.damaged h f) e = omega arith
 
     damaged_given : answer ≡ 21 → IsDesk n × IsFaulty numbers
@@ -219,12 +219,12 @@ module _ (numbers : List ℕ) (lent : Lent 103 numbers) (n : ℕ) where
     ]
       where
         go : {a : ℕ} → Refuses numbers n a → a ≡ 21 → IsDesk n × IsFaulty numbers
-        go (Refuses.no-desk h) e = absurd (omega arith)
+        go (Refuses.no_desk h) e = absurd (omega arith)
         go (Refuses.damaged h f) e = (h, f)
 
     exact : Exactly numbers n k answer
     exact = record {
-      no-desk = (no-desk_given, λ h. so (Adding.refuses (Refuses.no-desk h)));
+      no_desk = (no_desk_given, λ h. so (Adding.refuses (Refuses.no_desk h)));
       damaged = (damaged_given, λ (d, f). so (Adding.refuses (Refuses.damaged d f)));
       day-full = (
         λ e. let (u, f) = own_refusal DAY_FULL (λ z. omega arith) (λ z. omega arith) e in (undamaged u, sym (counts_are numbers lent n) ∙ ((exactly-full k t).0 f).1),
@@ -233,8 +233,8 @@ module _ (numbers : List ℕ) (lent : Lent 103 numbers) (n : ℕ) where
       no_row = (
         λ e.
             let (u, f) = own_refusal NO_ROW (λ z. omega arith) (λ z. omega arith) e in
-            let (c, z, v, h, m) = (exactly-no-row k t).0 f in
-            let (none, l) = (no-row_so u h).0 m in
+            let (c, z, v, h, m) = (exactly_no_row k t).0 f in
+            let (none, l) = (no_row_so u h).0 m in
             (c, z, not_full u v, h, none, l),
         λ (c, z, v, h, none, l). so (Adding.no_row v h none l),
       );

@@ -28,7 +28,7 @@ use Rattle.demands.proofs.DesksCalls.{Usable, Refused, part_proper, shared_refus
 -- the refusals that all calls share
 shared-answers : {numbers : List ℕ} {n a : ℕ} {may : List Refusal} {Result : ℕ → Type 0} {Kept : Type 0} → is_among may NO_DESK ≡ true → is_among may DAMAGED ≡ true
     → Kept → Refused numbers n a → Answers may Result Kept a
-shared-answers i j kept (Refused.no-desk h) = refuses NO_DESK i (low_bits NO_DESK).0 (low_bits NO_DESK).1 kept
+shared-answers i j kept (Refused.no_desk h) = refuses NO_DESK i (low_bits NO_DESK).0 (low_bits NO_DESK).1 kept
 shared-answers i j kept (Refused.damaged h f) = refuses DAMAGED j (low_bits DAMAGED).0 (low_bits DAMAGED).1 kept
 
 module _ (n : ℕ) (numbers : List ℕ) where

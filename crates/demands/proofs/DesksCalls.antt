@@ -24,7 +24,7 @@ pub record Usable (numbers : List ℕ) (n : ℕ) : Type 0 where
 
 -- a refusal that all calls share
 pub data Refused (numbers : List ℕ) (n : ℕ) : (answer : ℕ) → Type 0 where
-  no-desk : is_desk n ≡ false → Refused numbers n (number NO_DESK)
+  no_desk : is_desk n ≡ false → Refused numbers n (number NO_DESK)
   damaged : is_desk n ≡ true → is_faulty (shared_in numbers) ≡ true → Refused numbers n (number DAMAGED)
 
 -- a call is refused so, or it is a desk's
@@ -45,7 +45,7 @@ module _ (numbers : List ℕ) (n : ℕ) where
 
       by_desk : (b : Bool) → is_desk n ≡ b → Case numbers n
       by_desk true d = by_fault d (is_faulty s) refl
-      by_desk false d = shared_refusal (no-desk d)
+      by_desk false d = shared_refusal (no_desk d)
 
   module _ (u : Usable numbers n) where
     -- a desk's call asks its part
@@ -107,15 +107,15 @@ module _ (numbers : List ℕ) (n : ℕ) where
   report_kept lent r e = (ap (packed (λ t. length t.rows)) e, ap (λ o. lent_after (λ t. overwrite lent (report_numbers t)) o lent) e)
 
   pub start-refused : {a : ℕ} → Refused numbers n a → (start_answer n numbers ≡ a) × (start_after n numbers ≡ numbers)
-  start-refused (no-desk h) = start_kept NO_DESK (no_part h _)
+  start-refused (no_desk h) = start_kept NO_DESK (no_part h _)
   start-refused (damaged h f) = start_kept DAMAGED (faulty_part h f _)
 
   pub report-refused : (lent : List ℕ) {a : ℕ} → Refused numbers n a → (report_answer n numbers ≡ a) × (report_after n numbers lent ≡ lent)
-  report-refused lent (no-desk h) = report_kept lent NO_DESK (no_part h _)
+  report-refused lent (no_desk h) = report_kept lent NO_DESK (no_part h _)
   report-refused lent (damaged h f) = report_kept lent DAMAGED (faulty_part h f _)
 
   pub add-refused : (k : Call) {a : ℕ} → Refused numbers n a → (add_answer n k.offset k.record' numbers ≡ a) × (add_after n k.offset k.record' numbers ≡ numbers)
-  add-refused k (no-desk h) =
+  add-refused k (no_desk h) =
       (ap (packed entry_number) (no_part h (answer_to k)), ap (λ b. cond b (numbers_after n (posting_of n k.offset k.record' s) numbers) numbers) h)
   add-refused k (damaged h f) =
       let e = faulty_part h f (answer_to k) in (

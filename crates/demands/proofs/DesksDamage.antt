@@ -20,7 +20,7 @@ use Rattle.rules.proofs.Desks.{desk-is, is_stray, Sound, faultless, sound_part}
 use Rattle.rules.proofs.DeskNumbers.{sound-formed, sound-within, at-most_32, rows-length}
 use Rattle.demands.specs.Desks.{IsDesk, held_in, counted_by, desk_at, currency_at, total_at, IsFaulty, too_many, of_neither, over_16, wrong-form, held_twice, out_of_range, over_counted, IsRow, Says}
 use Rattle.demands.proofs.TotalsNumbers.{letters_in, letters-read, same-currency, total_in_lem, outside-read}
-use Rattle.demands.proofs.DesksRows.{is_unformed, is_outside, some-nth, no-nth, some_own, some_twice, no_twice, row_at, small_at, held-is, nth-held, held-nth, own_many}
+use Rattle.demands.proofs.DesksRows.{is_unformed, is_outside, some-nth, no_nth, some_own, some_twice, no_twice, row_at, small_at, held-is, nth-held, held-nth, own_many}
 
 -- a desk's number passes the test of one
 pub is-desk : (n : ℕ) → IsDesk n → is_desk n ≡ true
@@ -102,13 +102,13 @@ module _ (numbers : List ℕ) (lent : Lent 103 numbers) where
     few = at-most_32 s p
 
     desk-held : (i : ℕ) → i < held_in numbers → is_desk (desk_at numbers i) ≡ true
-    desk-held i l = not-false _ (no-nth is_stray s.rows p.desks i (row_at numbers i) (nth-held numbers few i l))
+    desk-held i l = not-false _ (no_nth is_stray s.rows p.desks i (row_at numbers i) (nth-held numbers few i l))
 
     formed-held : (i : ℕ) → i < held_in numbers → is_currency (currency_in (currency_at numbers i)) ≡ true
-    formed-held i l = not-false _ (no-nth (λ r. is_unformed r.row) s.rows (sound-formed s p) i (row_at numbers i) (nth-held numbers few i l))
+    formed-held i l = not-false _ (no_nth (λ r. is_unformed r.row) s.rows (sound-formed s p) i (row_at numbers i) (nth-held numbers few i l))
 
     within_held : (i : ℕ) → i < held_in numbers → is_in_range (total_in (total_at numbers i)) ≡ true
-    within_held i l = not-false _ (no-nth (λ r. is_outside r.row) s.rows (sound-within s p) i (row_at numbers i) (nth-held numbers few i l))
+    within_held i l = not-false _ (no_nth (λ r. is_outside r.row) s.rows (sound-within s p) i (row_at numbers i) (nth-held numbers few i l))
 
     no_damage : IsFaulty numbers → ⊥
     no_damage (too_many l) = omega (arith, few, held-is numbers few)

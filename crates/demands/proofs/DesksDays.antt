@@ -26,7 +26,7 @@ use Rattle.demands.specs.Services.{services}
 use Rattle.demands.specs.Totals.{told, Limits}
 use Rattle.demands.specs.Desks.{IsDesk, Heard, hearing, leaves_after, hears, table_at, heard_by, said_to, told_to, OwnCalls, none, its, another}
 use Rattle.demands.proofs.DesksDamage.{is-desk}
-use Rattle.demands.proofs.DesksCalls.{Usable, Refused, no-desk, damaged, shared_refusal, of_desk_lem, case, start_given, add_given, report_given, start-refused, add-refused}
+use Rattle.demands.proofs.DesksCalls.{Usable, Refused, no_desk, damaged, shared_refusal, of_desk_lem, case, start_given, add_given, report_given, start-refused, add-refused}
 use Rattle.demands.proofs.Answers.{iff_trans}
 use Rattle.demands.proofs.TotalsDays.{packed-number, told_is, numbers_of, is-day, day-counted}
 use Rattle.demands.proofs.TotalsLimits.{limits_met}
@@ -60,7 +60,7 @@ module _ (numbers : List ℕ) (n : ℕ) where
 
   after-refused : {r : ℕ} → Refused numbers n r → (a : Ask) → shared_after (call n a) s ≡ s
   unfolding shared_after
-  after-refused (no-desk h) a = rw h
+  after-refused (no_desk h) a = rw h
   after-refused (damaged h f) a = rw (h, f)
 
   -- else numbers that say what the desk called for

@@ -93,8 +93,8 @@ module _ (numbers : List ℕ) (lent : Lent 103 numbers) (p : Sound (shared_in nu
         go false e = refl
 
     -- "the currency is new and 16 are held"
-    pub has-no-row : HasNoRow c (rows_for n s.rows) ↔ ((i : ℕ) → IsAt numbers n c i → ⊥) × (how_many_of n numbers (held_in numbers) ≡ 16)
-    has-no-row = (
+    pub has_no_row : HasNoRow c (rows_for n s.rows) ↔ ((i : ℕ) → IsAt numbers n c i → ⊥) × (how_many_of n numbers (held_in numbers) ≡ 16)
+    has_no_row = (
       λ m. (none-held m.new, sym (own_many numbers few n) ∙ m.all_held),
       λ (none, l). record { new = not-held none; all_held = own_many numbers few n ∙ l },
     )

@@ -127,9 +127,9 @@ module _ (s : Services) (p : Demands s) where
   counts-null_as_added h = omega (arith, h, left_is 1 unknown none lent_none 1)
 
   -- one that leaves the count alone on a refusal
-  pub counts-no_refusal : left 1 mistake none 3 ≡ 0 → ⊥
+  pub counts_no_refusal : left 1 mistake none 3 ≡ 0 → ⊥
   unfolding opened
-  counts-no_refusal h = omega (arith, h, left_is 1 mistake none lent_none 3)
+  counts_no_refusal h = omega (arith, h, left_is 1 mistake none lent_none 3)
 
   -- one that counts for the other desk
   pub counts_for_other-desk : left 2 five fives 1 ≡ 2 → ⊥
@@ -162,9 +162,9 @@ module _ (s : Services) (p : Demands s) where
   keeps_counts h = omega (arith, h, started-is 1 mixed lent-mixed 1)
 
   -- one whose start frees no row: as many are held as before
-  pub frees_no-row : started 1 mixed 0 ≡ 3 → ⊥
+  pub frees_no_row : started 1 mixed 0 ≡ 3 → ⊥
   unfolding opened
-  frees_no-row h = omega (arith, h, started-is 1 mixed lent-mixed 0)
+  frees_no_row h = omega (arith, h, started-is 1 mixed lent-mixed 0)
 
   -- one that starts a desk of any number
   pub starts-any-desk : s.start-says 3 none ≡ 0 → ⊥

@@ -48,11 +48,11 @@ module _ {A : Type 0} where
       go true e h below = (0, x, refl, e)
       go false e h below = let (i, a, f, g) = below h in (suc i, a, f, g)
 
-  pub no-nth : (p : A → Bool) (l : List A) → exists p l ≡ false → (i : ℕ) (a : A) → IsNth l i a → p a ≡ false
+  pub no_nth : (p : A → Bool) (l : List A) → exists p l ≡ false → (i : ℕ) (a : A) → IsNth l i a → p a ≡ false
   unfolding exists
-  no-nth p [] h i a e = absurd (none-nth i a e)
-  no-nth p (x ∷ l) h zero a e = let z : a ≡ x = cc in rw z (neither (p x) (exists p l) h).0
-  no-nth p (x ∷ l) h (suc i) a e = no-nth p l (neither (p x) (exists p l) h).1 i a e
+  no_nth p [] h i a e = absurd (none-nth i a e)
+  no_nth p (x ∷ l) h zero a e = let z : a ≡ x = cc in rw z (neither (p x) (exists p l) h).0
+  no_nth p (x ∷ l) h (suc i) a e = no_nth p l (neither (p x) (exists p l) h).1 i a e
 
 -- the rows of a desk
 module _ (n : ℕ) where
@@ -75,7 +75,7 @@ module _ (n : ℕ) where
       (i, r.row, e ∙ ap (λ d. owned d r.row ∷ []) (eqb-true r.desk n g), k)
 
   pub no_own : {A : Type 0} (p : A → Bool) (rows : List (Owned A)) → exists p (rows_for n rows) ≡ false → (i : ℕ) (r : A) → IsNth rows i (owned n r) → p r ≡ false
-  no_own p rows h i r e = sym (ap (λ b. b && p r) (eqb_refl n)) ∙ no-nth (is_own p) rows (sym (own_exists p rows) ∙ h) i (owned n r) e
+  no_own p rows h i r e = sym (ap (λ b. b && p r) (eqb_refl n)) ∙ no_nth (is_own p) rows (sym (own_exists p rows) ∙ h) i (owned n r) e
 
   -- two of them with one currency, the later after the earlier
   pub some_twice : (rows : List (Owned Row)) → is_held_twice (rows_for n rows) ≡ true

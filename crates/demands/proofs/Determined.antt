@@ -20,7 +20,7 @@ use Rattle.rules.specs.TotalNumbers.{Lent}
 use Rattle.rules.specs.TotalDays.{Call}
 use Rattle.rules.specs.ComparisonPromise.{record_in, answer_in, Names, Says, IsOf}
 use Rattle.rules.proofs.Tests.{clash}
-use Rattle.rules.proofs.Precedence.{first-is, no-fault}
+use Rattle.rules.proofs.Precedence.{first-is, no_fault}
 use Rattle.rules.proofs.ListingCases.{faulty, other-type, unclear, many, a_set, case}
 use Rattle.rules.proofs.ListingPromise.{small}
 use Rattle.rules.proofs.PrintingCases.{unwritable, full, fitting, printing_case, unwritable_is}
@@ -49,8 +49,8 @@ module _ (faults : List Refusal) (answer : ℕ) (first : (r : Refusal) → numbe
 module _ {faults : List Refusal} {R Q : ℕ → Type 0} {K L : Type 0} {a b : ℕ} where
   same_given : (faults ≡ [] → R (result_in a) → Q (result_in b) → result_in a ≡ result_in b) → Given faults R K a → Given faults Q L b → a ≡ b
   same_given f (faultless e n h) (faultless d m i) = same_answer (n ∙ sym m) (f e h i)
-  same_given f (faultless e n h) (first_given r d m z k) = let i = (no-fault faults).1 e in clash (cc)
-  same_given f (first_given r d m z k) (faultless e n h) = let i = (no-fault faults).1 e in clash (cc)
+  same_given f (faultless e n h) (first_given r d m z k) = let i = (no_fault faults).1 e in clash (cc)
+  same_given f (first_given r d m z k) (faultless e n h) = let i = (no_fault faults).1 e in clash (cc)
   same_given f (first_given r e n y k) (first_given q d m z l) = let i : r ≡ q = cc in same_answer (n ∙ ap number i ∙ sym m) (y ∙ sym z)
 
 -- a report's memory, all numbers 0
@@ -75,7 +75,7 @@ same-says {a = a} {b = b} h i = same_parts a b (h.no_refusal ∙ sym i.no_refusa
 -- the two lists afterwards, and the two answers
 module _ (offset : ℤ) (input before : List ℕ) {a b : ℕ} {x y : List ℕ} where
   same_refusal : {r : Refusal} → Refuses offset input a before x r → Refuses offset input b before y r → (a ≡ b) × (x ≡ y)
-  same_refusal h i = (same_answer (h.number_given ∙ sym i.number_given) (h.no-count ∙ sym i.no-count), h.unchanged ∙ sym i.unchanged)
+  same_refusal h i = (same_answer (h.number_given ∙ sym i.number_given) (h.no_count ∙ sym i.no_count), h.unchanged ∙ sym i.unchanged)
 
   same-listed : {ss : List Interval} → Lists offset input a before x ss → Lists offset input b before y ss → (a ≡ b) × (x ≡ y)
   same-listed {ss} h i = (
@@ -163,7 +163,7 @@ module _ {s t : Services} (p : Demands s) (q : Demands t) where
       go : {R Q : ℕ → Type 0} {a b : ℕ} → Given (time_faults offset text) R (s.tick_leaves offset text tick ≡ tick) a
           → Given (time_faults offset text) Q (t.tick_leaves offset text tick ≡ tick) b → s.tick_leaves offset text tick ≡ t.tick_leaves offset text tick
       go (faultless f n h) g = let (m, e) = faultless_read offset text f in (p.two.time offset text tick m e f).2 ∙ sym (q.two.time offset text tick m e f).2
-      go (first_given r d m z k) (faultless f n h) = let i = (no-fault (time_faults offset text)).1 f in clash (cc)
+      go (first_given r d m z k) (faultless f n h) = let i = (no_fault (time_faults offset text)).1 f in clash (cc)
       go (first_given r d m z k) (first_given u e n y l) = k ∙ sym l
 
   same-cut : (text : List ℕ) (room : ℕ) → s.cut-says text room ≡ t.cut-says text room

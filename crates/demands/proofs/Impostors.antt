@@ -24,7 +24,7 @@ use Rattle.rules.proofs.Opened.{opened}
 use Rattle.rules.proofs.Tests.{clash, eqb_refl}
 use Rattle.rules.proofs.ListingPromise.{small}
 use Rattle.demands.specs.Services.{Services, result_in, accepts, refuses}
-use Rattle.demands.specs.WrongTimes.{Spells, no-day, ImpossibleClock, no-hour, wrong-date}
+use Rattle.demands.specs.WrongTimes.{Spells, no_day, ImpossibleClock, no_hour, wrong-date}
 use Rattle.demands.specs.LastDay.{pass}
 use Rattle.demands.specs.Demands.{Demands}
 use Rattle.demands.proofs.Spelling.{spells}
@@ -54,24 +54,24 @@ abbrev has_unbounded_end : Interval → Bool
 has_unbounded_end v = is_unbounded v.low || is_unbounded v.high
 
 -- a day that no calendar has at an hour that no clock has, and records of that day: beside a null flavor, and as a bound
-abbrev no-day-no-hour : Written
-no-day-no-hour = record { year = 1900; parts = 2 ∷ 29 ∷ 24 ∷ []; fraction = []; zone = no_zone }
+abbrev no_day_no_hour : Written
+no_day_no_hour = record { year = 1900; parts = 2 ∷ 29 ∷ 24 ∷ []; fraction = []; zone = no_zone }
 
-abbrev no-day-null : List ℕ
-no-day-null = bytes "<a xsi:type=\"TS\" nullFlavor=\"NI\" value=\"19000229\"/>"
+abbrev no_day-null : List ℕ
+no_day-null = bytes "<a xsi:type=\"TS\" nullFlavor=\"NI\" value=\"19000229\"/>"
 
-abbrev from-no-day : List ℕ
-from-no-day = bytes "<a xsi:type=\"IVL_TS\" lowClosed=\"true\"><low value=\"19000229\"/></a>"
+abbrev from_no_day : List ℕ
+from_no_day = bytes "<a xsi:type=\"IVL_TS\" lowClosed=\"true\"><low value=\"19000229\"/></a>"
 
 module _ (s : Services) (p : Demands s) where
   -- what such services say of them
-  accepts-identifier : s.check-says (pos 0) (bytes identifier) ≡ 0
+  accepts_identifier : s.check-says (pos 0) (bytes identifier) ≡ 0
   unfolding opened
-  accepts-identifier = (demands_determine s p).same_check (pos 0) (bytes identifier)
+  accepts_identifier = (demands_determine s p).same_check (pos 0) (bytes identifier)
 
-  identifier-itself : answer_in (s.compare_says (pos 0) (bytes identifier) (bytes identifier)) ≡ 1
+  identifier_itself : answer_in (s.compare_says (pos 0) (bytes identifier) (bytes identifier)) ≡ 1
   unfolding opened
-  identifier-itself = ap answer_in ((demands_determine s p).same_compare (pos 0) (bytes identifier) (bytes identifier))
+  identifier_itself = ap answer_in ((demands_determine s p).same_compare (pos 0) (bytes identifier) (bytes identifier))
 
   cuts_letter : result_in (s.cut-says (bytes "a") 1) ≡ 1
   unfolding opened
@@ -113,7 +113,7 @@ module _ (s : Services) (p : Demands s) where
 
   -- one that refuses all
   pub refuses-all : ((offset : ℤ) (record' : List ℕ) → (r : Refusal) × (number_in (s.check-says offset record') ≡ number r)) → ⊥
-  refuses-all h = let (r, e) = h (pos 0) (bytes identifier) in omega (arith, small r, e, accepts-identifier)
+  refuses-all h = let (r, e) = h (pos 0) (bytes identifier) in omega (arith, small r, e, accepts_identifier)
 
   -- one that always lists nothing
   pub lists-nothing : ((offset : ℤ) (record' list : List ℕ) → result_in (s.list-says offset record' list) ≡ 0) → ⊥
@@ -121,7 +121,7 @@ module _ (s : Services) (p : Demands s) where
 
   -- one that always says unknown
   pub says-unknown : ((offset : ℤ) (first second : List ℕ) → answer_in (s.compare_says offset first second) ≡ answer_number Unknown) → ⊥
-  says-unknown h = omega (arith, identifier-itself, h (pos 0) (bytes identifier) (bytes identifier))
+  says-unknown h = omega (arith, identifier_itself, h (pos 0) (bytes identifier) (bytes identifier))
 
   -- one that always cuts to length 0
   pub cuts_to-nothing : ((text : List ℕ) (room : ℕ) → result_in (s.cut-says text room) ≡ 0) → ⊥
@@ -182,19 +182,19 @@ module _ (s : Services) (p : Demands s) where
   pub clock_for_date : ((offset : ℤ) (text : List ℕ) (w : Written) → Spells text w → ImpossibleClock w → number_in (s.tick-says offset text) ≡ number CLOCK) → ⊥
   unfolding opened
   clock_for_date h =
-      let spelled = (spells (bytes "1900022924") no-day-no-hour).0 refl in
-      let date = (p.wrong-times.ticks (pos 0) (bytes "1900022924") refl (omega arith) DATE).1 (wrong-date spelled (no-day (inr (omega arith)))) in
-      omega (arith, date, h (pos 0) (bytes "1900022924") no-day-no-hour spelled (no-hour (omega arith)))
+      let spelled = (spells (bytes "1900022924") no_day_no_hour).0 refl in
+      let date = (p.wrong-times.ticks (pos 0) (bytes "1900022924") refl (omega arith) DATE).1 (wrong-date spelled (no_day (inr (omega arith)))) in
+      omega (arith, date, h (pos 0) (bytes "1900022924") no_day_no_hour spelled (no_hour (omega arith)))
 
   -- one that gives RULE for every value beside a null flavor, where the value is impossible
-  pub rule_before-date : number_in (s.check-says (pos 0) no-day-null) ≡ number RULE → ⊥
+  pub rule_before-date : number_in (s.check-says (pos 0) no_day-null) ≡ number RULE → ⊥
   unfolding opened
-  rule_before-date e = omega (arith, e, ap number_in ((demands_determine s p).same_check (pos 0) no-day-null))
+  rule_before-date e = omega (arith, e, ap number_in ((demands_determine s p).same_check (pos 0) no_day-null))
 
   -- one that says what is wrong with a time only where that stands alone, and not where it is listed
   pub passes_none-on : ((offset : ℤ) (record' list : List ℕ) → number_in (s.list-says offset record' list) ≡ number DATE → ⊥) → ⊥
   unfolding opened
-  passes_none-on h = h (pos 0) from-no-day [] (ap number_in ((demands_determine s p).same-list (pos 0) from-no-day []))
+  passes_none-on h = h (pos 0) from_no_day [] (ap number_in ((demands_determine s p).same-list (pos 0) from_no_day []))
 
   -- one that pushes an open high too: what it lists is as if a coarse high were closed
   pub pushes_open_high : ((list : List ℕ) → s.list_leaves (pos 0) (pass "true" "20240401" "false" "20240501") list ≡ s.list_leaves (pos 0) (pass "true" "20240401" "true" "20240501") list)

@@ -44,9 +44,10 @@ use Rattle.demands.specs.Services.{Services}
 use Rattle.demands.specs.WrongTimes.{Spells}
 use Rattle.demands.specs.NextUnits.{unit_after, written_after}
 use Rattle.demands.specs.LastDay.{IsCoarse, IsPossible, tick_on, next_tick, Writes, LowIs, HighIs, LastTick, IsBounded, IsPass, ListsAs, stay, stay_stretches, pass, late_term, last_units, last_written, LastDayPromise}
-use Rattle.demands.specs.Demands.{Demand2, Demand3}
-use Rattle.demands.proofs.Answers.{iff_trans, among_when, first_when, none_when}
+use Rattle.demands.specs.Demands.{IsFirst, Demand2, Demand3}
+use Rattle.demands.proofs.Answers.{iff_trans}
 use Rattle.demands.proofs.NextUnits.{date-after, clock-after, as_many, two_digits}
+use Rattle.demands.proofs.TimesWithin.{in_when}
 use Rattle.demands.proofs.WrongTimes.{type_timed}
 use Rattle.demands.proofs.LastDayBounds.{spelled-read, bounds-read, bounds-crossed}
 
@@ -116,6 +117,10 @@ early r = ltb (rank r) (rank RULE)
 not_rule : {l : List Refusal} → Pass early l → Memᴰ RULE l → ⊥
 not_rule h m = omega (arith, ltb-true (rank RULE) (rank RULE) (pass-member early h m))
 
+in_rule : (b : Bool) → Memᴰ RULE (RULE when b) ↔ b ≡ true
+in_rule true = (λ m. refl, λ e. Memᴰ.head refl)
+in_rule false = (λ m. absurd (Memᴰ.not-nil m), λ e. clash (cc))
+
 -- its own faults before RULE
 module _ (shift : ℕ) (p : Standing) (k : Kind) (attrs : List Attribute) where
   own : List Refusal
@@ -140,7 +145,7 @@ module _ (offset : ℤ) (attrs : List Attribute) (kids : Nodes) (l h : Written) 
       | inr i ↦ i
     ],
     λ i. Memᴰ.append_right (own (shift_by offset) p IVL_TS attrs ++ []) i,
-  ) (rw own_rule (among_when RULE (lt_z last (tick_on offset l))))
+  ) (rw own_rule (in_rule (lt_z last (tick_on offset l))))
 
 -- a bound that is written has no fault but of its attributes
 time_early : (shift : ℕ) {kids : Nodes} {child : String} {w : Written} (x : Writes kids child w) → Pass early (faults_as shift x.attrs end (always TS))
@@ -183,6 +188,16 @@ module _ (offset : ℤ) (input : List ℕ) (e : Element) (l h : Written) (last :
       let n : own shift top IVL_TS e.attrs ++ within ≡ []
       = nothing_early (pass-append early (own_before shift top IVL_TS e.attrs) within_early) (λ q m. x.shaped q (subst (Memᴰ q) (sym z) (Memᴰ.append_left _ m))) in
       rw (x.offset_allowed, x.not_too_long, x.utf_8, x.read) (z ∙ ap (◌++ (RULE when lt_z last (tick_on offset l))) n)
+
+first_rule : (b : Bool) → IsFirst RULE (RULE when b) ↔ b ≡ true
+first_rule b = (
+  λ m. (in_rule b).0 m.0,
+  λ e. ((in_rule b).1 e, λ q m. rw (in_when b m) (omega arith)),
+)
+
+no_rule : (b : Bool) → (RULE when b) ≡ [] ↔ b ≡ false
+no_rule true = (λ e. clash (cc), λ e. clash (cc))
+no_rule false = (λ e. refl, λ e. refl)
 
 is-closed : (flag : List ℕ) (attrs : List Attribute) → has_such flag (same (bytes "true")) attrs ≡ true ↔ lookup flag attrs ≡ some (bytes "true")
 is-closed flag attrs = (go (lookup flag attrs), λ e. rw e (same_refl (bytes "true")))
@@ -228,8 +243,8 @@ module _ (s : Services) (two : Demand2 s) (three : Demand3 s) where
       × (number_in (s.check-says offset input) ≡ 0 ↔ lt_z last (tick_on offset l) ≡ false)
   checks offset input e l h last x t =
       let f = faults_are offset input e l h last x t in (
-        iff_trans (two.refused offset input RULE) (rw f (first_when RULE (lt_z last (tick_on offset l)))),
-        iff_trans (two.accepted offset input) (rw f (none_when RULE (lt_z last (tick_on offset l)))),
+        iff_trans (two.refused offset input RULE) (rw f (first_rule (lt_z last (tick_on offset l)))),
+        iff_trans (two.accepted offset input) (rw f (no_rule (lt_z last (tick_on offset l)))),
       )
 
   -- an accepted record is listed as the stretches of the set that it writes
@@ -267,7 +282,7 @@ module _ (s : Services) (two : Demand2 s) (three : Demand3 s) where
 
   rule_within-set : number_in (s.check-says (pos 0) (late_term "false")) ≡ number RULE
   unfolding opened
-  rule_within-set = (two.refused (pos 0) (late_term "false") RULE).1 ((first_when RULE true).1 refl)
+  rule_within-set = (two.refused (pos 0) (late_term "false") RULE).1 ((first_rule true).1 refl)
 
   listed-none : (list : List ℕ) → ListsAs s (pos 0) (pass "false" "2024" "true" "202406") list []
   unfolding opened

@@ -55,8 +55,8 @@ null_by flavor attrs = go (lookup (bytes "nullFlavor") attrs)
     go none h = clash (cc)
     go (some text) h = refl
 
-no-flavor : (flavor : List ℕ) (attrs : List Attribute) → is_null attrs ≡ false → has_flavor flavor attrs ≡ false
-no-flavor flavor attrs = go (lookup (bytes "nullFlavor") attrs)
+no_flavor : (flavor : List ℕ) (attrs : List Attribute) → is_null attrs ≡ false → has_flavor flavor attrs ≡ false
+no_flavor flavor attrs = go (lookup (bytes "nullFlavor") attrs)
   where
     go : (o : Option (List ℕ)) → is_some o ≡ false → if_some o (same flavor) false ≡ false
     go none h = refl
@@ -173,23 +173,23 @@ module _ (offset : ℤ) (attrs : List Attribute) (kids : Nodes) where
 
   low-is : (b : Bound) → bound_of (shift_by offset) low attrs kids ≡ answered b ↔ LowIs offset attrs kids b
   low-is b = (
-    side_is low "low" "NINF" refl refl (LowIs offset attrs kids) (λ w x. LowIs.written_low x (low_reads offset x.spelled x.possible (is_closed low attrs))) LowIs.no-low b,
+    side_is low "low" "NINF" refl refl (LowIs offset attrs kids) (λ w x. LowIs.written_low x (low_reads offset x.spelled x.possible (is_closed low attrs))) LowIs.no_low b,
     back,
   )
     where
       back : {d : Bound} → LowIs offset attrs kids d → bound_of (shift_by offset) low attrs kids ≡ answered d
       back (LowIs.written_low x r) = rw (writes_valued (shift_by offset) low "low" refl kids x) (ap answered (low-one offset x.spelled x.possible r))
-      back (LowIs.no-low x) = rw (unbounds_infinite (shift_by offset) low "low" refl kids "NINF" refl x)
+      back (LowIs.no_low x) = rw (unbounds_infinite (shift_by offset) low "low" refl kids "NINF" refl x)
 
   high_is : (b : Bound) → bound_of (shift_by offset) high attrs kids ≡ answered b ↔ HighIs offset attrs kids b
   high_is b = (
-    side_is high "high" "PINF" refl refl (HighIs offset attrs kids) (λ w x. HighIs.written-high x (high-reads offset x.spelled x.possible (is_closed high attrs))) HighIs.no-high b,
+    side_is high "high" "PINF" refl refl (HighIs offset attrs kids) (λ w x. HighIs.written-high x (high-reads offset x.spelled x.possible (is_closed high attrs))) HighIs.no_high b,
     back,
   )
     where
       back : {d : Bound} → HighIs offset attrs kids d → bound_of (shift_by offset) high attrs kids ≡ answered d
       back (HighIs.written-high x r) = rw (writes_valued (shift_by offset) high "high" refl kids x) (ap answered (high_one offset x.spelled x.possible r))
-      back (HighIs.no-high x) = rw (unbounds_infinite (shift_by offset) high "high" refl kids "PINF" refl x)
+      back (HighIs.no_high x) = rw (unbounds_infinite (shift_by offset) high "high" refl kids "PINF" refl x)
 
   pub bounds-read : (v : Interval) → interval_of (shift_by offset) attrs kids ≡ answered v ↔ LowIs offset attrs kids v.low × HighIs offset attrs kids v.high
   bounds-read v = (
@@ -212,7 +212,7 @@ module _ (offset : ℤ) (attrs : List Attribute) (kids : Nodes) where
         x.high_flagged,
         x.low-written.stands,
         x.high-written.stands,
-        no-flavor (bytes "PINF") x.low-written.attrs x.low-written.not_null,
-        no-flavor (bytes "NINF") x.high-written.attrs x.high-written.not_null,
+        no_flavor (bytes "PINF") x.low-written.attrs x.low-written.not_null,
+        no_flavor (bytes "NINF") x.high-written.attrs x.high-written.not_null,
       )
       (ap (λ (z : ℤ). lt_z z (tick_on offset l)) (last_one offset x.high-written.spelled x.high-written.possible t))

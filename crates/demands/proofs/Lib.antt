@@ -9,8 +9,6 @@ pub mod Retimed
 pub mod WrongTimes
 pub mod LastDayBounds
 pub mod LastDay
-pub mod UuidForms
-pub mod Uuids
 pub mod TotalsNumbers
 pub mod TotalsReadings
 pub mod TotalsDays

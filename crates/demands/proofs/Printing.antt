@@ -26,7 +26,7 @@ use Rattle.rules.proofs.Tests.{clash, both_true}
 use Rattle.rules.proofs.Pieces.{record_short, date-length, clock-length}
 use Rattle.rules.proofs.TickOrder.{tick-from-start}
 use Rattle.rules.proofs.Printing.{record_accepted}
-use Rattle.rules.proofs.PrintingCases.{is_printable, list-bytes, listed-length, listed_back, timing_of_tick, listing-proper, written-bytes, unwritable, full, fitting, printing_case, unwritable_is, printing_unwritable, printing-no-room, printing-answered}
+use Rattle.rules.proofs.PrintingCases.{is_printable, list-bytes, listed-length, listed_back, timing_of_tick, listing-proper, written-bytes, unwritable, full, fitting, printing_case, unwritable_is, printing_unwritable, printing_no_room, printing-answered}
 use Rattle.rules.proofs.ListingPromise.{low_bits, count_bits, list_length, overwrite-begins, overwrite-rest}
 use Rattle.demands.specs.Services.{services, result_in, is_among, Answers, accepts, refuses}
 use Rattle.demands.specs.Printing.{InYears, empty_stay, Prints, ReadsBack, IsProperList, PrintPromise}
@@ -60,7 +60,7 @@ module _ (list record' : List ℕ) where
   unfolding exists
   print-answers = elim (printing_case list (length record')) [
     | unwritable h ↦ by_refusal NOT_WRITABLE refl (printing_unwritable list (length record') h)
-    | full w l ↦ by_refusal NO_ROOM refl (printing-no-room list (length record') w l)
+    | full w l ↦ by_refusal NO_ROOM refl (printing_no_room list (length record') w l)
     | fitting w l ↦ let p = prints w l in accepts p.accepted (rw p.length_given (let q = is_printable list w in record_short (listed list) q.few q.writable))
   ]
 
@@ -68,7 +68,7 @@ module _ (list record' : List ℕ) where
   not_writable = (
     λ e. let r = (packed-refused length outcome NOT_WRITABLE).0 e in elim (printing_case list (length record')) [
       | unwritable h ↦ (unwritable_is list).0 h
-      | full w l ↦ clash (cc (printing-no-room list (length record') w l))
+      | full w l ↦ clash (cc (printing_no_room list (length record') w l))
       | fitting w l ↦ clash (cc (printing-answered list (length record') w l))
     ],
     λ h. (packed-refused length outcome NOT_WRITABLE).1 (printing_unwritable list (length record') ((unwritable_is list).1 h)),
@@ -81,14 +81,14 @@ module _ (list record' : List ℕ) where
       | full w l ↦ (w, l)
       | fitting w l ↦ clash (cc (printing-answered list (length record') w l))
     ],
-    λ (w, l). (packed-refused length outcome NO_ROOM).1 (printing-no-room list (length record') w l),
+    λ (w, l). (packed-refused length outcome NO_ROOM).1 (printing_no_room list (length record') w l),
   )
 
   -- what was printed could be written, and fits
   was_printed : number_in (print_answer list record') ≡ 0 → (is_unwritable list ≡ false) × (length text ≤ length record')
   was_printed e = let (t, a) = packed-accepted length outcome e in elim (printing_case list (length record')) [
     | unwritable h ↦ clash (cc (printing_unwritable list (length record') h))
-    | full w l ↦ clash (cc (printing-no-room list (length record') w l))
+    | full w l ↦ clash (cc (printing_no_room list (length record') w l))
     | fitting w l ↦ (w, l)
   ]
 

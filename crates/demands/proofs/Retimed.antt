@@ -19,9 +19,8 @@ use Rattle.rules.specs.Judge.{Standing, top, is_top, type_columns, null_columns,
 use Rattle.rules.proofs.Tests.{same_true}
 use Rattle.rules.proofs.Children.{faults_as}
 use Rattle.demands.specs.WrongTimes.{IsWrongBy, wrong-form, wrong-date, wrong-clock, wrong-zone, retimed_attribute, retimed, retimed_element}
-use Rattle.demands.proofs.Answers.{in_when}
 use Rattle.demands.proofs.WrongTexts.{in_read, is-wrong_by}
-use Rattle.demands.proofs.TimesWithin.{kids_as}
+use Rattle.demands.proofs.TimesWithin.{in_when, kids_as}
 
 -- two lists of faults that have the same of those that stand before VALUE
 abbrev IsEarly : Refusal → Type 0

@@ -19,7 +19,7 @@ use Rattle.rules.proofs.Digits.{decimal-below, decimal_injective, digits_of-leng
 use Rattle.rules.proofs.Dates.{digits-read}
 use Rattle.rules.proofs.Ticks.{Form, form}
 use Rattle.demands.specs.Totals.{AreDigits, pointed}
-use Rattle.demands.specs.WrongTimes.{SpellsZone, no-offset, plus-hours, minus-hours, plus_minutes, minus_minutes, Spells}
+use Rattle.demands.specs.WrongTimes.{SpellsZone, no_offset, plus-hours, minus-hours, plus_minutes, minus_minutes, Spells}
 
 -- What is read is spelled.
 times-ok : (n : ℕ) (s : List ℕ) {ds r : List ℕ} → times n is_digit s ≡ ok ds r → (s ≡ ds ++ r) × (length ds ≡ n) × (every is_digit ds ≡ true)
@@ -127,7 +127,7 @@ fraction-text n s e = elim (guarded (leb 5 n) point [] s e) [
 offset-text : (n : ℕ) (s : List ℕ) {z : Zone} → else (next (guard (leb 3 n) s) (λ u. zone)) (ok no_zone s) ≡ ok z [] → SpellsZone s z × ((z ≡ no_zone) ⊎ (3 ≤ n))
 offset-text n s e = elim (guarded (leb 3 n) zone no_zone s e) [
   | there b x ↦ (zone-text s x, inr (leb-true 3 n b))
-  | nothing z y ↦ rw (z, y) (no-offset, inl refl)
+  | nothing z y ↦ rw (z, y) (no_offset, inl refl)
 ]
 
 read-spelled : (s : List ℕ) {w : Written} → timestamp s ≡ ok w [] → Spells s w
@@ -163,16 +163,16 @@ data NoDigit : List ℕ → Type 0 where
   at-plus : {s : List ℕ} → NoDigit (43 ∷ s)
   at-minus : {s : List ℕ} → NoDigit (45 ∷ s)
 
-no-digits : {s : List ℕ} → NoDigit s → (digits 2 s ≡ bad) × (one is_digit s ≡ bad)
+no_digits : {s : List ℕ} → NoDigit s → (digits 2 s ≡ bad) × (one is_digit s ≡ bad)
 unfolding digits times one
-no-digits at-end = (refl, refl)
-no-digits at-point = (refl, refl)
-no-digits at-plus = (refl, refl)
-no-digits at-minus = (refl, refl)
+no_digits at-end = (refl, refl)
+no_digits at-point = (refl, refl)
+no_digits at-plus = (refl, refl)
+no_digits at-minus = (refl, refl)
 
 zone-first : {s : List ℕ} {z : Zone} → SpellsZone s z → NoDigit s × (byte 46 s ≡ bad)
 unfolding one
-zone-first no-offset = (at-end, refl)
+zone-first no_offset = (at-end, refl)
 zone-first (plus-hours i) = (at-plus, refl)
 zone-first (minus-hours i) = (at-minus, refl)
 zone-first (plus_minutes i j) = (at-plus, refl)
@@ -186,7 +186,7 @@ parts-read : (n : ℕ) (ps : List ℕ) {r : List ℕ} → length ps ≤ n → ev
 unfolding two_digits flat_map
 parts-read zero [] l h n = refl
 parts-read zero (p ∷ ps) l h n = absurd (omega arith)
-parts-read (suc k) [] l h n = rw (no-digits n).0 refl
+parts-read (suc k) [] l h n = rw (no_digits n).0 refl
 parts-read (suc k) (p ∷ ps) {r} l h n =
     let (f, g) = every_true (λ n. ltb n 100) p ps h in
     rw (append_assoc (digits_of 2 p) (flat_map (digits_of 2) ps) r, digits-read 2 p (flat_map (digits_of 2) ps ++ r) (ltb-true p 100 f), parts-read k ps (omega arith) g n) refl
@@ -202,11 +202,11 @@ fraction-read n [] {s} a o z = go (leb 5 n)
 fraction-read n (d ∷ f) a (inl e) z = clash (cc)
 fraction-read n (d ∷ f) a (inr e) z =
     let (g, h) = every_true is_digit d f a.digits in
-    rw (e, g, up_to-read_lem 3 is_digit f _ (omega (arith, a.few)) h (no-digits (zone-first z).0).1) refl
+    rw (e, g, up_to-read_lem 3 is_digit f _ (omega (arith, a.few)) h (no_digits (zone-first z).0).1) refl
 
 zone-read : (n : ℕ) {s : List ℕ} {z : Zone} → SpellsZone s z → (z ≡ no_zone) ⊎ (3 ≤ n) → else (next (guard (leb 3 n) s) (λ u. zone)) (ok no_zone s) ≡ ok z []
 unfolding zone hours one
-zone-read n no-offset o = go (leb 3 n)
+zone-read n no_offset o = go (leb 3 n)
   where
     go : (b : Bool) → else (next (guard b []) (λ u. zone)) (ok no_zone []) ≡ ok no_zone []
     go true = refl
@@ -215,8 +215,8 @@ zone-read n (plus-hours i) (inl e) = clash (cc)
 zone-read n (minus-hours i) (inl e) = clash (cc)
 zone-read n (plus_minutes i j) (inl e) = clash (cc)
 zone-read n (minus_minutes i j) (inl e) = clash (cc)
-zone-read n (plus-hours {h = h} i) (inr l) = rw (le-leb 3 n l, ← append-nil (digits_of 2 h), digits-read 2 h [] i, (no-digits at-end).0) refl
-zone-read n (minus-hours {h = h} i) (inr l) = rw (le-leb 3 n l, ← append-nil (digits_of 2 h), digits-read 2 h [] i, (no-digits at-end).0) refl
+zone-read n (plus-hours {h = h} i) (inr l) = rw (le-leb 3 n l, ← append-nil (digits_of 2 h), digits-read 2 h [] i, (no_digits at-end).0) refl
+zone-read n (minus-hours {h = h} i) (inr l) = rw (le-leb 3 n l, ← append-nil (digits_of 2 h), digits-read 2 h [] i, (no_digits at-end).0) refl
 zone-read n (plus_minutes {h = h} {m = m} i j) (inr l) =
     rw (le-leb 3 n l, digits-read 2 h (digits_of 2 m) i, ← append-nil (digits_of 2 m), digits-read 2 m [] j) refl
 zone-read n (minus_minutes {h = h} {m = m} i j) (inr l) =

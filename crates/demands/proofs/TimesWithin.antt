@@ -19,7 +19,6 @@ use Rattle.rules.specs.Judge.{Standing, top, member, inside, is_top, type_column
 use Rattle.rules.proofs.Tests.{clash, both_true, found, same_true, same_refl}
 use Rattle.rules.proofs.Children.{faults_as}
 use Rattle.demands.specs.WrongTimes.{texts_in, part_refusals}
-use Rattle.demands.proofs.Answers.{in_when}
 
 -- the refusals of texts stand from VALUE to before RULE, and those that the request adds after VALUE
 abbrev pub IsOfText : Refusal → Type 0
@@ -34,6 +33,10 @@ is_part_lem m = elim (Memᴰ.cases_cons m) [
   | inl e ↦ rw e (omega arith)
   | inr m ↦ elim (Memᴰ.cases_cons m) [ inl e ↦ rw e (omega arith) | inr m ↦ rw (Memᴰ.eq_of_singleton m) (omega arith) ]
 ]
+
+pub in_when : {r q : Refusal} (b : Bool) → Memᴰ r (q when b) → r ≡ q
+in_when true m = Memᴰ.eq_of_singleton m
+in_when false m = absurd (Memᴰ.not-nil m)
 
 -- one of these is no other
 pub not_of_text : {A : Type 0} (q : Refusal) → IsOfText q → (p : Refusal) → (IsOfText p → ⊥) → q ≡ p → A

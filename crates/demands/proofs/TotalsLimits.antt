@@ -15,7 +15,7 @@ use Rattle.rules.specs.TotalNumbers.{entry_number}
 use Rattle.rules.specs.TotalDays.{Call, reading_of, answer_to, IsUsable, HasNoRow, History, sum_added, currencies_added, rows_of}
 use Rattle.rules.proofs.Tests.{same_true}
 use Rattle.rules.proofs.TotalRows.{sum-none}
-use Rattle.rules.proofs.Totals.{exactly-no-row, exactly-total}
+use Rattle.rules.proofs.Totals.{exactly_no_row, exactly-total}
 use Rattle.demands.specs.Totals.{Limits}
 use Rattle.demands.proofs.Answers.{iff_trans}
 use Rattle.demands.proofs.TotalsDays.{packed-number}
@@ -64,7 +64,7 @@ pub limits_met : (a : History (Outcome Entry)) (k : Call) (t : Table) → t.rows
     → Limits a c z (packed entry_number (answer_to k t))
 limits_met a k t e u c z h = record {
   no_row =
-      iff_trans (packed-number (answer_to k t) NO_ROW) (iff_trans (exactly-no-row k t) (
+      iff_trans (packed-number (answer_to k t) NO_ROW) (iff_trans (exactly_no_row k t) (
         λ (d, y, v, i, n). (full_is a c).0 (subst (HasNoRow c) e (subst (λ x. HasNoRow x t.rows) (one-currency i) n)),
         λ n. (c, z, u, h, subst (HasNoRow c) (sym e) ((full_is a c).1 n)),
       ));

@@ -90,8 +90,8 @@ pub total-range : (z : ℤ) {n : ℕ} → IsTotal z n → is_in_range z ≡ true
 total-range z (m, l, inl (e, f)) = ap is_in_range e ∙ (range_of false m).1 l
 total-range z (m, l, inr (e, k, f)) = ap is_in_range e ∙ (range_of true m).1 l
 
-pub no-total : (z : ℤ) → is_in_range z ≡ false ↔ ((n : ℕ) → IsTotal z n → ⊥)
-no-total z = (λ e n t. let f = total-range z t in clash (cc), λ h. go (is_in_range z) refl h)
+pub no_total : (z : ℤ) → is_in_range z ≡ false ↔ ((n : ℕ) → IsTotal z n → ⊥)
+no_total z = (λ e n t. let f = total-range z t in clash (cc), λ h. go (is_in_range z) refl h)
   where
     go : (b : Bool) → is_in_range z ≡ b → ((n : ℕ) → IsTotal z n → ⊥) → b ≡ false
     go true e h = absurd (h (total_number z) (total_of z e))

@@ -15,7 +15,7 @@ use Rattle.rules.specs.Parsers.{whole}
 use Rattle.rules.specs.Timestamp.{Zone, no_zone, plus, minus, Written, timestamp, month_of, hour_of, minute_of, second_of, is_date, is_clock, is_offset_time, is_zone, Moment, moment_of, read_timestamp}
 use Rattle.rules.proofs.Tests.{clash, both_true, is_from-true_lem}
 use Rattle.rules.proofs.Ticks.{read-wrong-form, read_right_form}
-use Rattle.demands.specs.WrongTimes.{Spells, Outside, ImpossibleDate, no-year, no_month, no-day, ImpossibleClock, no-hour, no-minute, no_second, OverOffset, ImpossibleOffset, no_plus, no_minus, IsWrongBy, wrong-form, wrong-date, wrong-clock, wrong-zone}
+use Rattle.demands.specs.WrongTimes.{Spells, Outside, ImpossibleDate, no_year, no_month, no_day, ImpossibleClock, no_hour, no_minute, no_second, OverOffset, ImpossibleOffset, no_plus, no_minus, IsWrongBy, wrong-form, wrong-date, wrong-clock, wrong-zone}
 use Rattle.demands.proofs.Spelling.{spells}
 
 one-false : (a b : Bool) → (a && b) ≡ false → (a ≡ false) ⊎ (b ≡ false)
@@ -30,21 +30,21 @@ not-outside low high n e (inl h) = omega (arith, is_from-true_lem low high n e, 
 not-outside low high n e (inr h) = omega (arith, is_from-true_lem low high n e, h)
 
 module _ (w : Written) where
-  is-no-date : is_date w ≡ false → ImpossibleDate w
-  is-no-date e = elim (one-false (is_from 1 9999 w.year && is_from 1 12 (month_of w)) _ e) [
-    | inl f ↦ elim (one-false (is_from 1 9999 w.year) _ f) [ inl g ↦ no-year (is-outside 1 9999 _ g) | inr g ↦ no_month (is-outside 1 12 _ g) ]
-    | inr f ↦ no-day (is-outside 1 _ _ f)
+  is_no_date : is_date w ≡ false → ImpossibleDate w
+  is_no_date e = elim (one-false (is_from 1 9999 w.year && is_from 1 12 (month_of w)) _ e) [
+    | inl f ↦ elim (one-false (is_from 1 9999 w.year) _ f) [ inl g ↦ no_year (is-outside 1 9999 _ g) | inr g ↦ no_month (is-outside 1 12 _ g) ]
+    | inr f ↦ no_day (is-outside 1 _ _ f)
   ]
 
   is-date : is_date w ≡ true → ImpossibleDate w → ⊥
   is-date e n =
       let (f, d) = both_true (is_from 1 9999 w.year && is_from 1 12 (month_of w)) _ e in
       let (y, m) = both_true (is_from 1 9999 w.year) _ f in
-      elim n [ no-year h ↦ not-outside 1 9999 _ y h | no_month h ↦ not-outside 1 12 _ m h | no-day h ↦ not-outside 1 _ _ d h ]
+      elim n [ no_year h ↦ not-outside 1 9999 _ y h | no_month h ↦ not-outside 1 12 _ m h | no_day h ↦ not-outside 1 _ _ d h ]
 
-  is-no-clock : is_clock w ≡ false → ImpossibleClock w
-  is-no-clock e = elim (one-false (leb (hour_of w) 23 && leb (minute_of w) 59) _ e) [
-    | inl f ↦ elim (one-false (leb (hour_of w) 23) _ f) [ inl g ↦ no-hour (leb-false _ 23 g) | inr g ↦ no-minute (leb-false _ 59 g) ]
+  is_no_clock : is_clock w ≡ false → ImpossibleClock w
+  is_no_clock e = elim (one-false (leb (hour_of w) 23 && leb (minute_of w) 59) _ e) [
+    | inl f ↦ elim (one-false (leb (hour_of w) 23) _ f) [ inl g ↦ no_hour (leb-false _ 23 g) | inr g ↦ no_minute (leb-false _ 59 g) ]
     | inr f ↦ no_second (leb-false _ 59 f)
   ]
 
@@ -53,8 +53,8 @@ module _ (w : Written) where
       let (f, s) = both_true (leb (hour_of w) 23 && leb (minute_of w) 59) _ e in
       let (h, m) = both_true (leb (hour_of w) 23) _ f in
       elim n [
-        | no-hour l ↦ omega (arith, l, leb-true (hour_of w) 23 h)
-        | no-minute l ↦ omega (arith, l, leb-true (minute_of w) 59 m)
+        | no_hour l ↦ omega (arith, l, leb-true (hour_of w) 23 h)
+        | no_minute l ↦ omega (arith, l, leb-true (minute_of w) 59 m)
         | no_second l ↦ omega (arith, l, leb-true (second_of w) 59 s)
       ]
 
@@ -66,10 +66,10 @@ not_over h m e o =
     let (f, g) = both_true (leb m 59) _ e in
     elim o [ inl l ↦ omega (arith, l, leb-true m 59 f) | inr l ↦ omega (arith, l, leb-true (60 * h + m) 840 g) ]
 
-is-no-zone : (z : Zone) → is_zone z ≡ false → ImpossibleOffset z
-is-no-zone no_zone e = clash (cc)
-is-no-zone (plus h m) e = no_plus (is_over h m e)
-is-no-zone (minus h m) e = no_minus (is_over h m e)
+is_no_zone : (z : Zone) → is_zone z ≡ false → ImpossibleOffset z
+is_no_zone no_zone e = clash (cc)
+is_no_zone (plus h m) e = no_plus (is_over h m e)
+is_no_zone (minus h m) e = no_minus (is_over h m e)
 
 is-zone : (z : Zone) → is_zone z ≡ true → ImpossibleOffset z → ⊥
 is-zone no_zone e n = elim n [ ]
@@ -92,9 +92,9 @@ module _ (shift : ℕ) (text : List ℕ) where
     where
       by_parts : (w : Written) → Spells text w → (a b c : Bool) → is_date w ≡ a → is_clock w ≡ b → is_zone w.zone ≡ c
           → cond a (cond b (cond c (answered (moment_of shift w)) (refused ZONE)) (refused CLOCK)) (refused DATE) ≡ refused r → IsWrongBy text r
-      by_parts w f false b c p q t h = let z : r ≡ DATE = cc in rw z (wrong-date f (is-no-date w p))
-      by_parts w f true false c p q t h = let z : r ≡ CLOCK = cc in rw z (wrong-clock f (is-date w p) (is-no-clock w q))
-      by_parts w f true true false p q t h = let z : r ≡ ZONE = cc in rw z (wrong-zone f (is-date w p) (is-clock w q) (is-no-zone w.zone t))
+      by_parts w f false b c p q t h = let z : r ≡ DATE = cc in rw z (wrong-date f (is_no_date w p))
+      by_parts w f true false c p q t h = let z : r ≡ CLOCK = cc in rw z (wrong-clock f (is-date w p) (is_no_clock w q))
+      by_parts w f true true false p q t h = let z : r ≡ ZONE = cc in rw z (wrong-zone f (is-date w p) (is-clock w q) (is_no_zone w.zone t))
       by_parts w f true true true p q t h = clash (cc)
 
       by_form : (o : Option Written) → whole timestamp text ≡ o → IsWrongBy text r
@@ -110,10 +110,10 @@ module _ (shift : ℕ) (text : List ℕ) where
   wrong-refused (wrong-date {w = w} f n) = read_right_form shift text w ((spells text w).1 f) ∙ rw (else-false (is_date w) (λ e. is-date w e n)) refl
   wrong-refused (wrong-clock {w = w} f d n) =
       read_right_form shift text w ((spells text w).1 f)
-      ∙ rw (else-true (is_date w) (λ e. d (is-no-date w e)), else-false (is_clock w) (λ e. is-clock w e n)) refl
+      ∙ rw (else-true (is_date w) (λ e. d (is_no_date w e)), else-false (is_clock w) (λ e. is-clock w e n)) refl
   wrong-refused (wrong-zone {w = w} f d c n) =
       read_right_form shift text w ((spells text w).1 f)
-      ∙ rw (else-true (is_date w) (λ e. d (is-no-date w e)), else-true (is_clock w) (λ e. c (is-no-clock w e)), else-false (is_zone w.zone) (λ e. is-zone w.zone e n)) refl
+      ∙ rw (else-true (is_date w) (λ e. d (is_no_date w e)), else-true (is_clock w) (λ e. c (is_no_clock w e)), else-false (is_zone w.zone) (λ e. is-zone w.zone e n)) refl
 
   pub is-wrong_by : (r : Refusal) → read_timestamp shift text ≡ refused r ↔ IsWrongBy text r
   is-wrong_by r = (refused-wrong r, wrong-refused)

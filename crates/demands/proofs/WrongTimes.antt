@@ -37,11 +37,11 @@ use Rattle.demands.specs.Services.{Services}
 use Rattle.demands.specs.Totals.{Reads}
 use Rattle.demands.specs.WrongTimes.{IsWrongBy, texts_in, texts_of, IsOfTimes, HasWrongForm, wrong-flavor, wrong-flag, wrong-text, retimed_element, HasWrongTime, part_refusals, WrongTimesPromise}
 use Rattle.demands.specs.Demands.{IsFirst, Demand2, Demand3}
-use Rattle.demands.proofs.Answers.{iff_trans, in_when}
+use Rattle.demands.proofs.Answers.{iff_trans}
 use Rattle.demands.proofs.TotalsReadings.{reads}
 use Rattle.demands.proofs.WrongTexts.{in_read, is-wrong_by}
 use Rattle.demands.proofs.Retimed.{type-same, alike_top}
-use Rattle.demands.proofs.TimesWithin.{IsOfText, IsPart, is_part_lem, not_of_text, not_part, is_timed, IsText, time-text, flavor-text, low-text, high-text, record_timed, own_texts, HasFault, among, element-fault, IsClean, fault_in_element, fault_in_children}
+use Rattle.demands.proofs.TimesWithin.{IsOfText, IsPart, is_part_lem, in_when, not_of_text, not_part, is_timed, IsText, time-text, flavor-text, low-text, high-text, record_timed, own_texts, HasFault, among, element-fault, IsClean, fault_in_element, fault_in_children}
 
 -- the faults that don't lie in the element
 abbrev outer_faults : (offset : ℤ) → List ℕ → List Refusal

@@ -19,7 +19,6 @@ use Rattle.demands.specs.Printing.{PrintPromise}
 use Rattle.demands.specs.Years.{YearsPromise}
 use Rattle.demands.specs.WrongTimes.{WrongTimesPromise}
 use Rattle.demands.specs.LastDay.{LastDayPromise}
-use Rattle.demands.specs.Uuids.{UuidsPromise}
 use Rattle.demands.specs.Totals.{TotalsPromise}
 use Rattle.demands.specs.Desks.{DesksPromise}
 
@@ -129,5 +128,3 @@ pub record Demands (s : Services) : Type 0 where
   -- requests A6 and A7
   pub totals : TotalsPromise
   pub desks : DesksPromise s
-  -- request A9
-  pub uuids : UuidsPromise s

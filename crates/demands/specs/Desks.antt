@@ -94,7 +94,7 @@ pub record NotFull (numbers : List ℕ) (n : ℕ) : Type 0 where
 
 -- Refusals that a start, a record and a report share. "23 NO DESK, before all others, for a desk number other than 1 or 2"; then 21.
 pub data Refuses (numbers : List ℕ) (n : ℕ) : (answer : ℕ) → Type 0 where
-  no-desk : (IsDesk n → ⊥) → Refuses numbers n (number NO_DESK)
+  no_desk : (IsDesk n → ⊥) → Refuses numbers n (number NO_DESK)
   damaged : IsDesk n → IsFaulty numbers → Refuses numbers n (number DAMAGED)
 
 -- "A start of the day clears one desk's rows and counts only, and its freed rows are used again": the rows held are the first ones, the other desk's in
@@ -151,7 +151,7 @@ pub data Reporting (numbers before : List ℕ) (n : ℕ) : (answer : ℕ) → (a
 
 -- of adding: each refusal that the two requests add, and exactly when it is given
 pub record Exactly (numbers : List ℕ) (n : ℕ) (k : Call) (answer : ℕ) : Type 0 where
-  pub no-desk : answer ≡ number NO_DESK ↔ (IsDesk n → ⊥)
+  pub no_desk : answer ≡ number NO_DESK ↔ (IsDesk n → ⊥)
   pub damaged : answer ≡ number DAMAGED ↔ IsDesk n × IsFaulty numbers
   pub day-full : answer ≡ number DAY_FULL ↔ Undamaged numbers n × (counted_by n numbers ≡ 1_000_000)
   pub no_row : answer ≡ number NO_ROW

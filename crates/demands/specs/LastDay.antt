@@ -83,11 +83,11 @@ module _ (offset : ℤ) where
   -- the bounds of an interval's element
   pub data LowIs (attrs : List Attribute) (kids : Nodes) : Bound → Type 0 where
     written_low : {w : Written} {b : Bound} → Writes kids "low" w → LowReads w (is_closed low attrs) b → LowIs attrs kids b
-    no-low : Unbounds kids "low" "NINF" → LowIs attrs kids unbounded
+    no_low : Unbounds kids "low" "NINF" → LowIs attrs kids unbounded
 
   pub data HighIs (attrs : List Attribute) (kids : Nodes) : Bound → Type 0 where
     written-high : {w : Written} {b : Bound} → Writes kids "high" w → HighReads w (is_closed high attrs) b → HighIs attrs kids b
-    no-high : Unbounds kids "high" "PINF" → HighIs attrs kids unbounded
+    no_high : Unbounds kids "high" "PINF" → HighIs attrs kids unbounded
 
   -- "the last tick taken in by a closed coarse high, or .. the high's tick otherwise"
   pub data LastTick (w : Written) : (closed : Bool) → ℤ → Type 0 where

@@ -4,7 +4,6 @@ pub mod Years
 pub mod NextUnits
 pub mod WrongTimes
 pub mod LastDay
-pub mod Uuids
 pub mod Totals
 pub mod Desks
 pub mod Demands

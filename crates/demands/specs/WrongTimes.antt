@@ -20,7 +20,7 @@ use Rattle.demands.specs.Totals.{AreDigits, pointed}
 
 -- A text of "the right form" and what it writes, in the page's words: an offset is "`+` or `-` with hh or hhmm", or none,
 pub data SpellsZone : List ℕ → Zone → Type 0 where
-  no-offset : SpellsZone [] no_zone
+  no_offset : SpellsZone [] no_zone
   plus-hours : {h : ℕ} → h < 100 → SpellsZone (bytes "+" ++ digits_of 2 h) (plus h 0)
   minus-hours : {h : ℕ} → h < 100 → SpellsZone (bytes "-" ++ digits_of 2 h) (minus h 0)
   plus_minutes : {h m : ℕ} → h < 100 → m < 100 → SpellsZone (bytes "+" ++ digits_of 2 h ++ digits_of 2 m) (plus h m)
@@ -46,14 +46,14 @@ Outside least most n = (n < least) ⊎ (most < n)
 
 -- "an impossible date (year included)",
 pub data ImpossibleDate (w : Written) : Type 0 where
-  no-year : Outside 1 9999 w.year → ImpossibleDate w
+  no_year : Outside 1 9999 w.year → ImpossibleDate w
   no_month : Outside 1 12 (month_of w) → ImpossibleDate w
-  no-day : Outside 1 (month_length w.year (month_of w)) (day_of w) → ImpossibleDate w
+  no_day : Outside 1 (month_length w.year (month_of w)) (day_of w) → ImpossibleDate w
 
 -- "clock"
 pub data ImpossibleClock (w : Written) : Type 0 where
-  no-hour : 23 < hour_of w → ImpossibleClock w
-  no-minute : 59 < minute_of w → ImpossibleClock w
+  no_hour : 23 < hour_of w → ImpossibleClock w
+  no_minute : 59 < minute_of w → ImpossibleClock w
   no_second : 59 < second_of w → ImpossibleClock w
 
 -- "or offset": minutes over 59, or over 14:00

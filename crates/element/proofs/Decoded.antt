@@ -18,7 +18,7 @@ use Rattle.text.proofs.Reading.{here, none_of}
 use Rattle.markup.specs.Values.{CharBy, char_is, no_char}
 use Rattle.markup.specs.declared.value.Char.{Char}
 use Rattle.markup.specs.declared.value.Char.TheVariants.{Is, Nothing}
-use Rattle.element.specs.Texts.{TextAt, Chars, no-chars, chars, CharOn, no-char-on, char-on, is_nothing}
+use Rattle.element.specs.Texts.{TextAt, Chars, no_chars, chars, CharOn, no_char-on, char-on, is_nothing}
 
 -- the characters stand after the quote
 pub text-start : {s : List ℕ} {at i : ℕ} → Good 1 (byte 34) s at i → (v after : List ℕ) → value (drop at s) ≡ ok v after → TextAt s i v
@@ -37,7 +37,7 @@ chars-end {s} {at} (upto e g) v x = go x.fuel x.reads
   where
     go : (f : ℕ) → text f (drop at s) ≡ ok v x.after → Chars s v Nothing
     go zero q = clash (cc)
-    go (suc f) q = let r = rw g.reads at q in let z : [] ≡ v = cc in subst (λ (p : List ℕ). Chars s p Nothing) z no-chars
+    go (suc f) q = let r = rw g.reads at q in let z : [] ≡ v = cc in subst (λ (p : List ℕ). Chars s p Nothing) z no_chars
 
 -- else a character, and the others after it
 pub chars-next : {s : List ℕ} {at : ℕ} {r : Char} → Reads 1 (byte 34) s at Bad → CharBy char s at r → (v : List ℕ) → TextAt s at v → Chars s v r
@@ -57,7 +57,7 @@ chars-next {s} {at} b (no_char p) v x = go x.fuel x.reads
 
 pub chars-on : {s : List ℕ} {at : ℕ} {r : Char} → CharBy char s at r → CharOn s at r
 chars-on (char_is c e l h p) = char-on c e l h
-chars-on (no_char p) = no-char-on
+chars-on (no_char p) = no_char-on
 
 -- what an answer says once its case is known
 pub on-bounds : {s : List ℕ} {at c e : ℕ} {r : Char} → r ≡ Is c e → CharOn s at r → (at < e) × (e ≤ length s)
@@ -70,7 +70,7 @@ pub chars-none : {s : List ℕ} {v : List ℕ} {r : Char} → r ≡ Nothing → 
 chars-none {s} {v} z h = go (subst (λ (y : Char). Chars s v y) z h)
   where
     go : {v : List ℕ} → Chars s v Nothing → v ≡ []
-    go no-chars = refl
+    go no_chars = refl
 
 pub chars-some : {s : List ℕ} {v : List ℕ} {c e : ℕ} {r : Char} → r ≡ Is c e → Chars s v r → (w : List ℕ) × (v ≡ c ∷ w) × TextAt s e w
 chars-some {s} {v} z h = go (subst (λ (y : Char). Chars s v y) z h)
@@ -80,7 +80,7 @@ chars-some {s} {v} z h = go (subst (λ (y : Char). Chars s v y) z h)
 
 -- there is no character exactly where the text is empty
 pub chars-empty : {s : List ℕ} {v : List ℕ} {r : Char} → Chars s v r → is_nothing r ≡ is_empty v
-chars-empty no-chars = refl
+chars-empty no_chars = refl
 chars-empty (chars c e w x) = refl
 
 -- b says whether the text whose characters stand from i on is t from k on
@@ -122,7 +122,7 @@ module _ {s t : List ℕ} {i j : ℕ} {p r : Char} (h : (v : List ℕ) → TextA
   agree_end z v w x y = rw (chars-none z (h v x)) (go (k w y))
     where
       go : {w : List ℕ} {r : Char} → Chars t w r → is_nothing r ≡ same [] w
-      go no-chars = refl
+      go no_chars = refl
       go (chars c e w x) = refl
 
   module _ {c e : ℕ} (z : p ≡ Is c e) where

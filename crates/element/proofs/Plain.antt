@@ -44,9 +44,9 @@ name-size [] h = clash (cc)
 name-size (c ∷ n) h = omega arith
 
 -- no white space stands at a position
-no-space : (s : List ℕ) (at c : ℕ) {t : List ℕ} → drop at s ≡ c ∷ t → is_space c ≡ false → at < length s → Good 0 space s at at
+no_space : (s : List ℕ) (at c : ℕ) {t : List ℕ} → drop at s ≡ c ∷ t → is_space c ≡ false → at < length s → Good 0 space s at at
 unfolding every
-no-space s at c {t} e f h = record { low = omega arith; high = omega arith; value = []; reads = rw e (many_read is_space [] (c ∷ t) refl f) }
+no_space s at c {t} e f h = record { low = omega arith; high = omega arith; value = []; reads = rw e (many_read is_space [] (c ∷ t) refl f) }
 
 -- a name n, `="`, and the rest
 module _ (s : List ℕ) (at : ℕ) (n rest : List ℕ) (is : drop at s ≡ n ++ 61 ∷ 34 ∷ rest) where
@@ -58,7 +58,7 @@ module _ (s : List ℕ) (at : ℕ) (n rest : List ℕ) (is : drop at s ≡ n ++ 
       let (f, q) = after-byte s (at + length n) past in
       let (g, r) = after-byte s (at + length n + 1) (sym q) in (
         record { low = omega (arith, name-size n h); high = omega arith; value = n; reads = rw (is, past) (name-read n (61 ∷ 34 ∷ rest) h refl) },
-        value_here (no-space s (at + length n) 61 past refl f) (no-space s (at + length n + 1) 34 (sym q) refl g) g,
+        value_here (no_space s (at + length n) 61 past refl f) (no_space s (at + length n + 1) 34 (sym q) refl g) g,
         e ∙ rw (is, take_at n (61 ∷ 34 ∷ rest) (at + length n - at) (omega arith)) refl,
       )
 

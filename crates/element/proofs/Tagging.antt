@@ -124,8 +124,8 @@ module _ {s : List ℕ} {at n m : ℕ} (h : HeadTo s at n m) (c : Carried) (t : 
   )
 
 -- there is none
-pub no-tag : {P : Type 0} {s : List ℕ} {at depth : ℕ} {v : Element} {after : List ℕ} → ((f d : ℕ) → element f d (drop at s) ≡ bad) → ElementTo s at depth v after → P
-no-tag {depth = depth} b x = let z = sym (b x.fuel depth) ∙ x.reads in clash (cc)
+pub no_tag : {P : Type 0} {s : List ℕ} {at depth : ℕ} {v : Element} {after : List ℕ} → ((f d : ℕ) → element f d (drop at s) ≡ bad) → ElementTo s at depth v after → P
+no_tag {depth = depth} b x = let z = sym (b x.fuel depth) ∙ x.reads in clash (cc)
 
-pub no-tag_in : (s : List ℕ) {at : ℕ} → TagIn s (record { places = no_places; others = 0; namespaces = 0; name = 0; past = 0; end = length s; full = false }) × (at < length s → at < length s)
-no-tag_in s = (record { placed = λ k. rw (none_there k) (omega arith); name = omega arith; past = omega arith; end = omega arith }, λ h. h)
+pub no_tag_in : (s : List ℕ) {at : ℕ} → TagIn s (record { places = no_places; others = 0; namespaces = 0; name = 0; past = 0; end = length s; full = false }) × (at < length s → at < length s)
+no_tag_in s = (record { placed = λ k. rw (none_there k) (omega arith); name = omega arith; past = omega arith; end = omega arith }, λ h. h)

@@ -18,12 +18,12 @@ pub record TextAt (s : List ℕ) (at : ℕ) (v : List ℕ) : Type 0 where
 
 -- an answer on characters: there is none; or the first stands for c, and the others stand from e on
 pub data Chars (s : List ℕ) : List ℕ → Char → Type 0 where
-  no-chars : Chars s [] Nothing
+  no_chars : Chars s [] Nothing
   chars : (c e : ℕ) (v : List ℕ) → TextAt s e v → Chars s (c ∷ v) (Is c e)
 
 -- the position that an answer names lies further on
 pub data CharOn (s : List ℕ) (at : ℕ) : Char → Type 0 where
-  no-char-on : CharOn s at Nothing
+  no_char-on : CharOn s at Nothing
   char-on : (c e : ℕ) → at < e → e ≤ length s → CharOn s at (Is c e)
 
 abbrev pub is_nothing : Char → Bool

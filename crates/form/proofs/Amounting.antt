@@ -19,7 +19,7 @@ use Rattle.rules.specs.LentLists.{unsigned}
 use Rattle.rules.specs.TotalNumbers.{currency_number}
 use Rattle.rules.proofs.Tests.{both_true}
 use Rattle.rules.proofs.References.{is_referenced}
-use Rattle.rules.proofs.Unreferenced.{no-currency}
+use Rattle.rules.proofs.Unreferenced.{no_currency}
 use Rattle.rules.proofs.Parsers.{more_ok, more, done}
 use Rattle.text.specs.Numbers.{Counted, FractionAt}
 use Rattle.text.specs.declared.digits.Fraction.{Fraction}
@@ -100,4 +100,4 @@ pub currency-long : (t : List ℕ) → is_currency t ≡ true → length t ≡ 3
 currency-long t h = eqb-true (length t) 3 (both_true (eqb (length t) 3) _ h).0
 
 pub no_code : (t : List ℕ) → exists is_referenced t ≡ true → code_of t ≡ 0
-no_code t e = rw (no-currency t e)
+no_code t e = rw (no_currency t e)

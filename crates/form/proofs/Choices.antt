@@ -45,7 +45,7 @@ in_groups p a b c l m =
     ∙ ap (λ q. p a || q) (sym (exists-append p l (b ∷ c ∷ m)))
 
 -- a flavor is NI, one of an invalid value, MSK, NA, or one of an unknown value
-pub flavor-groups : (t : List ℕ)
+pub flavor_groups : (t : List ℕ)
     → ((((same t (bytes "NI") || is_invalid_flavor t) || same t (bytes "MSK")) || same t (bytes "NA")) || is_unknown_flavor t) ≡ is_flavor t
 unfolding one_of split
-flavor-groups t = in_groups (same t) (bytes "NI") (bytes "MSK") (bytes "NA") (words (bytes "INV DER OTH NINF PINF UNC")) (words (bytes "UNK ASKU NAV NASK QS TRC"))
+flavor_groups t = in_groups (same t) (bytes "NI") (bytes "MSK") (bytes "NA") (words (bytes "INV DER OTH NINF PINF UNC")) (words (bytes "UNK ASKU NAV NASK QS TRC"))

@@ -2,8 +2,6 @@ pub mod Quoted
 pub mod Parting
 pub mod Wording
 pub mod Oids
-pub mod Pairing
-pub mod Uuids
 pub mod Choices
 pub mod Amounting
 pub mod Faults

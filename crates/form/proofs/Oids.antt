@@ -11,10 +11,10 @@ use lib.ListN.{length, get_or, take, drop}
 use lib.Seq.{take_all}
 use Rattle.rules.specs.Basics.{every, split, is_digit, decimal}
 use Rattle.rules.specs.Parsers.{bad, one}
-use Rattle.rules.specs.Forms.{is_plain_number, are_arcs, is_oid}
+use Rattle.rules.specs.Forms.{is_plain_number, is_oid, is_root}
 use Rattle.rules.proofs.Tests.{clash, both_true, is_from-true_lem, every_true}
 use Rattle.rules.proofs.Digits.{decimal-from}
-use Rattle.rules.proofs.Unreferenced.{plain_digits, arcs_plain}
+use Rattle.rules.proofs.Unreferenced.{plain_digits, oid_numbers}
 use Rattle.text.specs.Numbers.{Counted}
 use Rattle.form.specs.Parted.{PartAt}
 use Rattle.form.proofs.Parting.{one_part, two-parts}
@@ -108,17 +108,17 @@ module _ (a b : ℕ) where
       rw (e, eq-eqb a 2 (omega arith))
 
 -- an OID
-pub oid_long : (t : List ℕ) → 128 < length t → false ≡ is_oid t
-unfolding is_oid
-oid_long t h = rw (lt-leb (length t) 128 h)
+pub root-long : (t : List ℕ) → 128 < length t → false ≡ is_root t
+unfolding is_root
+root-long t h = rw (lt-leb (length t) 128 h)
 
-pub oid_other : (t : List ℕ) → every is_plain_number (split 46 t) ≡ false → false ≡ is_oid t
-unfolding is_oid
-oid_other t e = rw (fails (are_arcs (split 46 t)) _ (arcs_plain (split 46 t)) e) (sym (and-false (leb (length t) 128)))
+pub root-other : (t : List ℕ) → every is_plain_number (split 46 t) ≡ false → false ≡ is_root t
+unfolding is_root
+root-other t e = rw (fails (is_oid (split 46 t)) _ (oid_numbers (split 46 t)) e) (sym (and-false (leb (length t) 128)))
 
-pub oid_one : (t : List ℕ) (i : ℕ) → PartAt 46 t 0 i → i ≡ length t → false ≡ is_oid t
-unfolding is_oid are_arcs
-oid_one t i p l = rw (one_part 46 t i p l) (sym (and-false (leb (length t) 128)))
+pub root-one : (t : List ℕ) (i : ℕ) → PartAt 46 t 0 i → i ≡ length t → false ≡ is_root t
+unfolding is_root is_oid
+root-one t i p l = rw (one_part 46 t i p l) (sym (and-false (leb (length t) 128)))
 
 -- its first two numbers
 abbrev first : List ℕ → (i : ℕ) → List ℕ
@@ -128,13 +128,13 @@ abbrev second : List ℕ → (i e : ℕ) → List ℕ
 second t i e = take (e - (i + 1)) (drop (i + 1) t)
 
 module _ (t : List ℕ) (i e : ℕ) (n : every is_plain_number (split 46 t) ≡ true) (p : PartAt 46 t 0 i) (l : i < length t) (q : PartAt 46 t (i + 1) e) where
-  pub oid_leads : (is_plain_number (first t i) ≡ true) × (is_plain_number (second t i e) ≡ true)
-  oid_leads =
+  pub root-numbers : (is_plain_number (first t i) ≡ true) × (is_plain_number (second t i e) ≡ true)
+  root-numbers =
       let (f, g) = every_true is_plain_number (first t i) _ (rw (two-parts 46 t i e p l q) at n) in
       (f, (every_true is_plain_number (second t i e) _ g).0)
 
-  pub oid_two : length t ≤ 128 → (leb (decimal (first t i)) 2 && (eqb (decimal (first t i)) 2 || leb (decimal (second t i e)) 39)) ≡ is_oid t
-  unfolding is_oid are_arcs
-  oid_two h =
+  pub root-two : length t ≤ 128 → (leb (decimal (first t i)) 2 && (eqb (decimal (first t i)) 2 || leb (decimal (second t i e)) 39)) ≡ is_root t
+  unfolding is_root is_oid
+  root-two h =
       let m = rw (two-parts 46 t i e p l q) at n in
       rw (le-leb (length t) 128 h, two-parts 46 t i e p l q, m)

@@ -2,4 +2,3 @@ pub mod Meaning
 pub mod Parted
 pub mod Words
 pub mod Amounts
-pub mod Paired

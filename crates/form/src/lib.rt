@@ -6,7 +6,7 @@ ghost use Rattle.rules.specs.Refusal.{VALUE, faults_of, first_of, ◌when◌};
 ghost use Rattle.rules.specs.Parsers.{ok, whole};
 ghost use Rattle.rules.specs.Markup.{value};
 ghost use Rattle.rules.specs.Timestamp.{read_timestamp};
-ghost use Rattle.rules.specs.Forms.{amount_text, same_uuid, form_faults};
+ghost use Rattle.rules.specs.Forms.{amount_text, form_faults};
 ghost use Rattle.refusal.specs.Meaning.{fault_of};
 ghost use Rattle.timestamp.specs.Moments.{outcome_of};
 ghost use Rattle.form.specs.Amounts.{amount_of, code_of, Small};
@@ -17,8 +17,6 @@ pub mod money;
 pub mod name;
 pub mod oid;
 mod parts;
-pub mod root;
-pub mod uuid;
 
 use money::Amount;
 use refusal::{Refusal, Verdict};
@@ -85,19 +83,6 @@ pub fn currency(s: &[u8], q: usize, e: usize) -> u64
     money::code(raw)
 }
 
-// Whether two values are one UUID, whatever the letter case.
-pub fn same_uuid(s: &[u8], q: usize, e: usize, t: &[u8], p: usize, f: usize) -> bool
-    requires fact_1 { q < e }
-    requires fact_2 { e ≤ length s.now }
-    requires fact_3 { p < f }
-    requires fact_4 { f ≤ length t.now }
-    ensures { (v w : List ℕ) → value (drop q s.now) ≡ ok v (drop e s.now) → value (drop p t.now) ≡ ok w (drop f t.now) → result ≡ same_uuid v w }
-{
-    let first = inside(s, q, e);
-    let second = inside(t, p, f);
-    uuid::is_same(first, second)
-}
-
 // VALUE, unless a text is of its form.
 fn value_unless(good: bool) -> Verdict
     ensures { fault_of result ≡ first_of (VALUE when not good) }
@@ -155,7 +140,7 @@ pub fn fault(s: &[u8], q: usize, e: usize, form: Form, shift: u64) -> Verdict
         Form::Flag => value_unless(fixed::is_flag(s, q)),
         Form::Amount => value_unless(is_amount(s, q, e)),
         Form::Currency => value_unless(money::is_currency(raw)),
-        Form::Root => value_unless(root::is_root(raw)),
+        Form::Root => value_unless(oid::is_root(raw)),
         Form::PartType => value_unless(fixed::is_part_type(s, q)),
         Form::Qualifiers => value_unless(name::is_qualifiers(raw)),
     }

@@ -1,7 +1,7 @@
 // OIDs: numbers parted by dots.
 ghost use Rattle.std.specs.Prelude.{◌≡◌, true, ◌&&◌, ◌||◌, ◌<◌, leb, eqb};
 ghost use Rattle.rules.specs.Basics.{decimal};
-ghost use Rattle.rules.specs.Forms.{is_plain_number, is_oid};
+ghost use Rattle.rules.specs.Forms.{is_plain_number, is_root};
 
 use crate::parts::{Part, are_parts, part_end};
 use text::digits;
@@ -53,8 +53,8 @@ fn may_lead(a: &[u8], b: &[u8]) -> bool
 }
 
 // Whether a text is an OID of at most 128 bytes.
-pub fn is_oid(t: &[u8]) -> bool
-    ensures { result ≡ is_oid t.now }
+pub fn is_root(t: &[u8]) -> bool
+    ensures { result ≡ is_root t.now }
 {
     if MOST < t.len() {
         return false;

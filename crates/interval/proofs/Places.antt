@@ -5,7 +5,7 @@ use Rattle.rules.specs.Basics.{if_some, exists}
 use Rattle.rules.specs.Timestamp.{tick_at}
 use Rattle.rules.specs.Sets.{Place, at, gap_after, ◌isBefore◌, first_place, holds, is_in}
 use Rattle.rules.proofs.Order.{places, up, down, next-number}
-use Rattle.rules.proofs.TickOrder.{origin, ticks-apart}
+use Rattle.rules.proofs.TickOrder.{origin, ticks_apart}
 use Rattle.rules.proofs.Edges.{end_place, since, until, past, half_open}
 use Rattle.rules.proofs.Canonical.{Canonical as Rises}
 use Rattle.interval.specs.declared.Bound.{Bound}
@@ -22,10 +22,10 @@ record Numbered (y : Place) (e : ℕ) : Type 0 where
   high : e < top
 
 tick-number : (n : ℕ) → n < 2 ^ 60 → Numbered (at (tick_at n)) (2 * n + 1)
-tick-number n h = record { number = omega (arith, ticks-apart n); low = omega arith; high = omega arith }
+tick-number n h = record { number = omega (arith, ticks_apart n); low = omega arith; high = omega arith }
 
 gap-number : (n : ℕ) → n < 2 ^ 60 → Numbered (gap_after (tick_at n)) (2 * n + 2)
-gap-number n h = record { number = omega (arith, ticks-apart n, next-number (at (tick_at n))); low = omega arith; high = omega arith }
+gap-number n h = record { number = omega (arith, ticks_apart n, next-number (at (tick_at n))); low = omega arith; high = omega arith }
 
 -- the number of any place: those below all ticks have 0, those above them that of the gap after the last
 pub spot : Place → ℕ

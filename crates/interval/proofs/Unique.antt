@@ -30,12 +30,12 @@ pub stretches-meant : (e : Expression) (s : Stretches) → Canonical s → ((x :
 stretches-meant e s c h = is-stretches e (are_stretches s c h)
 
 -- [a, b] and [c, d] stay apart where b is before c, also where they are neighbours, because the gap between them is out
-pub stays-apart : (a b c d : ℤ) → le_z a b ≡ true → lt_z b c ≡ true → le_z c d ≡ true
+pub stays_apart : (a b c d : ℤ) → le_z a b ≡ true → lt_z b c ≡ true → le_z c d ≡ true
     → let first = closed_at a upto closed_at b in
     let second = closed_at c upto closed_at d in
     (s : Stretches) → Canonical s → ((x : Place) → is_in (stretches_of s) x ≡ meant (combine union (interval first) (interval second)) x)
     → stretches_of s ≡ first ∷ second ∷ []
-stays-apart a b c d f g h s k e = stretches-meant _ s k e ∙ apart a b c d f g h
+stays_apart a b c d f g h s k e = stretches-meant _ s k e ∙ apart a b c d f g h
 
 -- ---- the code's items, from what they mean
 bound_one : (a b : Bound) → bound_of a ≡ bound_of b → a ≡ b

@@ -27,11 +27,11 @@ use Rattle.refusal.specs.declared.Verdict.{Verdict}
 use Rattle.judge.specs.Checks.{RefusedAs, DocumentAs, CheckedAs}
 use Rattle.judge.specs.Faults.{judged}
 use Rattle.judge.specs.declared.Checked.{Checked}
-use Rattle.judge.proofs.Inputs.{input_long, input_not_utf8, input_no-document, input_document}
+use Rattle.judge.proofs.Inputs.{input_long, input_not_utf8, input_no_document, input_document}
 
 -- a tag of nothing
-pub no-tag : (s : List ℕ) → TagIn s (record { places = no_places; others = 0; namespaces = 0; name = 0; past = 0; end = 0; full = false })
-no-tag s = record { placed = λ k. rw (none_there k) (omega arith); name = omega arith; past = omega arith; end = omega arith }
+pub no_tag : (s : List ℕ) → TagIn s (record { places = no_places; others = 0; namespaces = 0; name = 0; past = 0; end = 0; full = false })
+no_tag s = record { placed = λ k. rw (none_there k) (omega arith); name = omega arith; past = omega arith; end = omega arith }
 
 module _ {s : List ℕ} {at : ℕ} (shift : ℕ) (t : Tag) (root : (v : Element) → document s ≡ some v → (after : List ℕ) × ElementTo s at 8 v after)
     (tag : (depth : ℕ) (v : Element) (after : List ℕ) → ElementTo s at depth v after → TagOf s depth v after t)
@@ -43,9 +43,9 @@ module _ {s : List ℕ} {at : ℕ} (shift : ℕ) (t : Tag) (root : (v : Element)
   typed v d = named v.attrs ((rooted v d).1.tells.placed 2 (omega arith))
 
   -- the document has no type, or one
-  pub no-type : n ≡ Nothing → (r : Checked) → RefusedAs «Type» r → DocumentAs s shift r
+  pub no_type : n ≡ Nothing → (r : Checked) → RefusedAs «Type» r → DocumentAs s shift r
   unfolding first_of element_faults
-  no-type z r x = record {
+  no_type z r x = record {
     within = x.within s;
     fault = λ v d. rw (x.fault, sym (typed v d), z);
     held = λ v k d e. let w : none ≡ some k = sym (ap type_meant z) ∙ typed v d ∙ e in clash (cc);
@@ -69,8 +69,8 @@ module _ (shift : ℕ) (s : List ℕ) (r : Checked) where
     not_utf8 h x = record { within = x.within s; fault = x.fault ∙ input_not_utf8 shift s short h; held = λ v k e f. clash (cc (f, h)) }
 
     module _ (whole : is_utf8 s ≡ true) where
-      pub no-document : is_some (document s) ≡ false → RefusedAs Markup r → CheckedAs s shift r
-      no-document h x = record { within = x.within s; fault = x.fault ∙ input_no-document shift s short whole h; held = λ v k e f d. clash (cc (ap is_some d, h)) }
+      pub no_document : is_some (document s) ≡ false → RefusedAs Markup r → CheckedAs s shift r
+      no_document h x = record { within = x.within s; fault = x.fault ∙ input_no_document shift s short whole h; held = λ v k e f d. clash (cc (ap is_some d, h)) }
 
       pub a_document : is_some (document s) ≡ true → DocumentAs s shift r → CheckedAs s shift r
       a_document h x = record { within = x.within; fault = input_document shift s short whole h x.fault; held = λ v k e f. x.held v k }

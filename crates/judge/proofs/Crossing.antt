@@ -47,15 +47,15 @@ crossed_unpushed closed l h e = rw (crossed closed l h, e)
 abbrev others : List ℕ
 others = 0 ∷ 2 ∷ 3 ∷ 4 ∷ 5 ∷ 6 ∷ 7 ∷ 8 ∷ 9 ∷ 10 ∷ []
 
-pub no-interval : {P : Type 0} (k : Kind) → OneOf others (tag_of kind.the_type k) → kind_meant k ≡ IVL_TS → P
-no-interval IvlTs h e = absurd (miss others 1 tt h)
-no-interval Ts h e = clash (cc)
-no-interval QsuTs h e = clash (cc)
-no-interval QsiTs h e = clash (cc)
-no-interval QsdTs h e = clash (cc)
-no-interval Mo h e = clash (cc)
-no-interval Ii h e = clash (cc)
-no-interval Cd h e = clash (cc)
-no-interval En h e = clash (cc)
-no-interval DisplayName h e = clash (cc)
-no-interval Part h e = clash (cc)
+pub no_interval : {P : Type 0} (k : Kind) → OneOf others (tag_of kind.the_type k) → kind_meant k ≡ IVL_TS → P
+no_interval IvlTs h e = absurd (miss others 1 tt h)
+no_interval Ts h e = clash (cc)
+no_interval QsuTs h e = clash (cc)
+no_interval QsiTs h e = clash (cc)
+no_interval QsdTs h e = clash (cc)
+no_interval Mo h e = clash (cc)
+no_interval Ii h e = clash (cc)
+no_interval Cd h e = clash (cc)
+no_interval En h e = clash (cc)
+no_interval DisplayName h e = clash (cc)
+no_interval Part h e = clash (cc)

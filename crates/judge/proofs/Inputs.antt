@@ -43,9 +43,9 @@ module _ (shift : ℕ) (input : List ℕ) where
         (least_first NOT_UTF_8 _ (element-or_markup (λ q. leb (rank NOT_UTF_8) (rank q)) refl refl refl refl refl refl refl shift input refl))
 
     module _ (whole : is_utf8 input ≡ true) where
-      pub input_no-document : is_some (document input) ≡ false → some MARKUP ≡ first_of (input_faults shift input)
+      pub input_no_document : is_some (document input) ≡ false → some MARKUP ≡ first_of (input_faults shift input)
       unfolding first_of
-      input_no-document e = rw (le-ltb 16_384 (length input) short, whole) (go (document input) e)
+      input_no_document e = rw (le-ltb 16_384 (length input) short, whole) (go (document input) e)
         where
           go : (o : Option Element) → is_some o ≡ false → some MARKUP ≡ first_of (faults_in (top_faults shift) (if_some o answered (refused MARKUP)))
           go none e = refl

@@ -118,8 +118,8 @@ module _ (list : List ℕ) (n k : ℕ) (l : k < n) (r : Row) (f : Left list r k 
   pub next_unparted : is_clash (row_of r) (row_of q) ≡ true → is_improper_list list ≡ true
   next_unparted g = next_row ∙ rw g
 
-  pub next-good : is_faulty (row_of q) ≡ false → is_clash (row_of r) (row_of q) ≡ false → Left list q (k + 1) n
-  next-good g d = record { good = g; decides = next_row ∙ rw (g, d) }
+  pub next_good : is_faulty (row_of q) ≡ false → is_clash (row_of r) (row_of q) ≡ false → Left list q (k + 1) n
+  next_good g d = record { good = g; decides = next_row ∙ rw (g, d) }
 
 pub none_left : (list : List ℕ) (n k : ℕ) → n ≤ k → (r : Row) → Left list r k n → is_improper_list list ≡ false
 unfolding rows_from follows
@@ -137,23 +137,23 @@ proper-length list h = go (eqb (length list % 32) 0) refl
     go false e = clash (cc (improper_part list (eqb-false (length list % 32) 0 e)))
 
 -- a row that is a stretch's
-pub good-kinds : (r : Row) → is_faulty (row_of r) ≡ false → (r.low_kind < 3) × (r.high_kind < 3)
-good-kinds r h =
+pub good_kinds : (r : Row) → is_faulty (row_of r) ≡ false → (r.low_kind < 3) × (r.high_kind < 3)
+good_kinds r h =
     let (a, b) = neither (has_bad_kind (row_of r) || has_end_tick (row_of r)) _ h in
     let (d, e) = neither (has_bad_kind (row_of r)) _ a in
     let (f, g) = both_true (is_kind (row_of r).low_kind) (is_kind (row_of r).high_kind) (not-false _ d) in
     (ltb-true _ 3 (sym (kind-signed r.low_kind) ∙ f), ltb-true _ 3 (sym (kind-signed r.high_kind) ∙ g))
 
-rest-good : (r : PageRow) (rs : List PageRow) → faulty (r ∷ rs) ≡ false → faulty rs ≡ false
+rest_good : (r : PageRow) (rs : List PageRow) → faulty (r ∷ rs) ≡ false → faulty rs ≡ false
 unfolding follows
-rest-good r [] h = refl
-rest-good r (q ∷ qs) h = (neither (is_clash r q) _ (neither (is_faulty r) _ h).1).1
+rest_good r [] h = refl
+rest_good r (q ∷ qs) h = (neither (is_clash r q) _ (neither (is_faulty r) _ h).1).1
 
-row-good : (list : List ℕ) (j n k : ℕ) → faulty (rows_from list j n) ≡ false → k < n → is_faulty (row_of (row_at list (j + k))) ≡ false
+row_good : (list : List ℕ) (j n k : ℕ) → faulty (rows_from list j n) ≡ false → k < n → is_faulty (row_of (row_at list (j + k))) ≡ false
 unfolding rows_from
-row-good list j zero k h l = absurd (omega arith)
-row-good list j (suc n) zero h l = let e : j + 0 ≡ j = omega arith in rw e (neither (is_faulty (row_of (row_at list j))) _ h).0
-row-good list j (suc n) (suc k) h l = let e : j + suc k ≡ j + 1 + k = omega arith in rw e (row-good list (j + 1) n k (rest-good (row_of (row_at list j)) (rows_from list (j + 1) n) h) (omega arith))
+row_good list j zero k h l = absurd (omega arith)
+row_good list j (suc n) zero h l = let e : j + 0 ≡ j = omega arith in rw e (neither (is_faulty (row_of (row_at list j))) _ h).0
+row_good list j (suc n) (suc k) h l = let e : j + suc k ≡ j + 1 + k = omega arith in rw e (row_good list (j + 1) n k (rest_good (row_of (row_at list j)) (rows_from list (j + 1) n) h) (omega arith))
 
 -- each row of a proper list is a stretch's
 pub proper-row : (list : List ℕ) (k : ℕ) → is_improper_list list ≡ false → 32 * k + 32 ≤ length list → is_faulty (row_of (row_at list k)) ≡ false
@@ -161,7 +161,7 @@ proper-row list k h l =
     let n = length list / 32 in
     let p = proper-length list h in
     let e : 0 + k ≡ k = omega arith in
-    rw e at (row-good list 0 n k (neither (ltb 32 n) _ (sym (list-is list n (omega arith)) ∙ h)).1 (omega arith))
+    rw e at (row_good list 0 n k (neither (ltb 32 n) _ (sym (list-is list n (omega arith)) ∙ h)).1 (omega arith))
 
 pub proper-kinds : (list : List ℕ) (k : ℕ) → is_improper_list list ≡ false → 32 * k + 32 ≤ length list → ((row_at list k).low_kind < 3) × ((row_at list k).high_kind < 3)
-proper-kinds list k h l = good-kinds (row_at list k) (proper-row list k h l)
+proper-kinds list k h l = good_kinds (row_at list k) (proper-row list k h l)

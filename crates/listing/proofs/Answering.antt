@@ -15,7 +15,7 @@ use Rattle.rules.specs.Services.{eight_bytes, overwrite, room_of}
 use Rattle.rules.specs.ListingPromise.{is_listed}
 use Rattle.rules.proofs.Tests.{clash}
 use Rattle.rules.proofs.Members.{set-intervals, set-refused}
-use Rattle.rules.proofs.ListingCases.{element_unclear, element_too_many, element-no-room, element-listing}
+use Rattle.rules.proofs.ListingCases.{element_unclear, element_too_many, element_no_room, element-listing}
 use Rattle.refusal.specs.declared.Refusal.TheVariants.{UnknownBound, TooMany, NoRoom}
 use Rattle.interval.specs.declared.Interval.{Interval}
 use Rattle.interval.specs.declared.Stretches.{Stretches}
@@ -72,10 +72,10 @@ module _ (shift : ℕ) (e : Element) (before : List ℕ) (faultless : top_faults
       counted : (x : Expression) → IsSet x r → length (stretches x) ≡ r.set.count
       counted x s = sym (ap length (the_stretches x s)) ∙ used-count r.set long formed.canonical.fits
 
-      pub answers-no-room : length before / 32 < r.set.count → Answers (expected shift e before) before (Refused NoRoom) before
-      answers-no-room l =
+      pub answers_no_room : length before / 32 < r.set.count → Answers (expected shift e before) before (Refused NoRoom) before
+      answers_no_room l =
           let (x, z, s) = the_set in
-          let d : expected shift e before ≡ refused NO_ROOM = element-no-room shift (room_of before) e x z (written-few x z s) (omega (arith, counted x s)) in
+          let d : expected shift e before ≡ refused NO_ROOM = element_no_room shift (room_of before) e x z (written-few x z s) (omega (arith, counted x s)) in
           rw d (record { answer = refl; lent = refl })
 
       pub answers-count : r.set.count ≤ length before / 32 → {after : List ℕ} → after ≡ overwrite before (flat_map eight_bytes (list_numbers (stretches_of r.set)))

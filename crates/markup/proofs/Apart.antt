@@ -60,18 +60,18 @@ passes k l = is_apart k l && is_distinct l
 abbrev pub ReadsApart : List (List ℕ) → List ℕ → (at : ℕ) → Read → Type 0
 ReadsApart k s at r = (f : ℕ) → length s ≤ at + f → Reads 0 (guarded (passes k) f) s at r
 
-pub apart-start : {s : List ℕ} {at : ℕ} (r : Read) → ReadsApart [] s at r → ReadsDistinct s at r
+pub apart_start : {s : List ℕ} {at : ℕ} (r : Read) → ReadsApart [] s at r → ReadsDistinct s at r
 unfolding is_apart
-apart-start r h = h
+apart_start r h = h
 
-apart-nothing : (k : List (List ℕ)) → is_apart k [] ≡ true
+apart_nothing : (k : List (List ℕ)) → is_apart k [] ≡ true
 unfolding is_apart lookup
-apart-nothing [] = refl
-apart-nothing (n ∷ k) = apart-nothing k
+apart_nothing [] = refl
+apart_nothing (n ∷ k) = apart_nothing k
 
-pub apart-end : {s : List ℕ} {i : ℕ} (k : List (List ℕ)) → i ≤ length s → Stops s i → ReadsApart k s i (At i)
+pub apart_end : {s : List ℕ} {i : ℕ} (k : List (List ℕ)) → i ≤ length s → Stops s i → ReadsApart k s i (At i)
 unfolding is_distinct
-apart-end {s} {i} k l h f m = upto i (record { low = omega arith; high = l; value = []; reads = rw (h f, apart-nothing k) })
+apart_end {s} {i} k l h f m = upto i (record { low = omega arith; high = l; value = []; reads = rw (h f, apart_nothing k) })
 
 -- one attribute before others
 module _ (a : RulesAttribute) (l : List RulesAttribute) where

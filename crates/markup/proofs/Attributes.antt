@@ -14,7 +14,7 @@ use Rattle.text.specs.Reads.{Good, Reads, upto, none as not-read}
 use Rattle.text.specs.declared.Read.{Read}
 use Rattle.text.specs.declared.Read.TheVariants.{At, Bad}
 use Rattle.text.proofs.Reading.{none_of}
-use Rattle.markup.specs.Attributes.{AttributeTo, PartsAt, parts, no-parts, AttributesAt, Finds, absent, present, Answers, ReadsDistinct, ToldAt, sure}
+use Rattle.markup.specs.Attributes.{AttributeTo, PartsAt, parts, no_parts, AttributesAt, Finds, absent, present, Answers, ReadsDistinct, ToldAt, sure}
 use Rattle.markup.specs.declared.marks.Told.{Told}
 use Rattle.markup.specs.declared.marks.Told.TheVariants.{Sure}
 use Rattle.markup.specs.declared.tag.Parts.{Parts}
@@ -44,10 +44,10 @@ told-sure {s} {at} z h = go (subst (λ (y : Told). ToldAt s at y) z h)
     go (sure r d) = d
 
 -- a name, an equals sign and a value, with white space around the sign
-pub parts-good : (s : List ℕ) (at n i j q e : ℕ) → Good 1 name s at n → Good 0 space s n i → Good 1 (byte 61) s i j → Good 0 space s j q → Good 1 value s q e
+pub parts_good : (s : List ℕ) (at n i j q e : ℕ) → Good 1 name s at n → Good 0 space s n i → Good 1 (byte 61) s i j → Good 0 space s j q → Good 1 value s q e
     → PartsAt s at (Attribute n q e)
 unfolding attribute
-parts-good s at n i j q e g₁ g₂ g₃ g₄ g₅ = parts n q e (record {
+parts_good s at n i j q e g₁ g₂ g₃ g₄ g₅ = parts n q e (record {
   name-low = omega (arith, g₁.low);
   name-high = omega (arith, g₂.low, g₃.low, g₄.low);
   value_low = omega (arith, g₅.low);
@@ -81,8 +81,8 @@ stops_space b (suc f) = rw (none_of some_space b)
 
 pub stops_attribute : {s : List ℕ} {i j : ℕ} → Good 1 some_space s i j → PartsAt s j Nothing → Stops s i
 unfolding attributes
-stops_attribute g (no-parts b) zero = refl
-stops_attribute g (no-parts b) (suc f) = rw (g.reads, b)
+stops_attribute g (no_parts b) zero = refl
+stops_attribute g (no_parts b) (suc f) = rw (g.reads, b)
 
 pub find-end : {s : List ℕ} (key : List ℕ) {i : ℕ} → Stops s i → Answers s key i Absent
 unfolding lookup

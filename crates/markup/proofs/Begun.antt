@@ -12,7 +12,7 @@ use Rattle.markup.specs.Attributes.{AttributeTo, ReadsDistinct}
 use Rattle.markup.specs.Marks.{is_among, NamesFrom, no_names}
 use Rattle.markup.proofs.Attributes.{Stops}
 use Rattle.markup.proofs.Before.{names_more}
-use Rattle.markup.proofs.Apart.{Known, known-none, known_more, ReadsApart, apart-start, apart-end, apart_more, apart_again}
+use Rattle.markup.proofs.Apart.{Known, known-none, known_more, ReadsApart, apart_start, apart_end, apart_more, apart_again}
 
 -- an answer on the attributes from i on, apart from the names before, is an answer from the start on
 pub record Begun (P : List ℕ → Type 0) (s : List ℕ) (at i : ℕ) : Type 0 where
@@ -23,10 +23,10 @@ pub record Begun (P : List ℕ → Type 0) (s : List ℕ) (at i : ℕ) : Type 0 
   pub on : (r : Read) → ReadsApart names s i r → ReadsDistinct s at r
 
 pub begun-start : (P : List ℕ → Type 0) {s : List ℕ} {at : ℕ} → at ≤ length s → Begun P s at at
-begun-start P l = record { high = l; names = []; from = no_names; known = known-none P; on = apart-start }
+begun-start P l = record { high = l; names = []; from = no_names; known = known-none P; on = apart_start }
 
 pub begun-end : {P : List ℕ → Type 0} {s : List ℕ} {at i : ℕ} → Begun P s at i → Stops s i → ReadsDistinct s at (At i)
-begun-end b h = b.on _ (apart-end b.names b.high h)
+begun-end b h = b.on _ (apart_end b.names b.high h)
 
 -- an attribute more
 module _ {P : List ℕ → Type 0} {s : List ℕ} {at i j n q e : ℕ} (b : Begun P s at i) (g : Good 1 some_space s i j) (a : AttributeTo s j n q e) where

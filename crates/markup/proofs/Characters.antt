@@ -13,7 +13,7 @@ use Rattle.rules.proofs.Tests.{both_true}
 use Rattle.text.specs.Reads.{Good, Reads, upto, none}
 use Rattle.text.specs.declared.Read.{Read}
 use Rattle.text.specs.declared.Read.TheVariants.{At, Bad}
-use Rattle.text.proofs.Reading.{here, then, then_not, last, first, second, one-no}
+use Rattle.text.proofs.Reading.{here, then, then_not, last, first, second, one_no}
 use Rattle.markup.specs.Values.{CharBy, char_is, no_char, stands_for, is_simple, ReadsText, TextOn}
 use Rattle.markup.specs.declared.value.Char.{Char}
 use Rattle.markup.specs.declared.value.Char.TheVariants.{Is, Nothing}
@@ -22,8 +22,8 @@ use Rattle.markup.specs.declared.value.Char.TheVariants.{Is, Nothing}
 pub char-answer : {P : Parser ℕ} {s : List ℕ} {at : ℕ} {r x : Char} → r ≡ x → CharBy P s at r → CharBy P s at x
 char-answer {P} {s} {at} q h = subst (λ (y : Char). CharBy P s at y) q h
 
-pub char-good : {P : Parser ℕ} {s : List ℕ} {at c e : ℕ} → CharBy P s at (Is c e) → Good 1 P s at e
-char-good (char_is c e l h q) = record { low = omega arith; high = h; value = c; reads = q }
+pub char_good : {P : Parser ℕ} {s : List ℕ} {at c e : ℕ} → CharBy P s at (Is c e) → Good 1 P s at e
+char_good (char_is c e l h q) = record { low = omega arith; high = h; value = c; reads = q }
 
 pub char-none : {P : Parser ℕ} {s : List ℕ} {at : ℕ} → CharBy P s at Nothing → Reads 1 P s at Bad
 char-none (no_char h) = none h
@@ -33,8 +33,8 @@ pub char-one : (p : ℕ → Bool) (s : List ℕ) (at : ℕ) → at < length s �
 unfolding one
 char-one p s at h e = char_is (get_or s at 0) (at + 1) (omega arith) (omega arith) (rw (here s at h, e))
 
-pub char-no : {P : Parser ℕ} {k : ℕ} {s : List ℕ} {at : ℕ} → Reads k P s at Bad → CharBy P s at Nothing
-char-no (none h) = no_char h
+pub char_no : {P : Parser ℕ} {k : ℕ} {s : List ℕ} {at : ℕ} → Reads k P s at Bad → CharBy P s at Nothing
+char_no (none h) = no_char h
 
 -- one reading, or else the other
 module _ (P Q : Parser ℕ) {s : List ℕ} {at : ℕ} where
@@ -54,11 +54,11 @@ module _ (P Q : Parser ℕ) {s : List ℕ} {at : ℕ} where
 
 -- bytes that stand for one
 module _ (t : List ℕ) (c : ℕ) {k : ℕ} {s : List ℕ} {at : ℕ} where
-  pub written-yes : {e : ℕ} → 1 ≤ k → Good k (literal t) s at e → CharBy (stands_for t c) s at (Is c e)
-  written-yes {e} l g = char_is c e (omega (arith, g.low)) g.high (rw g.reads)
+  pub written_yes : {e : ℕ} → 1 ≤ k → Good k (literal t) s at e → CharBy (stands_for t c) s at (Is c e)
+  written_yes {e} l g = char_is c e (omega (arith, g.low)) g.high (rw g.reads)
 
-  pub written-no : Reads k (literal t) s at Bad → CharBy (stands_for t c) s at Nothing
-  written-no (none h) = no_char (rw h)
+  pub written_no : Reads k (literal t) s at Bad → CharBy (stands_for t c) s at Nothing
+  written_no (none h) = no_char (rw h)
 
 -- a character of a value
 module _ {k : ℕ} {s : List ℕ} {at : ℕ} where
@@ -102,7 +102,7 @@ on_more a b q g = record {
 -- a simple byte is a character
 module _ (s : List ℕ) (i : ℕ) (h : i < length s) (e : is_simple (get_or s i 0) ≡ true) where
   differs : (b : ℕ) → eqb (get_or s i 0) b ≡ false → Reads 1 (byte b) s i Bad
-  differs b d = one-no (λ c. eqb c b) s i h d
+  differs b d = one_no (λ c. eqb c b) s i h d
 
   inside : eqb (get_or s i 0) 0xEF ≡ false → Reads 1 noncharacter s i Bad
   unfolding noncharacter literal
@@ -121,4 +121,4 @@ module _ (s : List ℕ) (i : ℕ) (h : i < length s) (e : is_simple (get_or s i 
       char-inside (inside (not-true _ n)) (char-first _ _ (char-one is_plain s i h p))
 
   pub on_simple : {at : ℕ} → TextOn s at i → TextOn s at (i + 1)
-  on_simple a = on_more a (on_none s i (omega arith)) not_quote (char-good simple_char)
+  on_simple a = on_more a (on_none s i (omega arith)) not_quote (char_good simple_char)

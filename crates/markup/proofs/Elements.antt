@@ -9,7 +9,7 @@ use Rattle.text.specs.Reads.{Good, Reads, upto, none}
 use Rattle.text.specs.declared.Read.{Read}
 use Rattle.text.specs.declared.Read.TheVariants.{At, Bad}
 use Rattle.text.proofs.Reading.{good, any, then, then_not, last, first, second, stay}
-use Rattle.markup.specs.Tags.{TagAt, empty-tag, open_tag, no-tag}
+use Rattle.markup.specs.Tags.{TagAt, empty-tag, open_tag, no_tag}
 use Rattle.markup.specs.Elements.{ReadsElement, ReadsContent}
 use Rattle.markup.specs.declared.tag.Tag.TheVariants.{Empty, Open, Bad as Tag-as-Bad}
 use Rattle.markup.proofs.Names.{name-is}
@@ -21,8 +21,8 @@ module _ {s : List ℕ} {at : ℕ} where
   too_deep zero e (suc f) h = none refl
   too_deep (suc d) e (suc f) h = absurd (omega arith)
 
-  pub no-element : (depth : ℕ) → TagAt s at Tag-as-Bad → ReadsElement s at depth Bad
-  no-element depth (no-tag b) f h = none (b f depth)
+  pub no_element : (depth : ℕ) → TagAt s at Tag-as-Bad → ReadsElement s at depth Bad
+  no_element depth (no_tag b) f h = none (b f depth)
 
   pub empty-element : (depth : ℕ) → (depth ≡ 0 → ⊥) → {n m e : ℕ} → TagAt s at (Empty n m e) → ReadsElement s at depth (At e)
   unfolding element

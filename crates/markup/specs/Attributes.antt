@@ -24,7 +24,7 @@ pub record AttributeTo (s : List ℕ) (at n q e : ℕ) : Type 0 where
 
 pub data PartsAt (s : List ℕ) (at : ℕ) : Parts → Type 0 where
   parts : (n q e : ℕ) → AttributeTo s at n q e → PartsAt s at (Attribute n q e)
-  no-parts : attribute (drop at s) ≡ bad → PartsAt s at Nothing
+  no_parts : attribute (drop at s) ≡ bad → PartsAt s at Nothing
 
 -- the attributes that stand from a position on
 pub record AttributesAt (s : List ℕ) (at : ℕ) (l : List RulesAttribute) : Type 0 where

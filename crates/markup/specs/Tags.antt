@@ -18,7 +18,7 @@ pub record HeadTo (s : List ℕ) (at n m : ℕ) : Type 0 where
 -- the beginning of a tag, or none with which an element begins
 pub data HeadAt (s : List ℕ) (at : ℕ) : Head → Type 0 where
   head : (n m : ℕ) → HeadTo s at n m → HeadAt s at (Named n m)
-  no-head : ((f d : ℕ) → element f d (drop at s) ≡ bad) → HeadAt s at Head-as-Bad
+  no_head : ((f d : ℕ) → element f d (drop at s) ≡ bad) → HeadAt s at Head-as-Bad
 
 -- a tag at a position as far as its closing at e: its name stands at n, up to m
 pub record TagTo (s : List ℕ) (at n m e : ℕ) : Type 0 where
@@ -31,4 +31,4 @@ pub record TagTo (s : List ℕ) (at n m e : ℕ) : Type 0 where
 pub data TagAt (s : List ℕ) (at : ℕ) : Tag → Type 0 where
   empty-tag : (n m i e : ℕ) → TagTo s at n m i → Good 2 (literal (bytes "/>")) s i e → TagAt s at (Empty n m e)
   open_tag : (n m i e : ℕ) → TagTo s at n m i → Reads 2 (literal (bytes "/>")) s i Bad → Good 1 (byte 62) s i e → TagAt s at (Open n m e)
-  no-tag : ((f d : ℕ) → element f d (drop at s) ≡ bad) → TagAt s at Tag-as-Bad
+  no_tag : ((f d : ℕ) → element f d (drop at s) ≡ bad) → TagAt s at Tag-as-Bad

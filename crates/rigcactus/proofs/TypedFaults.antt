@@ -24,9 +24,9 @@ module _ (may : Element → Bool) (shift : ℕ) (input : List ℕ) {b : Bool} {x
   first = first_of (input_faults shift input)
 
   -- with MARKUP once more, and with TYPE where the type is not allowed
-  no-document : document input ≡ none → (q : Refusal) → earlier (some MARKUP) (some q) ≡ some MARKUP → earlier first (some q) ≡ first
+  no_document : document input ≡ none → (q : Refusal) → earlier (some MARKUP) (some q) ≡ some MARKUP → earlier first (some q) ≡ first
   unfolding first_of
-  no-document d q h =
+  no_document d q h =
       rw (d, first_of-append_lem (TOO_LONG when is_too_long input ++ NOT_UTF_8 when not (is_utf8 input)) (MARKUP ∷ []))
       (earlier_assoc (first_of (TOO_LONG when is_too_long input ++ NOT_UTF_8 when not (is_utf8 input))) (some MARKUP) (some q) ∙ ap (earlier (first_of (TOO_LONG when is_too_long input ++ NOT_UTF_8 when not (is_utf8 input)))) h)
 
@@ -40,7 +40,7 @@ module _ (may : Element → Bool) (shift : ℕ) (input : List ℕ) {b : Bool} {x
   fault_allowed t = fault ∙ sym (first_of-append_lem (input_faults shift input) _ ∙ go (document input) refl)
     where
       go : (o : Option Element) → document input ≡ o → earlier first (first_of (faults_in (λ e. TYPE when not (may e)) (if_some o answered (refused MARKUP)))) ≡ first
-      go none d = no-document d MARKUP refl
+      go none d = no_document d MARKUP refl
       go (some e) d = elim (told e d) [
         | inl w ↦ rw (sym w ∙ t) (earlier-none_right first)
         | inr w ↦ typeless (not (may e)) w
@@ -51,7 +51,7 @@ module _ (may : Element → Bool) (shift : ℕ) (input : List ℕ) {b : Bool} {x
   fault-other t {y} h = h ∙ ap (λ (z : Option Refusal). earlier z (some TYPE)) fault ∙ sym (first_of-append_lem (input_faults shift input) _ ∙ go (document input) refl)
     where
       go : (o : Option Element) → document input ≡ o → earlier first (first_of (faults_in (λ e. TYPE when not (may e)) (if_some o answered (refused MARKUP)))) ≡ earlier first (some TYPE)
-      go none d = no-document d MARKUP refl ∙ sym (no-document d TYPE refl)
+      go none d = no_document d MARKUP refl ∙ sym (no_document d TYPE refl)
       go (some e) d = elim (told e d) [
         | inl w ↦ rw (sym w ∙ t)
         | inr w ↦ typeless (not (may e)) w ∙ sym w

@@ -14,15 +14,14 @@ use Rattle.rules.specs.Basics.{is_some, if_some, exactly_one, find, bytes, same,
 use Rattle.rules.specs.Refusal.{Refusal, Outcome, answered, refused, faults_of}
 use Rattle.rules.specs.Markup.{Attribute, Nodes, end, node, Element, lookup}
 use Rattle.rules.specs.Timestamp.{Moment, read_timestamp}
-use Rattle.rules.specs.Forms.{same_root, form_faults}
+use Rattle.rules.specs.Forms.{form_faults}
 use Rattle.rules.specs.Invariants.{has, is_null, Side, low, high, Endpoint, valued, infinite, unknown, endpoint_read, endpoint_valued, endpoint_of}
 use Rattle.rules.specs.Types.{Kind, TS, IVL_TS, QSU_TS, QSI_TS, QSD_TS, MO, II, CD, EN, DisplayName, Part, name_of, line_of}
 use Rattle.rules.specs.Judge.{top, attribute_faults, element_faults}
-use Rattle.rules.specs.Comparison.{Answer, Yes, No, Unknown, answer, ◌also◌, same_option, same_attribute, same_roots, Comparer, compare_moments, compare_endpoints, compare_sides, compare_intervals, amount_of, same_amount, compare_money, compare_identifiers, compare_codes, compare_parts, compare_all_parts, comparer_of}
+use Rattle.rules.specs.Comparison.{Answer, Yes, No, Unknown, answer, ◌also◌, same_option, same_attribute, Comparer, compare_moments, compare_endpoints, compare_sides, compare_intervals, amount_of, same_amount, compare_money, compare_identifiers, compare_codes, compare_parts, compare_all_parts, comparer_of}
 use Rattle.rules.specs.ListingPromise.{is_unknown}
 use Rattle.rules.specs.ComparisonPromise.{has_null_part, has_sides, is_complete}
 use Rattle.rules.proofs.Tests.{clash, eqb_refl, eqb_sym, same_true, same_refl, same_sym}
-use Rattle.rules.proofs.Roots.{root_refl, root_sym}
 use Rattle.rules.proofs.Members.{element_faultless}
 
 -- symmetric
@@ -35,9 +34,6 @@ option_sym test h (some a) (some b) = h a b
 
 attribute_sym : (n : List ℕ) (as' bs : List Attribute) → same_attribute n as' bs ≡ same_attribute n bs as'
 attribute_sym n as' bs = option_sym same same_sym (lookup n as') (lookup n bs)
-
-roots_sym : (n : List ℕ) (as' bs : List Attribute) → same_roots n as' bs ≡ same_roots n bs as'
-roots_sym n as' bs = option_sym same_root root_sym (lookup n as') (lookup n bs)
 
 amount_sym : (m n : ℤ) → same_amount m n ≡ same_amount n m
 amount_sym m n = and_comm (le_z m n) (le_z n m)
@@ -75,13 +71,13 @@ all-parts_sym (node n as' ks rest) (node m bs ls more) = rw (parts_sym as' bs, a
 
 codes_sym : (shift : ℕ) (a b : Element) → compare_codes shift a b ≡ compare_codes shift b a
 codes_sym shift a b =
-    rw (and_comm (has "code" a.attrs) (has "code" b.attrs), attribute_sym (bytes "code") a.attrs b.attrs, roots_sym (bytes "codeSystem") a.attrs b.attrs)
+    rw (and_comm (has "code" a.attrs) (has "code" b.attrs), attribute_sym (bytes "code") a.attrs b.attrs, attribute_sym (bytes "codeSystem") a.attrs b.attrs)
 
 money_sym : (shift : ℕ) (a b : Element) → compare_money shift a b ≡ compare_money shift b a
 money_sym shift a b = rw (option_sym same_amount amount_sym (amount_of a.attrs) (amount_of b.attrs), attribute_sym (bytes "currency") a.attrs b.attrs)
 
 identifiers_sym : (shift : ℕ) (a b : Element) → compare_identifiers shift a b ≡ compare_identifiers shift b a
-identifiers_sym shift a b = rw (roots_sym (bytes "root") a.attrs b.attrs, attribute_sym (bytes "extension") a.attrs b.attrs)
+identifiers_sym shift a b = rw (attribute_sym (bytes "root") a.attrs b.attrs, attribute_sym (bytes "extension") a.attrs b.attrs)
 
 abbrev IsSymmetric : Option Comparer → Type 0
 IsSymmetric none = Unit {0}
@@ -113,9 +109,6 @@ option_self test h (some a) = h a
 attribute_self : (n : List ℕ) (attrs : List Attribute) → same_attribute n attrs attrs ≡ true
 attribute_self n attrs = option_self same same_refl (lookup n attrs)
 
-roots_self : (n : List ℕ) (attrs : List Attribute) → same_roots n attrs attrs ≡ true
-roots_self n attrs = option_self same_root root_refl (lookup n attrs)
-
 amount_self : (z : ℤ) → same_amount z z ≡ true
 amount_self (pos n) = rw (le-leb n n (omega arith))
 amount_self (negsuc n) = rw (le-leb n n (omega arith))
@@ -143,7 +136,7 @@ intervals_self shift e = go (endpoint_of shift low e.kids) (endpoint_of shift hi
         both false false = refl
 
 codes_self : (shift : ℕ) (e : Element) → compare_codes shift e e ≡ cond (has "code" e.attrs) Yes Unknown
-codes_self shift e = rw (attribute_self (bytes "code") e.attrs, roots_self (bytes "codeSystem") e.attrs) (go (has "code" e.attrs))
+codes_self shift e = rw (attribute_self (bytes "code") e.attrs, attribute_self (bytes "codeSystem") e.attrs) (go (has "code" e.attrs))
   where
     go : (b : Bool) → cond (b && b) Yes Unknown ≡ cond b Yes Unknown
     go true = refl
@@ -214,7 +207,7 @@ comparers_self QSU_TS = tt
 comparers_self QSI_TS = tt
 comparers_self QSD_TS = tt
 comparers_self MO = λ shift e within f t n. rw (t, n, option_self same_amount amount_self (amount_of e.attrs), attribute_self (bytes "currency") e.attrs)
-comparers_self II = λ shift e within f t n. rw (t, n, roots_self (bytes "root") e.attrs, attribute_self (bytes "extension") e.attrs)
+comparers_self II = λ shift e within f t n. rw (t, n, attribute_self (bytes "root") e.attrs, attribute_self (bytes "extension") e.attrs)
 comparers_self CD = λ shift e within f t n. rw (t, n, and-true (has "code" e.attrs)) (codes_self shift e)
 comparers_self EN = λ shift e within f t n. rw (t, n) (all-parts_self e.kids)
 comparers_self DisplayName = tt
@@ -239,28 +232,28 @@ endpoints_yes flags (valued m) y e = refl
 endpoints_yes flags infinite y e = refl
 endpoints_yes flags unknown y e = clash (cc)
 
-intervals-yes : (shift : ℕ) (a b : Element) → compare_intervals shift a b ≡ Yes → has_sides shift a.kids ≡ true
-intervals-yes shift a b e =
+intervals_yes : (shift : ℕ) (a b : Element) → compare_intervals shift a b ≡ Yes → has_sides shift a.kids ≡ true
+intervals_yes shift a b e =
     let (l, h) = also_yes (compare_sides low shift a b) (compare_sides high shift a b) e in
     rw (
       endpoints_yes _ (endpoint_of shift low a.kids) (endpoint_of shift low b.kids) l,
       endpoints_yes _ (endpoint_of shift high a.kids) (endpoint_of shift high b.kids) h,
     )
 
-codes-yes : (shift : ℕ) (a b : Element) → compare_codes shift a b ≡ Yes → has "code" a.attrs ≡ true
-codes-yes shift a b e = go (has "code" a.attrs) (has "code" b.attrs) _ e
+codes_yes : (shift : ℕ) (a b : Element) → compare_codes shift a b ≡ Yes → has "code" a.attrs ≡ true
+codes_yes shift a b e = go (has "code" a.attrs) (has "code" b.attrs) _ e
   where
     go : (c d : Bool) (x : Answer) → cond (c && d) x Unknown ≡ Yes → c ≡ true
     go true d x e = refl
     go false d x e = clash (cc)
 
-all-parts-yes : (a b : Nodes) → compare_all_parts a b ≡ Yes → has_null_part a ≡ false
+all-parts_yes : (a b : Nodes) → compare_all_parts a b ≡ Yes → has_null_part a ≡ false
 unfolding compare_all_parts has_null_part
-all-parts-yes end b e = refl
-all-parts-yes (node n as' ks rest) end e = clash (cc)
-all-parts-yes (node n as' ks rest) (node m bs ls more) e =
+all-parts_yes end b e = refl
+all-parts_yes (node n as' ks rest) end e = clash (cc)
+all-parts_yes (node n as' ks rest) (node m bs ls more) e =
     let (f, g) = also_yes (compare_parts as' bs) (compare_all_parts rest more) e in
-    rw (go (is_null as') (is_null bs) _ f, all-parts-yes rest more g)
+    rw (go (is_null as') (is_null bs) _ f, all-parts_yes rest more g)
   where
     go : (c d : Bool) (x : Answer) → cond (c || d) Unknown x ≡ Yes → c ≡ false
     go true d x e = clash (cc)
@@ -273,14 +266,14 @@ SaysYes k (some f) = (shift : ℕ) (a b : Element) → lookup (bytes "xsi:type")
 comparers_yes : (k : Kind) → SaysYes k (comparer_of k)
 unfolding comparer_of same
 comparers_yes TS = λ shift a b t n e. rw (t, n)
-comparers_yes IVL_TS = λ shift a b t n e. rw (t, n, intervals-yes shift a b e)
+comparers_yes IVL_TS = λ shift a b t n e. rw (t, n, intervals_yes shift a b e)
 comparers_yes QSU_TS = tt
 comparers_yes QSI_TS = tt
 comparers_yes QSD_TS = tt
 comparers_yes MO = λ shift a b t n e. rw (t, n)
 comparers_yes II = λ shift a b t n e. rw (t, n)
-comparers_yes CD = λ shift a b t n e. rw (t, n, codes-yes shift a b e)
-comparers_yes EN = λ shift a b t n e. rw (t, n, all-parts-yes a.kids b.kids e)
+comparers_yes CD = λ shift a b t n e. rw (t, n, codes_yes shift a b e)
+comparers_yes EN = λ shift a b t n e. rw (t, n, all-parts_yes a.kids b.kids e)
 comparers_yes DisplayName = tt
 comparers_yes Part = tt
 

@@ -24,7 +24,7 @@ use Rattle.rules.proofs.ListingPromise.{small}
 use Rattle.rules.proofs.Comparing.{comparer_symmetric, comparer_itself, comparer_yes}
 
 -- an element has at most one type that is compared, and no other
-pub one_type : (attrs : List Attribute) (k : Kind) → has_type attrs k ≡ true → is_some (comparer_of k) ≡ true
+one_type : (attrs : List Attribute) (k : Kind) → has_type attrs k ≡ true → is_some (comparer_of k) ≡ true
     → (type_among all_types attrs ≡ some k) × (type_among compared_types attrs ≡ some k)
 unfolding comparer_of find same
 one_type attrs TS h c = (rw (type-is attrs TS h), rw (type-is attrs TS h))

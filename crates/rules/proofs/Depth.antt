@@ -58,11 +58,11 @@ ends n s h =
     next-ok (byte 60 s) (λ b. literal (47 ∷ [])) g λ b t g k.
     next-ok (byte 47 t) (λ b. literal []) k λ c u i j. (u, byte-ok 60 s g ∙ ap (λ t. 60 ∷ t) (byte-ok 47 t i))
 
-no-element : (f d : ℕ) (s : List ℕ) → Ends s → element f d s ≡ bad
+no_element : (f d : ℕ) (s : List ℕ) → Ends s → element f d s ≡ bad
 unfolding element name one
-no-element zero d s h = refl
-no-element (suc f) zero s h = refl
-no-element (suc f) (suc d) s (t, z) = rw z
+no_element zero d s h = refl
+no_element (suc f) zero s h = refl
+no_element (suc f) (suc d) s (t, z) = rw z
 
 -- what was read has no content, or its content was read up to an end tag; Q holds of whatever reads the same content there
 data Inside (p : Parser Nodes) (kids : Nodes) (Q : Parser Nodes → Type 0) : Type 0 where
@@ -125,7 +125,7 @@ content_step f one_below below d s l r h = next-ok (space s) _ h λ w t h1 g. fi
     none_read {w} {t} h1 g =
         let z : l ≡ end = cc in
         let y : t ≡ r = cc in
-        (rw z (omega arith), λ m k b. rw (h1, no-element f m t (rw y k)) g)
+        (rw z (omega arith), λ m k b. rw (h1, no_element f m t (rw y k)) g)
 
     others : (w t u : List ℕ) (e : Element) → space s ≡ ok w t → element f d t ≡ ok e u → (x : Parsed Nodes) → content f d u ≡ x
         → else (next x (λ rest. pure (node e.name e.attrs e.kids rest))) (ok end t) ≡ ok l r

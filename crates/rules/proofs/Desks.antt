@@ -219,10 +219,10 @@ parted (h then k) = go (parted h) (is_desk k.desk) refl
             → part_of n (ask_after k.desk k.ask (shared_reached h)) ≡ reached (cond b (given_then k.ask (given n h)) (given n h))
         own n i true f = rw (eqb-true k.desk n f) (ask_own n (shared_reached h) k.ask (given n h) (p.part n i))
         own n i false f = ask-other k.desk (shared_reached h) e n i f k.ask ∙ p.part n i
-    go p false e = record { part = λ n i. rw (e, no-desk n i) (p.part n i); desks = rw e p.desks }
+    go p false e = record { part = λ n i. rw (e, no_desk n i) (p.part n i); desks = rw e p.desks }
       where
-        no-desk : (n : ℕ) → is_desk n ≡ true → eqb k.desk n ≡ false
-        no-desk n i = ne_eqb k.desk n (λ f. let z : is_desk k.desk ≡ true = ap is_desk f ∙ i in clash (cc))
+        no_desk : (n : ℕ) → is_desk n ≡ true → eqb k.desk n ≡ false
+        no_desk n i = ne_eqb k.desk n (λ f. let z : is_desk k.desk ≡ true = ap is_desk f ∙ i in clash (cc))
 
 -- no table reached from the opening is damaged
 pub reached-sound : (h : History DeskCall) → Sound (shared_reached h)

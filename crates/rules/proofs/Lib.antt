@@ -9,7 +9,6 @@ pub mod Beginnings
 pub mod Writing
 pub mod References
 pub mod Unreferenced
-pub mod Roots
 pub mod Digits
 pub mod Calendar
 pub mod Ticks

@@ -69,9 +69,9 @@ module _ (shift room : ℕ) (e : Element) where
         go true = refl
         go false = refl
 
-    pub element-no-room : intervals_written e ≤ 32 → room < length (stretches s) → list_element shift room e ≡ refused NO_ROOM
+    pub element_no_room : intervals_written e ≤ 32 → room < length (stretches s) → list_element shift room e ≡ refused NO_ROOM
     unfolding list_element first_of rank_in
-    element-no-room f l = rw (known, le-ltb 32 (intervals_written e) f, lt-ltb room (length (stretches s)) l)
+    element_no_room f l = rw (known, le-ltb 32 (intervals_written e) f, lt-ltb room (length (stretches s)) l)
 
     pub element-listing : intervals_written e ≤ 32 → length (stretches s) ≤ room → list_element shift room e ≡ answered (stretches s)
     unfolding list_element first_of
@@ -133,8 +133,8 @@ module _ (offset : ℤ) (room : ℕ) (input : List ℕ) where
         pub listing_too_many : 32 < intervals_written e → listing offset room input ≡ refused TOO_MANY
         listing_too_many l = listing-listed ∙ element_too_many (shift_by offset) room e s known l
 
-        pub listing-no-room : intervals_written e ≤ 32 → room < length (stretches s) → listing offset room input ≡ refused NO_ROOM
-        listing-no-room f l = listing-listed ∙ element-no-room (shift_by offset) room e s known f l
+        pub listing_no_room : intervals_written e ≤ 32 → room < length (stretches s) → listing offset room input ≡ refused NO_ROOM
+        listing_no_room f l = listing-listed ∙ element_no_room (shift_by offset) room e s known f l
 
         pub listing-answered : intervals_written e ≤ 32 → length (stretches s) ≤ room → listing offset room input ≡ answered (stretches s)
         listing-answered f l = listing-listed ∙ element-listing (shift_by offset) room e s known f l

@@ -28,7 +28,7 @@ use Rattle.rules.proofs.Drawing.{stretches_are, is-stretches}
 use Rattle.rules.proofs.Counting.{stretches-within}
 use Rattle.rules.proofs.Members.{set-intervals, clear-set}
 use Rattle.rules.proofs.CheckRefusals.{of_record}
-use Rattle.rules.proofs.ListingCases.{check_faultless, check-offset, listing-unlisted, listing_unclear, listing_too_many, listing-no-room, listing-answered, listing-faulty, faulty_early, faulty, other-type, unclear, many, a_set, case}
+use Rattle.rules.proofs.ListingCases.{check_faultless, check-offset, listing-unlisted, listing_unclear, listing_too_many, listing_no_room, listing-answered, listing-faulty, faulty_early, faulty, other-type, unclear, many, a_set, case}
 
 -- refusals are told from one another, and from an answer, by the lowest eight bits
 pub small : (r : Refusal) → (1 ≤ number r) × (number r ≤ 255)
@@ -100,7 +100,7 @@ module _ (offset : ℤ) (record' list : List ℕ) where
   after = list_after offset record' list
 
   refuses : (r : Refusal) → listing offset (room_of list) record' ≡ refused r → Refuses offset record' answer list after r
-  refuses r h = record { number_given = rw h (low_bits r).0; no-count = rw h (low_bits r).1; unchanged = rw h }
+  refuses r h = record { number_given = rw h (low_bits r).0; no_count = rw h (low_bits r).1; unchanged = rw h }
 
   lists : (ss : List Interval) → listing offset (room_of list) record' ≡ answered ss → length ss ≤ room_of list → every fits (list_numbers ss) ≡ true → Lists offset record' answer list after ss
   lists ss h l f =
@@ -124,7 +124,7 @@ module _ (offset : ℤ) (record' list : List ℕ) where
 
   module _ (e : Element) (h : IsSetOfTimes offset record' e) (s : Expression) (known : set_of (shift_by offset) e ≡ answered s) where
     full : room_of list < length (stretches s) → Refuses offset record' answer list after NO_ROOM
-    full l = refuses NO_ROOM (listing-no-room offset (room_of list) record' e h.accepted h.listed s known h.few l)
+    full l = refuses NO_ROOM (listing_no_room offset (room_of list) record' e h.accepted h.listed s known h.few l)
 
     enough : length (stretches s) ≤ room_of list → Lists offset record' answer list after (stretches s)
     enough l = lists (stretches s) (listing-answered offset (room_of list) record' e h.accepted h.listed s known h.few l) l

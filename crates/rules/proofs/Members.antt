@@ -9,12 +9,12 @@ use native.Mathlib.Nat.{zero-add, add-zero, add_assoc}
 use borrow.Author.Tests.{not-true, not-false}
 use lib.Dec.{ltb}
 use lib.ListN.{length, length-append}
-use Rattle.rules.specs.Basics.{is_some, if_some, find, exists, bytes, same}
+use Rattle.rules.specs.Basics.{is_some, if_some, find, bytes, same}
 use Rattle.rules.specs.Refusal.{Refusal, SHAPE, RULE, UNKNOWN_BOUND, Outcome, answered, refused, ◌andThen◌, both, ◌when◌}
 use Rattle.rules.specs.Markup.{Attribute, Nodes, end, node, Element, lookup}
 use Rattle.rules.specs.Invariants.{is_null, low, high, Endpoint, valued, infinite, unknown, endpoint_of}
 use Rattle.rules.specs.Types.{Kind, TS, IVL_TS, QSU_TS, QSI_TS, QSD_TS, name_of, member_types, all_types, has_type, type_among, ChildKind, always, typed, Child, line_of}
-use Rattle.rules.specs.Judge.{Standing, top, member, inside, attribute_faults, lacks, breaks_null, element_faults, next_child, child_faults, top_faults}
+use Rattle.rules.specs.Judge.{Standing, top, member, inside, attribute_faults, breaks_null, element_faults, next_child, child_faults, top_faults}
 use Rattle.rules.specs.Sets.{◌upto◌, Op, union, intersection, difference, Expression, interval, combine, intervals}
 use Rattle.rules.specs.Listing.{bound_read, operation_of, set_from, members_of, joined, set_of, interval_count, intervals_written}
 use Rattle.rules.specs.ListingPromise.{is_unknown, is_unclear, has_unclear, is_clear, is_listed}
@@ -68,19 +68,6 @@ element_faultless shift p k attrs kids within e =
     unbroken true b e = clash (cc)
     unbroken false b e = refl
 
--- where it is null, nothing that it may not carry then
-pub null_faultless : (shift : ℕ) (p : Standing) (k : Kind) (attrs : List Attribute) (kids : Nodes) (within : Kind → List Refusal)
-    → element_faults shift p (some k) attrs kids within ≡ [] → breaks_null k attrs kids ≡ false
-unfolding element_faults
-null_faultless shift p k attrs kids within e =
-    go ((line_of k).invariant shift attrs kids) (breaks_null k attrs kids)
-    ((append-eq-nil_iff {p = flat_map (attribute_faults shift p k) attrs ++ SHAPE when exists (lacks attrs) (line_of k).columns ++ within k}).0 e).1
-  where
-    go : (a b : Bool) → (RULE when (a || b)) ≡ [] → b ≡ false
-    go true b e = clash (cc)
-    go false true e = clash (cc)
-    go false false e = refl
-
 abbrev type_name : List ℕ
 type_name = bytes "xsi:type"
 
@@ -107,8 +94,8 @@ module _ (shift : ℕ) where
   childless null (node n attrs kids rest) e = clash (cc)
 
   -- an element that names no type is no interval, no set and no member
-  no-type : (attrs : List Attribute) → lookup type_name attrs ≡ none → (k : Kind) → has_type attrs k ≡ false
-  no-type attrs e k = rw e
+  no_type : (attrs : List Attribute) → lookup type_name attrs ≡ none → (k : Kind) → has_type attrs k ≡ false
+  no_type attrs e k = rw e
 
   time_faultless : (attrs : List Attribute) (kids : Nodes) → faults_as shift attrs kids (always TS) ≡ [] → (lookup type_name attrs ≡ none) × (kids ≡ end)
   time_faultless attrs kids e = let (f, g, h) = element_faultless shift inside TS attrs kids _ e in (untyped attrs f, childless (is_null attrs) kids g)

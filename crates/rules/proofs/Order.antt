@@ -111,8 +111,8 @@ pub ruleset places = (arith, before-less, after_less, less-before, less-after, n
 pub before_irreflexive : (x : Place) → x is_before x ≡ false
 before_irreflexive x = omega places
 
-pub before-transitive : (x y z : Place) → x is_before y ≡ true → y is_before z ≡ true → x is_before z ≡ true
-before-transitive x y z h k = omega places
+pub before_transitive : (x y z : Place) → x is_before y ≡ true → y is_before z ≡ true → x is_before z ≡ true
+before_transitive x y z h k = omega places
 
 pub before-total : (x y : Place) → x is_before y ≡ false → y is_before x ≡ false → x ≡ y
 before-total x y h k = omega places

@@ -169,10 +169,10 @@ first-is faults r = (λ e. (first_in faults r e, least e), given)
     given (m, h) = let (p, d, l) = some_first m in
         d ∙ ap some (rank_injective p r (omega (arith, h p (first_in faults p d))))
 
-pub no-fault : (faults : List Refusal) → first_of faults ≡ none ↔ faults ≡ []
+pub no_fault : (faults : List Refusal) → first_of faults ≡ none ↔ faults ≡ []
 unfolding first_of
-no-fault [] = (λ e. refl, λ e. refl)
-no-fault (r ∷ faults) = (λ e. let (p, d, l) = some_first {q = r} (Memᴰ.head {xs = faults} refl) in clash (cc), λ e. clash (cc))
+no_fault [] = (λ e. refl, λ e. refl)
+no_fault (r ∷ faults) = (λ e. let (p, d, l) = some_first {q = r} (Memᴰ.head {xs = faults} refl) in clash (cc), λ e. clash (cc))
 
 pub when_none : (r : Refusal) (b : Bool) → (r when b) ≡ [] → b ≡ false
 when_none r true e = clash (cc)
@@ -193,8 +193,8 @@ module _ {A : Type 0} where
   unless_cases o faults = go o _ refl
     where
       go : (o : Outcome A) (x : Option Refusal) → first_of (faults_of o ++ faults) ≡ x → Unless o faults
-      go (answered a) none d = faultless a refl ((no-fault faults).0 d) (rw d)
-      go (refused q) none d = let z : q ∷ faults ≡ [] = (no-fault (q ∷ faults)).0 d in clash (cc)
+      go (answered a) none d = faultless a refl ((no_fault faults).0 d) (rw d)
+      go (refused q) none d = let z : q ∷ faults ≡ [] = (no_fault (q ∷ faults)).0 d in clash (cc)
       go (answered a) (some r) d = faulty r d (rw d)
       go (refused q) (some r) d = faulty r d (rw d)
 

@@ -31,7 +31,7 @@ use Rattle.rules.proofs.Drawing.{stretches-canonical}
 use Rattle.rules.proofs.Counting.{stretches-at-most}
 use Rattle.rules.proofs.Members.{set-intervals, clear-set}
 use Rattle.rules.proofs.Fitting.{list-fits}
-use Rattle.rules.proofs.ListingCases.{check_faultless, check-offset, listing-unlisted, listing_unclear, listing_too_many, listing-no-room, listing-answered, listing-faulty, faulty, other-type, unclear, many, a_set, case}
+use Rattle.rules.proofs.ListingCases.{check_faultless, check-offset, listing-unlisted, listing_unclear, listing_too_many, listing_no_room, listing-answered, listing-faulty, faulty, other-type, unclear, many, a_set, case}
 use Rattle.rules.proofs.ListingPromise.{numbers-length, bytes-length}
 use Rattle.rules.proofs.LentLists.{numbers-written, numbers-read, numbers_from-length_lem}
 use Rattle.rules.proofs.ProperLists.{IsProper, proper, stretches_back, not_improper}
@@ -89,7 +89,7 @@ listing_gives offset room input ss h = elim (case offset input) [
       let (s, known) = clear-set (shift_by offset) e (check_faultless offset input k.accepted) k.listed k.clear in
       elim (dec_le (length (stretches s)) room) [
         | yes l ↦ (e, s, k, known, cc (listing-answered offset room input e k.accepted k.listed s known k.few l))
-        | no l ↦ clash (cc (listing-no-room offset room input e k.accepted k.listed s known k.few (omega arith)))
+        | no l ↦ clash (cc (listing_no_room offset room input e k.accepted k.listed s known k.few (omega arith)))
       ]
 ]
 
@@ -155,9 +155,9 @@ module _ (list : List ℕ) (room : ℕ) where
       go true = refl
       go false = refl
 
-  pub printing-no-room : is_unwritable list ≡ false → room < length (record_text (listed list)) → printing list room ≡ refused NO_ROOM
+  pub printing_no_room : is_unwritable list ≡ false → room < length (record_text (listed list)) → printing list room ≡ refused NO_ROOM
   unfolding printing first_of rank_in
-  printing-no-room w l = rw (w, lt-ltb room (length (record_text (listed list))) l)
+  printing_no_room w l = rw (w, lt-ltb room (length (record_text (listed list))) l)
 
   pub printing-answered : is_unwritable list ≡ false → length (record_text (listed list)) ≤ room → printing list room ≡ answered (record_text (listed list))
   unfolding printing first_of

@@ -26,13 +26,13 @@ tick-next n = suc_ℤ-+ℤ (pos n) (negsuc 503999999)
 unfoldable pub origin : Place
 origin = at (tick_at 0)
 
-pub ticks-apart : (n : ℕ) → up (at (tick_at n)) + down origin ≡ 2 * n + (down (at (tick_at n)) + up origin)
+pub ticks_apart : (n : ℕ) → up (at (tick_at n)) + down origin ≡ 2 * n + (down (at (tick_at n)) + up origin)
 unfolding origin
-ticks-apart zero = omega arith
-ticks-apart (suc n) = rw (tick-next n) (omega (arith, ticks-apart n, next-number (at (tick_at n)), next-number (gap_after (tick_at n))))
+ticks_apart zero = omega arith
+ticks_apart (suc n) = rw (tick-next n) (omega (arith, ticks_apart n, next-number (at (tick_at n)), next-number (gap_after (tick_at n))))
 
 pub tick-one : (m n : ℕ) → tick_at m ≡ tick_at n → m ≡ n
-tick-one m n e = omega (arith, ticks-apart m, ticks-apart n, ap (λ (t : ℤ). up (at t)) e, ap (λ (t : ℤ). down (at t)) e)
+tick-one m n e = omega (arith, ticks_apart m, ticks_apart n, ap (λ (t : ℤ). up (at t)) e, ap (λ (t : ℤ). down (at t)) e)
 
 pub tick-less : (m n : ℕ) → lt_z (tick_at m) (tick_at n) ≡ ltb m n
 tick-less m n = elim (dec_le (suc m) n) [
@@ -41,10 +41,10 @@ tick-less m n = elim (dec_le (suc m) n) [
 ]
   where
     first : m < n → at (tick_at m) is_before at (tick_at n) ≡ true
-    first h = omega (places, ticks-apart m, ticks-apart n)
+    first h = omega (places, ticks_apart m, ticks_apart n)
 
     second : n < suc m → at (tick_at m) is_before at (tick_at n) ≡ false
-    second h = omega (places, ticks-apart m, ticks-apart n)
+    second h = omega (places, ticks_apart m, ticks_apart n)
 
 pub pred_less : (m n : ℕ) → lt_z (pred_ℤ (tick_at m)) (tick_at n) ≡ leb m n
 pred_less m n = elim (dec_le m n) [
@@ -53,10 +53,10 @@ pred_less m n = elim (dec_le m n) [
 ]
   where
     first : m < suc n → previous_place (at (tick_at m)) is_before at (tick_at n) ≡ true
-    first h = omega (places, ticks-apart m, ticks-apart n, previous_number (at (tick_at m)))
+    first h = omega (places, ticks_apart m, ticks_apart n, previous_number (at (tick_at m)))
 
     second : n < m → previous_place (at (tick_at m)) is_before at (tick_at n) ≡ false
-    second h = omega (places, ticks-apart m, ticks-apart n, previous_number (at (tick_at m)))
+    second h = omega (places, ticks_apart m, ticks_apart n, previous_number (at (tick_at m)))
 
 -- bounds are crossed where low is at the next unit's start or after it, or, of a high that is not pushed, after its start
 pub crossed : (closed : Bool) (l h : Moment)

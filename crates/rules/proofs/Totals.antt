@@ -145,10 +145,10 @@ module _ (k : Call) (t : Table) where
       go (full d f) = (d, f)
       go (faulty u h) = absurd (own DAY_FULL refl h)
 
-  pub exactly-no-row : answer_to k t ≡ refused NO_ROW
+  pub exactly_no_row : answer_to k t ≡ refused NO_ROW
       ↔ (c : List ℕ) × (z : ℤ) × IsUsable t × (reading_of k ≡ answered (money c z)) × HasNoRow c t.rows
   unfolding is_of_record rank_in
-  exactly-no-row = (λ e. go (rw e at (posted k t)), λ (c, z, u, h, n). posted_only k t (no_row u h n))
+  exactly_no_row = (λ e. go (rw e at (posted k t)), λ (c, z, u, h, n). posted_only k t (no_row u h n))
     where
       go : Posted k t (refused NO_ROW) → (c : List ℕ) × (z : ℤ) × IsUsable t × (reading_of k ≡ answered (money c z)) × HasNoRow c t.rows
       go (faulty u h) = absurd (own NO_ROW refl h)

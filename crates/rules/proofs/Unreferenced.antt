@@ -1,10 +1,10 @@
--- Timestamps, amounts, currencies, roots and qualifiers hold no byte that references stand for.
-use Prim.Native.Nat.{ℕ, zero, suc, ◌≤◌}
+-- Timestamps, amounts, currencies, OIDs and qualifiers hold no byte that references stand for.
+use Prim.Native.Nat.{ℕ, zero, suc}
 use Prim.Native.String.{String}
 use mathlib.Core.Path.{◌≡◌, refl, sym, ◌∙◌, ap, ap₂}
 use mathlib.Core.Logic.{inl, inr}
 use mathlib.Core.Bool.{Bool, true, false, not, ◌||◌, cond, or_assoc}
-use mathlib.Core.List.{List, [], ◌∷◌, map}
+use mathlib.Core.List.{List, [], ◌∷◌}
 use mathlib.Core.Option.{Option, none, some}
 use native.Mathlib.Omega.{arith}
 use borrow.Author.Tests.{eqb-true, ne_eqb, le-leb, not-true}
@@ -15,7 +15,7 @@ use Rattle.rules.specs.Basics.{exists, every, same, onto, split, words, bytes, o
 use Rattle.rules.specs.Refusal.{VALUE, refused}
 use Rattle.rules.specs.Parsers.{ok, Parser, pure, guard, ◌>>=◌, ◌>>◌, ◌or◌, one, times, up_to, byte, whole}
 use Rattle.rules.specs.Timestamp.{Zone, no_zone, digits, two_digits, point, hours, zone, timestamp, plus, minus, read_timestamp}
-use Rattle.rules.specs.Forms.{amount_text, is_currency, is_plain_number, are_arcs, is_oid, is_hex_digit, is_uuid, is_root, is_qualifiers}
+use Rattle.rules.specs.Forms.{amount_text, is_currency, is_plain_number, is_oid, is_root, is_qualifiers}
 use Rattle.rules.proofs.Tests.{clash, both_true, is_from-true_lem, every_true}
 use Rattle.rules.proofs.Parsers.{next-ok, else-ok, one_ok, whole-ok}
 use Rattle.rules.proofs.References.{is_referenced}
@@ -29,16 +29,16 @@ digit_unreferenced c e =
     let (l, h) = is_from-true_lem 48 57 c e in
     unreferenced c (λ z. omega arith) (λ z. omega arith) (λ z. omega arith) (λ z. omega arith) (λ z. omega arith)
 
-letter_unreferenced : (c low high : ℕ) → 65 ≤ low → is_from low high c ≡ true → is_referenced c ≡ false
-letter_unreferenced c low high k e =
-    let (l, h) = is_from-true_lem low high c e in
+capital_unreferenced : (c : ℕ) → is_from 65 90 c ≡ true → is_referenced c ≡ false
+capital_unreferenced c e =
+    let (l, h) = is_from-true_lem 65 90 c e in
     unreferenced c (λ z. omega arith) (λ z. omega arith) (λ z. omega arith) (λ z. omega arith) (λ z. omega arith)
 
 -- what all of a list pass, and what none of them is
-pub every-no : {A : Type 0} (p x : A → Bool) → ((a : A) → p a ≡ true → x a ≡ false) → (l : List A) → every p l ≡ true → exists x l ≡ false
+every_no : {A : Type 0} (p x : A → Bool) → ((a : A) → p a ≡ true → x a ≡ false) → (l : List A) → every p l ≡ true → exists x l ≡ false
 unfolding exists
-every-no p x h [] e = refl
-every-no p x h (a ∷ l) e = let (f, g) = every_true p a l e in rw (h a f, every-no p x h l g)
+every_no p x h [] e = refl
+every_no p x h (a ∷ l) e = let (f, g) = every_true p a l e in rw (h a f, every_no p x h l g)
 
 -- a test that no text of the form passes
 refuses : {A : Type 0} (p x : A → Bool) → ((a : A) → p a ≡ true → x a ≡ false) → (a : A) → x a ≡ true → p a ≡ false
@@ -54,7 +54,7 @@ unfolding exists
 exists-onto p c [] = or_assoc (p c) false false
 exists-onto p c (w ∷ ws) = or_assoc (p c) (exists p w) (exists (exists p) ws)
 
-pub exists-split : (p : ℕ → Bool) (b : ℕ) → p b ≡ false → (s : List ℕ) → exists (exists p) (split b s) ≡ exists p s
+exists-split : (p : ℕ → Bool) (b : ℕ) → p b ≡ false → (s : List ℕ) → exists (exists p) (split b s) ≡ exists p s
 unfolding split exists
 exists-split p b h [] = refl
 exists-split p b h (c ∷ s) = go (eqb c b) refl (exists-split p b h s)
@@ -64,9 +64,9 @@ exists-split p b h (c ∷ s) = go (eqb c b) refl (exists-split p b h s)
     go false e f = exists-onto p c (split b s) ∙ ap (λ t. p c || t) f
 
 -- of parts that all pass a test that no part with such a byte passes
-parts-no : (p : List ℕ → Bool) (b : ℕ) → is_referenced b ≡ false → ((w : List ℕ) → p w ≡ true → exists is_referenced w ≡ false)
+parts_no : (p : List ℕ → Bool) (b : ℕ) → is_referenced b ≡ false → ((w : List ℕ) → p w ≡ true → exists is_referenced w ≡ false)
     → (s : List ℕ) → every p (split b s) ≡ true → exists is_referenced s ≡ false
-parts-no p b h k s e = sym (exists-split is_referenced b h s) ∙ every-no p (exists is_referenced) k (split b s) e
+parts_no p b h k s e = sym (exists-split is_referenced b h s) ∙ every_no p (exists is_referenced) k (split b s) e
 
 -- a parser that reads past no such byte
 abbrev Clean : {A : Type 0} → Parser A → Type 0
@@ -150,25 +150,25 @@ clean_amount =
     clean_pure _
 
 -- such a parser reads no whole text with such a byte
-whole-no : {A : Type 0} (P : Parser A) → Clean P → (t : List ℕ) → exists is_referenced t ≡ true → whole P t ≡ none
+whole_no : {A : Type 0} (P : Parser A) → Clean P → (t : List ℕ) → exists is_referenced t ≡ true → whole P t ≡ none
 unfolding exists
-whole-no {A} P h t e = go (whole P t) refl
+whole_no {A} P h t e = go (whole P t) refl
   where
     go : (o : Option A) → whole P t ≡ o → o ≡ none
     go none f = refl
     go (some a) f = clash (cc (h t a [] (whole-ok P t f)))
 
 -- a text with such a byte is none of these
-pub no-timestamp : (shift : ℕ) (t : List ℕ) → exists is_referenced t ≡ true → read_timestamp shift t ≡ refused VALUE
+pub no_timestamp : (shift : ℕ) (t : List ℕ) → exists is_referenced t ≡ true → read_timestamp shift t ≡ refused VALUE
 unfolding read_timestamp
-no-timestamp shift t e = rw (whole-no timestamp clean_timestamp t e)
+no_timestamp shift t e = rw (whole_no timestamp clean_timestamp t e)
 
-pub no-amount : (t : List ℕ) → exists is_referenced t ≡ true → whole amount_text t ≡ none
-no-amount = whole-no amount_text clean_amount
+pub no_amount : (t : List ℕ) → exists is_referenced t ≡ true → whole amount_text t ≡ none
+no_amount = whole_no amount_text clean_amount
 
-pub no-currency : (t : List ℕ) → exists is_referenced t ≡ true → is_currency t ≡ false
-no-currency = refuses is_currency (exists is_referenced) λ t e.
-    every-no (is_from 65 90) is_referenced (λ c. letter_unreferenced c 65 90 (omega arith)) t (both_true (eqb (length t) 3) _ e).1
+pub no_currency : (t : List ℕ) → exists is_referenced t ≡ true → is_currency t ≡ false
+no_currency = refuses is_currency (exists is_referenced) λ t e.
+    every_no (is_from 65 90) is_referenced capital_unreferenced t (both_true (eqb (length t) 3) _ e).1
 
 pub plain_digits : (w : List ℕ) → is_plain_number w ≡ true → every is_digit w ≡ true
 unfolding is_plain_number every
@@ -180,38 +180,18 @@ plain_digits (c ∷ d ∷ s) e =
     rw (le-leb 48 c (omega arith), le-leb c 57 h) g
 
 number_unreferenced : (w : List ℕ) → is_plain_number w ≡ true → exists is_referenced w ≡ false
-number_unreferenced w e = every-no is_digit is_referenced digit_unreferenced w (plain_digits w e)
+number_unreferenced w e = every_no is_digit is_referenced digit_unreferenced w (plain_digits w e)
 
-pub arcs_plain : (l : List (List ℕ)) → are_arcs l ≡ true → every is_plain_number l ≡ true
-unfolding are_arcs
-arcs_plain [] e = clash (cc)
-arcs_plain (a ∷ []) e = clash (cc)
-arcs_plain (a ∷ b ∷ more) e = (both_true _ _ (both_true _ _ e).0).0
-
-pub oid_plain : (t : List ℕ) → is_oid t ≡ true → every is_plain_number (split 46 t) ≡ true
+pub oid_numbers : (l : List (List ℕ)) → is_oid l ≡ true → every is_plain_number l ≡ true
 unfolding is_oid
-oid_plain t e = arcs_plain (split 46 t) (both_true (leb (length t) 128) _ e).1
+oid_numbers [] e = clash (cc)
+oid_numbers (a ∷ []) e = clash (cc)
+oid_numbers (a ∷ b ∷ more) e = (both_true _ _ (both_true _ _ e).0).0
 
-no_oid : (t : List ℕ) → exists is_referenced t ≡ true → is_oid t ≡ false
-no_oid = refuses is_oid (exists is_referenced) λ t e. parts-no is_plain_number 46 refl number_unreferenced t (oid_plain t e)
-
--- a hexadecimal digit is no other byte below `A` than a digit
-hex_unreferenced : (c : ℕ) → is_hex_digit c ≡ true → is_referenced c ≡ false
-hex_unreferenced c e = go (is_digit c) (is_from 65 70 c) refl refl e
-  where
-    go : (a b : Bool) → is_digit c ≡ a → is_from 65 70 c ≡ b → (a || b || is_from 97 102 c) ≡ true → is_referenced c ≡ false
-    go true b d f e = digit_unreferenced c d
-    go false true d f e = letter_unreferenced c 65 70 (omega arith) f
-    go false false d f e = letter_unreferenced c 97 102 (omega arith) e
-
-pub no_uuid : (t : List ℕ) → exists is_referenced t ≡ true → is_uuid t ≡ false
-unfolding is_uuid
-no_uuid = refuses is_uuid (exists is_referenced) λ t e.
-    parts-no (every is_hex_digit) 45 refl (every-no is_hex_digit is_referenced hex_unreferenced) t (both_true (same (map length (split 45 t)) _) _ e).1
-
-pub no-root : (t : List ℕ) → exists is_referenced t ≡ true → is_root t ≡ false
+pub no_root : (t : List ℕ) → exists is_referenced t ≡ true → is_root t ≡ false
 unfolding is_root
-no-root t e = rw (no_uuid t e, no_oid t e)
+no_root = refuses is_root (exists is_referenced) λ t e.
+    parts_no is_plain_number 46 refl number_unreferenced t (oid_numbers (split 46 t) (both_true (leb (length t) 128) _ e).1)
 
 same_true : (a b : List ℕ) → same a b ≡ true → a ≡ b
 unfolding same
@@ -231,14 +211,14 @@ one_of_lem p w (a ∷ l) h e = go (same w a) refl e (one_of_lem p w l (every_tru
     go false f e k = k e
 
 -- words of a list that has no such byte
-words-no : (list : String) → every (λ w. not (exists is_referenced w)) (words (bytes list)) ≡ true
+words_no : (list : String) → every (λ w. not (exists is_referenced w)) (words (bytes list)) ≡ true
     → (t : List ℕ) → every (one_of list) (words t) ≡ true → exists is_referenced t ≡ false
 unfolding one_of
-words-no list h = parts-no (one_of list) 32 refl λ w f. not-true _ (one_of_lem (λ w. not (exists is_referenced w)) w (words (bytes list)) h f)
+words_no list h = parts_no (one_of list) 32 refl λ w f. not-true _ (one_of_lem (λ w. not (exists is_referenced w)) w (words (bytes list)) h f)
 
 qualifiers_unreferenced : every (λ w. not (exists is_referenced w)) (words (bytes "LS AC NB PR HON BR AD SP MID CL IN PFX SFX")) ≡ true
 unfolding split exists every
 qualifiers_unreferenced = refl
 
-pub no-qualifiers : (t : List ℕ) → exists is_referenced t ≡ true → is_qualifiers t ≡ false
-no-qualifiers = refuses is_qualifiers (exists is_referenced) (words-no "LS AC NB PR HON BR AD SP MID CL IN PFX SFX" qualifiers_unreferenced)
+pub no_qualifiers : (t : List ℕ) → exists is_referenced t ≡ true → is_qualifiers t ≡ false
+no_qualifiers = refuses is_qualifiers (exists is_referenced) (words_no "LS AC NB PR HON BR AD SP MID CL IN PFX SFX" qualifiers_unreferenced)

@@ -72,7 +72,7 @@ record Bare (c : ℕ) : Type 0 where
   high : c ≤ 127
   no_quote : eqb c 34 ≡ false
   no_ampersand : eqb c 38 ≡ false
-  no-tag : eqb c 60 ≡ false
+  no_tag : eqb c 60 ≡ false
 
 bare : (c : ℕ) → is_bare c ≡ true → Bare c
 bare c h =
@@ -80,13 +80,13 @@ bare c h =
     let (g, a) = both_true _ _ f in
     let (i, q) = both_true _ _ g in
     let (l, m) = is_from-true_lem 32 127 c i in
-    record { low = l; high = m; no_quote = not-true _ q; no_ampersand = not-true _ a; no-tag = not-true _ t }
+    record { low = l; high = m; no_quote = not-true _ q; no_ampersand = not-true _ a; no_tag = not-true _ t }
 
 char-read : (c : ℕ) (r : List ℕ) → is_bare c ≡ true → char (c ∷ r) ≡ ok c r
 unfolding char noncharacter literal one
 char-read c r h =
     let b = bare c h in
-    rw (ne_eqb c 0xEF (λ z. omega (arith, b.high)), le-leb 32 c b.low, b.no-tag, b.no_ampersand)
+    rw (ne_eqb c 0xEF (λ z. omega (arith, b.high)), le-leb 32 c b.low, b.no_tag, b.no_ampersand)
 
 text-read : (f : ℕ) (v r : List ℕ) → length v < f → every is_bare v ≡ true → text f (v ++ 34 ∷ r) ≡ ok v r
 unfolding text one
@@ -110,13 +110,13 @@ start-high c h = go _ _ _ refl refl refl h
     go false false true e f g h = omega (arith, eqb-true c 95 g)
     go false false false e f g h = clash (cc)
 
-no-space : (c : ℕ) → 33 ≤ c → is_space c ≡ false
-no-space c h = rw (ne_eqb c 32 (λ z. omega arith), ne_eqb c 9 (λ z. omega arith), ne_eqb c 13 (λ z. omega arith), ne_eqb c 10 (λ z. omega arith))
+no_space : (c : ℕ) → 33 ≤ c → is_space c ≡ false
+no_space c h = rw (ne_eqb c 32 (λ z. omega arith), ne_eqb c 9 (λ z. omega arith), ne_eqb c 13 (λ z. omega arith), ne_eqb c 10 (λ z. omega arith))
 
 name-start : (n r : List ℕ) → is_name n ≡ true → Stops is_space (n ++ r)
 unfolding is_name
 name-start [] r h = clash (cc)
-name-start (c ∷ n) r h = no-space c (omega (arith, start-high c (both_true (is_name_start c) (every is_name_byte n) h).0))
+name-start (c ∷ n) r h = no_space c (omega (arith, start-high c (both_true (is_name_start c) (every is_name_byte n) h).0))
 
 attribute-read : (a : Attribute) (r : List ℕ) → is_bare_attribute a ≡ true → attribute (a.name ++ (61 ∷ 34 ∷ a.value ++ 34 ∷ r)) ≡ ok a r
 unfolding attribute many front after one
@@ -224,15 +224,15 @@ element-read n as' kids f d r h k =
     ap (element (suc f) (suc d)) (element-text n as' kids (nodes_text kids) r) ∙ rw (a, b, c, body-read n kids f d r k)
 
 -- no element begins with an end tag
-end-no-element : (f d : ℕ) (r : List ℕ) → element f d (60 ∷ 47 ∷ r) ≡ bad
+end_no_element : (f d : ℕ) (r : List ℕ) → element f d (60 ∷ 47 ∷ r) ≡ bad
 unfolding element one name
-end-no-element zero d r = refl
-end-no-element (suc f) zero r = refl
-end-no-element (suc f) (suc d) r = refl
+end_no_element zero d r = refl
+end_no_element (suc f) zero r = refl
+end_no_element (suc f) (suc d) r = refl
 
 content-end : (f d : ℕ) (r : List ℕ) → content (suc f) d (60 ∷ 47 ∷ r) ≡ ok end (60 ∷ 47 ∷ r)
 unfolding content many front after
-content-end f d r = rw (end-no-element f d r)
+content-end f d r = rw (end_no_element f d r)
 
 -- one element, and then others
 content_more : (f d : ℕ) (s t u : List ℕ) (e : Element) (ns : Nodes) → Stops is_space s → element f d s ≡ ok e t → content f d t ≡ ok ns u

@@ -1,4 +1,4 @@
--- 01-scope.md, "Yes, no, unknown", and request A9.
+-- 01-scope.md, "Yes, no, unknown".
 use Rattle.std.specs.Prelude.{ℕ, Bool, true, false, ◌&&◌, ◌||◌, cond, List, ltb, eqb, ℤ}
 use Prim.Native.String.{String}
 use Rattle.std.proofs.Math.Option.{Option, none, some}
@@ -7,7 +7,7 @@ use Rattle.rules.specs.Basics.{if_some, bytes, same}
 use Rattle.rules.specs.Parsers.{whole}
 use Rattle.rules.specs.Markup.{Attribute, Nodes, end, node, Element, lookup}
 use Rattle.rules.specs.Timestamp.{Moment}
-use Rattle.rules.specs.Forms.{amount_text, same_root}
+use Rattle.rules.specs.Forms.{amount_text}
 use Rattle.rules.specs.Invariants.{has, is_null, Side, low, high, Endpoint, valued, infinite, unknown, endpoint_valued, endpoint_of}
 use Rattle.rules.specs.Types.{Kind, TS, IVL_TS, QSU_TS, QSI_TS, QSD_TS, MO, II, CD, EN, DisplayName, Part, all_types, has_type, type_among}
 
@@ -36,10 +36,6 @@ same_option test (some a) (some b) = test a b
 
 abbrev pub same_attribute : List ℕ → List Attribute → List Attribute → Bool
 same_attribute n as' bs = same_option same (lookup n as') (lookup n bs)
-
--- likewise of roots
-abbrev pub same_roots : List ℕ → List Attribute → List Attribute → Bool
-same_roots n as' bs = same_option same_root (lookup n as') (lookup n bs)
 
 -- how two values of a type, neither null, are compared
 abbrev pub Comparer : Type 0
@@ -89,13 +85,13 @@ compare_money shift a b =
 -- II: root and extension
 abbrev pub compare_identifiers : Comparer
 compare_identifiers shift a b =
-    answer (same_roots (bytes "root") a.attrs b.attrs && same_attribute (bytes "extension") a.attrs b.attrs)
+    answer (same_attribute (bytes "root") a.attrs b.attrs && same_attribute (bytes "extension") a.attrs b.attrs)
 
 -- CD: code and codeSystem; unknown if either lacks a code
 abbrev pub compare_codes : Comparer
 compare_codes shift a b =
     cond (has "code" a.attrs && has "code" b.attrs)
-    (answer (same_attribute (bytes "code") a.attrs b.attrs && same_roots (bytes "codeSystem") a.attrs b.attrs))
+    (answer (same_attribute (bytes "code") a.attrs b.attrs && same_attribute (bytes "codeSystem") a.attrs b.attrs))
     Unknown
 
 -- parts compare type and value only; a null part is unknown

@@ -1,8 +1,7 @@
--- 01-scope.md, "Types, after decoding the five references", and request A9: the forms of texts.
-use Rattle.std.specs.Prelude.{ℕ, zero, suc, ◌+◌, ◌-◌, ◌*◌, Bool, true, false, not, ◌&&◌, ◌||◌, cond, leb, eqb, length, ℤ, pos, neg_ℤ}
-use mathlib.Core.List.{List, [], ◌∷◌, ◌++◌, map, flat_map}
+-- 01-scope.md, "Types, after decoding the five references": the forms of texts.
+use Rattle.std.specs.Prelude.{ℕ, zero, suc, ◌+◌, ◌*◌, Bool, true, false, not, ◌&&◌, ◌||◌, List, [], ◌∷◌, ◌++◌, leb, eqb, length, ℤ, pos, neg_ℤ}
 use Rattle.std.proofs.Math.Option.{Option}
-use Rattle.rules.specs.Basics.{is_some, is_empty, every, same, split, words, one_of, is_from, is_digit, decimal}
+use Rattle.rules.specs.Basics.{is_some, is_empty, every, split, words, one_of, is_from, is_digit, decimal}
 use Rattle.rules.specs.Refusal.{Refusal, VALUE, faults_of, ◌when◌}
 use Rattle.rules.specs.Parsers.{Parsed, Parser, next, else, pure, ◌>>=◌, ◌>>◌, ◌or◌, one, times, up_to, byte, finish, whole, result}
 use Rattle.rules.specs.Timestamp.{read_timestamp, point, ten_thousandths}
@@ -38,41 +37,14 @@ is_plain_number (c ∷ []) = is_digit c
 is_plain_number (c ∷ d ∷ s) = is_from 49 57 c && every is_digit (d ∷ s)
 
 -- two or more numbers, the first 0 to 2, the second at most 39 under 0 and 1
-unfoldable pub are_arcs : List (List ℕ) → Bool
-are_arcs [] = false
-are_arcs (a ∷ []) = false
-are_arcs (a ∷ b ∷ more) = every is_plain_number (a ∷ b ∷ more) && leb (decimal a) 2 && (eqb (decimal a) 2 || leb (decimal b) 39)
+unfoldable pub is_oid : List (List ℕ) → Bool
+is_oid [] = false
+is_oid (a ∷ []) = false
+is_oid (a ∷ b ∷ more) = every is_plain_number (a ∷ b ∷ more) && leb (decimal a) 2 && (eqb (decimal a) 2 || leb (decimal b) 39)
 
--- an OID of at most 128 bytes, its numbers parted by dots
-unfoldable pub is_oid : List ℕ → Bool
-is_oid text = leb (length text) 128 && are_arcs (split 46 text)
-
--- a hexadecimal digit in either letter case, and the number that it stands for
-abbrev pub is_hex_digit : ℕ → Bool
-is_hex_digit c = is_digit c || is_from 65 70 c || is_from 97 102 c
-
-abbrev pub hex_value : ℕ → ℕ
-hex_value c = cond (is_digit c) (c - 48) (cond (is_from 65 70 c) (c - 55) (c - 87))
-
--- a UUID: 8-4-4-4-12 hexadecimal digits, parted by hyphens
-unfoldable pub is_uuid : List ℕ → Bool
-is_uuid text = same (map length (split 45 text)) (8 ∷ 4 ∷ 4 ∷ 4 ∷ 12 ∷ []) && every (every is_hex_digit) (split 45 text)
-
--- the numbers that its digits stand for
-unfoldable pub uuid_digits : List ℕ → List ℕ
-uuid_digits text = flat_map (map hex_value) (split 45 text)
-
--- II root, CD codeSystem
+-- II root, CD codeSystem: an OID of at most 128 bytes, its numbers parted by dots
 unfoldable pub is_root : List ℕ → Bool
-is_root text = is_uuid text || is_oid text
-
--- two UUIDs are the same when their digits are, whatever the case
-unfoldable pub same_uuid : List ℕ → List ℕ → Bool
-same_uuid a b = is_uuid a && is_uuid b && same (uuid_digits a) (uuid_digits b)
-
--- two roots are the same if they are one text, or one UUID
-abbrev pub same_root : List ℕ → List ℕ → Bool
-same_root a b = same a b || same_uuid a b
+is_root text = leb (length text) 128 && is_oid (split 46 text)
 
 -- type of a part of EN
 abbrev pub is_part_type : List ℕ → Bool

@@ -87,7 +87,7 @@ module _ (offset : ℤ) (record' : List ℕ) (answer : ℕ) (before after : List
   -- a refusal hands back its number and no count, and the list keeps its bytes
   pub record Refuses (r : Refusal) : Type 0 where
     pub number_given : number_in answer ≡ number r
-    pub no-count : count_in answer ≡ 0
+    pub no_count : count_in answer ≡ 0
     pub unchanged : after ≡ before
 
   -- the count returned is the number of the stretches; the list begins with them, four numbers each and eight bytes a number, all of

@@ -45,10 +45,10 @@ in_tail r c e f =
     let k = is_from-true_lem r.low r.high c f in
     inside 0x80 0xBF c (omega (arith, leb-true 0x80 r.low h.0)) (omega (arith, leb-true r.high 0xBF h.1))
 
-no-tail : (r : Range) (c : ℕ) (a b : Bool) → ltb r.high 0x80 ≡ a → ltb 0xBF r.low ≡ b → a || b ≡ true → in_range c r ≡ true → is_tail c ≡ false
-no-tail r c true b p q e f = let k = is_from-true_lem r.low r.high c f in below 0x80 0xBF c (omega (arith, ltb-true r.high 0x80 p))
-no-tail r c false true p q e f = let k = is_from-true_lem r.low r.high c f in above 0x80 0xBF c (omega (arith, ltb-true 0xBF r.low q))
-no-tail r c false false p q e f = absurd (false≢true e)
+no_tail : (r : Range) (c : ℕ) (a b : Bool) → ltb r.high 0x80 ≡ a → ltb 0xBF r.low ≡ b → a || b ≡ true → in_range c r ≡ true → is_tail c ≡ false
+no_tail r c true b p q e f = let k = is_from-true_lem r.low r.high c f in below 0x80 0xBF c (omega (arith, ltb-true r.high 0x80 p))
+no_tail r c false true p q e f = let k = is_from-true_lem r.low r.high c f in above 0x80 0xBF c (omega (arith, ltb-true 0xBF r.low q))
+no_tail r c false false p q e f = absurd (false≢true e)
 
 boundary_from : (l : List Range) (s : List ℕ) (n : ℕ) → every is_tail_range l ≡ true → follows l s ≡ true → n < length s
     → follows l (take n s) ≡ not (is_tail (get_or s n 0))
@@ -60,7 +60,7 @@ boundary_from [] (c ∷ s) zero t e h = ap not (sym (by_lead (lead_of c) refl e)
     by_lead none d f = absurd (false≢true f)
     by_lead (some l) d f =
         let k : (in_range c l.lead ≡ true) × (is_line l ≡ true) = find-every (λ m. in_range c m.lead) is_line leads l all_lines d in
-        no-tail l.lead c _ _ refl refl (both_true (every is_tail_range l.next) _ k.1).1 k.0
+        no_tail l.lead c _ _ refl refl (both_true (every is_tail_range l.next) _ k.1).1 k.0
 boundary_from [] (c ∷ s) (suc n) t e h = by_lead (lead_of c) refl e (λ l. boundary_from l s n)
   where
     by_lead : (o : Option Lead) → lead_of c ≡ o → if_some o (λ l. follows l.next s) false ≡ true

@@ -164,9 +164,9 @@ pub no_byte : (b : ℕ) (s : List ℕ) (i : ℕ) → i < length s → (get_or s 
 no_byte b s i h e = none-at (λ c. eqb c b) s i h (ne_eqb (get_or s i 0) b e)
 
 -- no point, or no digit after it: nothing is read
-pub no-point : (s : List ℕ) (at : ℕ) → byte 46 (drop at s) ≡ bad → (point or pure []) (drop at s) ≡ ok [] (drop at s)
+pub no_point : (s : List ℕ) (at : ℕ) → byte 46 (drop at s) ≡ bad → (point or pure []) (drop at s) ≡ ok [] (drop at s)
 unfolding point
-no-point s at e = rw e refl
+no_point s at e = rw e refl
 
 pub no_digit : (s : List ℕ) (at : ℕ) → byte 46 (drop at s) ≡ ok 46 (drop (at + 1) s) → one is_digit (drop (at + 1) s) ≡ bad
     → (point or pure []) (drop at s) ≡ ok [] (drop at s)

@@ -49,13 +49,13 @@ pub stay : {A : Type 0} (a : A) (s : List ℕ) (at : ℕ) → at ≤ length s �
 stay a s at h = upto at (record { low = omega arith; high = h; value = a; reads = refl })
 
 -- `guard`
-pub guard-yes : (b : Bool) (s : List ℕ) (at : ℕ) → b ≡ true → at ≤ length s → Reads 0 (guard b) s at (At at)
-guard-yes true s at e h = stay tt s at h
-guard-yes false s at e h = clash (cc)
+pub guard_yes : (b : Bool) (s : List ℕ) (at : ℕ) → b ≡ true → at ≤ length s → Reads 0 (guard b) s at (At at)
+guard_yes true s at e h = stay tt s at h
+guard_yes false s at e h = clash (cc)
 
-pub guard-no : (b : Bool) (s : List ℕ) (at : ℕ) → b ≡ false → Reads 0 (guard b) s at Bad
-guard-no true s at e = clash (cc)
-guard-no false s at e = none refl
+pub guard_no : (b : Bool) (s : List ℕ) (at : ℕ) → b ≡ false → Reads 0 (guard b) s at Bad
+guard_no true s at e = clash (cc)
+guard_no false s at e = none refl
 
 -- `>>=`
 module _ {A B : Type 0} (P : Parser A) (Q : A → Parser B) {s : List ℕ} {at : ℕ} where
@@ -90,21 +90,21 @@ module _ {A : Type 0} (P Q : Parser A) {s : List ℕ} {at : ℕ} where
 
 -- `without`
 module _ {A : Type 0} (P : Parser A) {s : List ℕ} {at : ℕ} where
-  pub without-yes : {k : ℕ} → at ≤ length s → Reads k P s at Bad → Reads 0 (without P) s at (At at)
-  without-yes h (none b) = upto at (record { low = omega arith; high = h; value = tt; reads = rw b })
+  pub without_yes : {k : ℕ} → at ≤ length s → Reads k P s at Bad → Reads 0 (without P) s at (At at)
+  without_yes h (none b) = upto at (record { low = omega arith; high = h; value = tt; reads = rw b })
 
-  pub without-no : {k e : ℕ} → Reads k P s at (At e) → Reads 0 (without P) s at Bad
-  without-no (upto e g) = none (rw g.reads)
+  pub without_no : {k e : ℕ} → Reads k P s at (At e) → Reads 0 (without P) s at Bad
+  without_no (upto e g) = none (rw g.reads)
 
 -- `one` and `many`
 module _ (p : ℕ → Bool) (s : List ℕ) (at : ℕ) where
-  pub one-yes : at < length s → p (get_or s at 0) ≡ true → Reads 1 (one p) s at (At (at + 1))
+  pub one_yes : at < length s → p (get_or s at 0) ≡ true → Reads 1 (one p) s at (At (at + 1))
   unfolding one
-  one-yes h e = upto (at + 1) (record { low = omega arith; high = omega arith; value = get_or s at 0; reads = rw (here s at h, e) })
+  one_yes h e = upto (at + 1) (record { low = omega arith; high = omega arith; value = get_or s at 0; reads = rw (here s at h, e) })
 
-  pub one-no : at < length s → p (get_or s at 0) ≡ false → Reads 1 (one p) s at Bad
+  pub one_no : at < length s → p (get_or s at 0) ≡ false → Reads 1 (one p) s at Bad
   unfolding one
-  one-no h e = none (rw (here s at h, e))
+  one_no h e = none (rw (here s at h, e))
 
   pub one_end : length s ≤ at → Reads 1 (one p) s at Bad
   unfolding one
@@ -120,9 +120,9 @@ module _ (p : ℕ → Bool) (s : List ℕ) (at : ℕ) where
     reads = let z : after p (drop (at + 1) s) ≡ drop e s = cc in let y : front p (drop (at + 1) s) ≡ g.value = cc in rw (here s at h, q, z, y);
   }
 
-  pub many-no : at < length s → p (get_or s at 0) ≡ false → Good 0 (many p) s at at
+  pub many_no : at < length s → p (get_or s at 0) ≡ false → Good 0 (many p) s at at
   unfolding many front after
-  many-no h q = record { low = omega arith; high = omega arith; value = []; reads = rw (here s at h, q) }
+  many_no h q = record { low = omega arith; high = omega arith; value = []; reads = rw (here s at h, q) }
 
   pub many-end : length s ≤ at → at ≤ length s → Good 0 (many p) s at at
   unfolding many front after
@@ -139,9 +139,9 @@ after_shorter p (c ∷ s) = go (p c) (after_shorter p s)
 
 -- `one`, and `many` of the same: what `many` reads, if it is anything
 module _ (p : ℕ → Bool) (s : List ℕ) {at e : ℕ} (g : Good 0 (many p) s at e) where
-  pub some-yes : at < e → Reads 1 (one p >> many p) s at (At e)
+  pub some_yes : at < e → Reads 1 (one p >> many p) s at (At e)
   unfolding many front after
-  some-yes l = go (p (get_or s at 0)) refl
+  some_yes l = go (p (get_or s at 0)) refl
     where
       go : (b : Bool) → p (get_or s at 0) ≡ b → Reads 1 (one p >> many p) s at (At e)
       go true q =
@@ -149,20 +149,20 @@ module _ (p : ℕ → Bool) (s : List ℕ) {at e : ℕ} (g : Good 0 (many p) s a
           let r = rw (here s at h, q) at g.reads in
           let z : after p (drop (at + 1) s) ≡ drop e s = cc in
           let t : Good 0 (many p) s (at + 1) e = record { low = omega arith; high = g.high; value = front p (drop (at + 1) s); reads = rw z } in
-          then (one p) (λ c. many p) (good (one-yes p s at h q)) (λ c k. upto e t)
+          then (one p) (λ c. many p) (good (one_yes p s at h q)) (λ c k. upto e t)
       go false q =
           let h : at < length s = omega (arith, g.high) in
           let r = rw (here s at h, q) at g.reads in
           let z : get_or s at 0 ∷ drop (at + 1) s ≡ drop e s = cc in
           absurd (omega (arith, ap length z, length-drop (at + 1) s, length-drop e s, g.high))
 
-  pub some-no : e ≤ at → Reads 1 (one p >> many p) s at Bad
+  pub some_no : e ≤ at → Reads 1 (one p >> many p) s at Bad
   unfolding many front after
-  some-no l = then_not (one p) (λ c. many p) (go (p (get_or s at 0)) refl (ltb at (length s)) refl)
+  some_no l = then_not (one p) (λ c. many p) (go (p (get_or s at 0)) refl (ltb at (length s)) refl)
     where
       go : (b : Bool) → p (get_or s at 0) ≡ b → (d : Bool) → ltb at (length s) ≡ d → Reads 1 (one p) s at Bad
       go b q false f = one_end p s at (ltb-false at (length s) f)
-      go false q true f = one-no p s at (ltb-true at (length s) f) q
+      go false q true f = one_no p s at (ltb-true at (length s) f) q
       go true q true f =
           let h : at < length s = ltb-true at (length s) f in
           let r = rw (here s at h, q) at g.reads in

@@ -24,7 +24,7 @@ use Rattle.timestamp.specs.Written.{PartsAt, ZoneBy, fraction_after, zone_after,
 use Rattle.timestamp.specs.declared.fourteen.Numbers.{Numbers}
 use Rattle.timestamp.specs.declared.form.Form.TheVariants.{Is as Form-as-Is}
 use Rattle.timestamp.specs.declared.form.Zone.TheVariants.{Agreed}
-use Rattle.timestamp.proofs.Reading.{two_more, two_last, no_fraction, no-zone}
+use Rattle.timestamp.proofs.Reading.{two_more, two_last, no_fraction, no_zone_lem}
 use Rattle.timestamp.proofs.Whole.{whole-written}
 
 -- the bytes of a clock, and two digits 0
@@ -179,7 +179,7 @@ module _ (s : List ℕ) (size : length s ≡ 14) where
     }
 
     zone : ZoneBy (zone_after 5) s 14 (record { zone = Agreed; end = 14 })
-    zone = record { reads = no-zone s 14 nothing; small = record {}; high = omega (arith, size) }
+    zone = record { reads = no_zone_lem s 14 nothing; small = record {}; high = omega (arith, size) }
 
     pub fourteen_written_lem : FormOf s (Form-as-Is (fourteen_written (numbers_of s)))
     fourteen_written_lem = whole-written s (decimal (take 4 s)) (number 0 4 (omega arith)) _ parts _ fraction (record { zone = Agreed; end = 14 }) zone (sym size)

@@ -103,9 +103,9 @@ pub zone_late : (count : ℕ) (s : List ℕ) (at : ℕ) (z : Zoned) → 3 ≤ co
 zone_late count s at z l h = record { reads = rw (le-leb 3 count l) h.reads; small = h.small; high = h.high }
 
 -- the whole text
-pub no-year : (s : List ℕ) → digits 4 s ≡ bad → whole timestamp s ≡ none
+pub no_year : (s : List ℕ) → digits 4 s ≡ bad → whole timestamp s ≡ none
 unfolding timestamp
-no-year s e = rw e refl
+no_year s e = rw e refl
 
 module _ (s t u v r : List ℕ) (y : ℕ) (ps f : List ℕ) (z : Zone) (a : digits 4 s ≡ ok y t) (b : two_digits 5 t ≡ ok ps u)
     (c : fraction_after (length ps) u ≡ ok f v) (d : zone_after (length ps) v ≡ ok z r) where
@@ -122,6 +122,6 @@ pub no_fraction : (s : List ℕ) (at : ℕ) → drop at s ≡ [] → fraction_af
 unfolding point one
 no_fraction s at e = rw e refl
 
-pub no-zone : (s : List ℕ) (at : ℕ) → drop at s ≡ [] → zone_after 5 (drop at s) ≡ ok no_zone (drop at s)
+pub no_zone_lem : (s : List ℕ) (at : ℕ) → drop at s ≡ [] → zone_after 5 (drop at s) ≡ ok no_zone (drop at s)
 unfolding zone one
-no-zone s at e = rw e refl
+no_zone_lem s at e = rw e refl

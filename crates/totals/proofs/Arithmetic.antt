@@ -13,9 +13,9 @@ use Rattle.rules.proofs.Tests.{clash, neither, both_true}
 use Rattle.totals.specs.Readings.{Small}
 
 -- three capitals and no more
-pub no-currency : (n : ℕ) → 0xFF_FFFF < n → false ≡ is_currency (currency_in n)
+pub no_currency : (n : ℕ) → 0xFF_FFFF < n → false ≡ is_currency (currency_in n)
 unfolding low_bytes
-no-currency n h = rw (le-ltb n (2 ^ 24) (omega arith))
+no_currency n h = rw (le-ltb n (2 ^ 24) (omega arith))
 
 pub three_capitals : (n : ℕ) → n ≤ 0xFF_FFFF
     → (is_from 65 90 (n % 256) && is_from 65 90 (n / 256 % 256) && is_from 65 90 (n / 65_536 % 256)) ≡ is_currency (currency_in n)

@@ -65,8 +65,8 @@ module _ (e : Element) (shift : ℕ) (faultless : top_faults shift e ≡ []) (mo
   pub null-read : true ≡ is_null e.attrs → answered null ≡ answered (entry_of e.attrs)
   null-read n = rw (← n)
 
-  pub no-amount-read : none ≡ amount_of e.attrs → answered null ≡ answered (entry_of e.attrs)
-  no-amount-read a = elim (entry_faultless shift e faultless mo) [
+  pub no_amount-read : none ≡ amount_of e.attrs → answered null ≡ answered (entry_of e.attrs)
+  no_amount-read a = elim (entry_faultless shift e faultless mo) [
     | is-null n m ↦ ap answered (sym m)
     | is-money c z n l i b m ↦ clash (cc)
   ]

@@ -134,9 +134,9 @@ module _ (t : Table) (u : Usable t) (long : length t.rows ≡ 16) (c a : ℕ) (c
       go true e = refl
       go false e = ne_eqb (length rows) 16 (λ h. n (omega (arith, ltb-false place t.held e, place_few, rows-length)))
 
-  pub no-total : (place ≡ 16 → ⊥) → is_in_range (new_total (currency_in c) (total_in a) rows) ≡ false → fitting rows entry ≡ refused TOTAL
+  pub no_total : (place ≡ 16 → ⊥) → is_in_range (new_total (currency_in c) (total_in a) rows) ≡ false → fitting rows entry ≡ refused TOTAL
   unfolding fitting first_of rank_in
-  no-total n e = rw (fits n, e) refl
+  no_total n e = rw (fits n, e) refl
 
   fitted : (place ≡ 16 → ⊥) → is_in_range (new_total (currency_in c) (total_in a) rows) ≡ true → fitting rows entry ≡ answered entry
   unfolding fitting first_of

@@ -5,7 +5,7 @@ use borrow.Author.Rules.{rules}
 use Rattle.rules.specs.Basics.{is_empty}
 use Rattle.rules.specs.Refusal.{VALUE, first_of, ◌when◌}
 use Rattle.rules.specs.Forms.{is_currency, is_root, is_qualifiers, form_faults}
-use Rattle.rules.proofs.Unreferenced.{no-currency, no-root, no-qualifiers}
+use Rattle.rules.proofs.Unreferenced.{no_currency, no_root, no_qualifiers}
 use Rattle.form.specs.declared.Form.TheVariants.{AnyText, NonEmpty, Flavor, Timestamp, Flag, Amount, Currency, Root, PartType, Qualifiers}
 use Rattle.form.proofs.Faults.{by_test, by_text, by_faults}
 use Rattle.form.proofs.fault.Statement.{statement}
@@ -121,11 +121,11 @@ returns-6 c = λ v h. by_test c.before.before.before.before.before.before.args.s
 
 returns-7 : tie.Need-returns-7
 unfolding form_faults
-returns-7 c = by_text is_currency no-currency c.before.before.before.before.before.before.args.shift Currency c.before.before.before.before.before.before.args.s.now c.before.before.before.before.before.before.args.q c.before.before.before.before.before.before.args.e c.before.before.before.before.before.before.requires.1.0 c.before.before.before.before.inside.ensures c.value-unless5.ensures c.before.before.enum-told7.given.1 c.before.is-currency.ensures (λ v. refl)
+returns-7 c = by_text is_currency no_currency c.before.before.before.before.before.before.args.shift Currency c.before.before.before.before.before.before.args.s.now c.before.before.before.before.before.before.args.q c.before.before.before.before.before.before.args.e c.before.before.before.before.before.before.requires.1.0 c.before.before.before.before.inside.ensures c.value-unless5.ensures c.before.before.enum-told7.given.1 c.before.is-currency.ensures (λ v. refl)
 
 returns-8 : tie.Need-returns-8
 unfolding form_faults
-returns-8 c = by_text is_root no-root c.before.before.before.before.before.before.args.shift Root c.before.before.before.before.before.before.args.s.now c.before.before.before.before.before.before.args.q c.before.before.before.before.before.before.args.e c.before.before.before.before.before.before.requires.1.0 c.before.before.before.before.inside.ensures c.value-unless6.ensures c.before.before.enum-told8.given.1 c.before.is-root.ensures (λ v. refl)
+returns-8 c = by_text is_root no_root c.before.before.before.before.before.before.args.shift Root c.before.before.before.before.before.before.args.s.now c.before.before.before.before.before.before.args.q c.before.before.before.before.before.before.args.e c.before.before.before.before.before.before.requires.1.0 c.before.before.before.before.inside.ensures c.value-unless6.ensures c.before.before.enum-told8.given.1 c.before.is-root.ensures (λ v. refl)
 
 returns-9 : tie.Need-returns-9
 unfolding form_faults
@@ -133,7 +133,7 @@ returns-9 c = λ v h. by_test c.before.before.before.before.before.before.args.s
 
 returns-10 : tie.Need-returns-10
 unfolding form_faults
-returns-10 c = by_text is_qualifiers no-qualifiers c.before.before.before.before.before.before.args.shift Qualifiers c.before.before.before.before.before.before.args.s.now c.before.before.before.before.before.before.args.q c.before.before.before.before.before.before.args.e c.before.before.before.before.before.before.requires.1.0 c.before.before.before.before.inside.ensures c.value-unless8.ensures c.before.before.enum-told10.given.1 c.before.is-qualifiers.ensures (λ v. refl)
+returns-10 c = by_text is_qualifiers no_qualifiers c.before.before.before.before.before.before.args.shift Qualifiers c.before.before.before.before.before.before.args.s.now c.before.before.before.before.before.before.args.q c.before.before.before.before.before.before.args.e c.before.before.before.before.before.before.requires.1.0 c.before.before.before.before.inside.ensures c.value-unless8.ensures c.before.before.enum-told10.given.1 c.before.is-qualifiers.ensures (λ v. refl)
 
 pub fault-spec : {M : Type 1} → statement M
 fault-spec =

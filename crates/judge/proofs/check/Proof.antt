@@ -1,4 +1,4 @@
-use Rattle.judge.proofs.Checking.{too_long, not_utf8, no-document, a_document}
+use Rattle.judge.proofs.Checking.{too_long, not_utf8, no_document, a_document}
 use borrow.Author.Tests.{not-true, not-false}
 use mathlib.Core.Path.{sym, ◌∙◌}
 use borrow.Author.Rules.{rules}
@@ -43,7 +43,7 @@ refused-requires-3 c κs = search rules
 -- src/lib.rt:167:9
 returns-3 : tie.Need-returns-3
 returns-3 c =
-    no-document c.before.before.before.before.before.before.before.args.shift c.before.before.before.before.before.before.before.args.input.now c.refused3.result c.before.before.before.before.before.if1.false (sym c.before.before.before.before.is-utf8.ensures ∙ not-false _ c.before.before.before.if2.false) (sym c.before.before.is-document.ensures ∙ not-true _ c.before.if3.true) c.refused3.ensures
+    no_document c.before.before.before.before.before.before.before.args.shift c.before.before.before.before.before.before.before.args.input.now c.refused3.result c.before.before.before.before.before.if1.false (sym c.before.before.before.before.is-utf8.ensures ∙ not-false _ c.before.before.before.if2.false) (sym c.before.before.is-document.ensures ∙ not-true _ c.before.if3.true) c.refused3.ensures
 
 -- src/lib.rt:169:5
 check-document-requires : tie.Need-check-document-requires

@@ -1,5 +1,5 @@
 use native.Mathlib.Omega.{arith}
-use Rattle.judge.proofs.Checking.{no-type, some-type}
+use Rattle.judge.proofs.Checking.{no_type, some-type}
 use borrow.Author.Rules.{rules}
 use Rattle.judge.proofs.check_document.Statement.{statement}
 use Rattle.judge.proofs.check_document.Tie as tie
@@ -45,7 +45,7 @@ refused-requires c κs = search rules
 returns : tie.Need-returns
 returns c =
     let at_before = c.before.before.before in
-    no-type c.before.before.before.before.before.before.before.before.args.shift c.before.before.before.before.before.read.result c.before.before.before.before.before.before.root.ensures.1 c.before.before.before.before.before.read.ensures.1 at_before.type_at.result at_before.type_at.ensures c.before.enum_told.given.1 c.refused.result c.refused.ensures
+    no_type c.before.before.before.before.before.before.before.before.args.shift c.before.before.before.before.before.read.result c.before.before.before.before.before.before.root.ensures.1 c.before.before.before.before.before.read.ensures.1 at_before.type_at.result at_before.type_at.ensures c.before.enum_told.given.1 c.refused.result c.refused.ensures
 
 -- src/lib.rt:120:9
 judge-content-requires : tie.Need-judge-content-requires

@@ -1,7 +1,7 @@
 -- `lent::is_proper` meets its contract. The loop's invariant: what is left, from the k-th row on, decides.
 use Rattle.std.proofs.Common.{◌≡◌, ◌-◌, ◌*◌, ◌/◌, ◌≤◌, not, length, sym, ap, ◌∙◌, arith, rules}
 use borrow.Author.Tests.{not-true, not-false}
-use Rattle.lent.proofs.Proper.{Left, improper_part, improper_long, proper-empty, first-bad, first_good, next-bad, next_unparted, next-good, none_left, good-kinds}
+use Rattle.lent.proofs.Proper.{Left, improper_part, improper_long, proper-empty, first-bad, first_good, next-bad, next_unparted, next_good, none_left, good_kinds}
 use Rattle.lent.proofs.is_proper.Statement.{statement}
 use Rattle.lent.proofs.is_proper.Tie as tie
 
@@ -51,7 +51,7 @@ returns-5 c =
 are-parted-requires : tie.Need-are-parted-requires invariant-loop decreases-loop
 are-parted-requires c κs =
     let q = c.before.before.read-row2.result in
-    ((good-kinds c.before.before.before.before.loop.row c.before.before.before.before.loop.invariant.2.good).1, (good-kinds q (not-true _ (sym c.before.is-stretch2.ensures ∙ not-false _ c.if5.false))).0)
+    ((good_kinds c.before.before.before.before.loop.row c.before.before.before.before.loop.invariant.2.good).1, (good_kinds q (not-true _ (sym c.before.is-stretch2.ensures ∙ not-false _ c.if5.false))).0)
 
 returns-6 : tie.Need-returns-6 invariant-loop decreases-loop
 returns-6 c =
@@ -69,7 +69,7 @@ loop-again : tie.Need-loop-preserved invariant-loop decreases-loop
 loop-again c =
     let s = c.before.before.before.before.before.before.before.before.before.before.before.before.before.before.args.list.now in
     let l = c.before.before.before.before.before.before.loop in
-    (omega arith, l.invariant.1, next-good s (length s / 32) l.k c.before.before.before.before.before.loop-test.true l.row l.invariant.2 c.before.before.before.before.read-row2.result c.before.before.before.before.read-row2.ensures (not-true _ (sym c.before.before.before.is-stretch2.ensures ∙ not-false _ c.before.before.if5.false)) (not-true _ (sym c.before.are-parted.ensures ∙ not-false _ c.if6.false)))
+    (omega arith, l.invariant.1, next_good s (length s / 32) l.k c.before.before.before.before.before.loop-test.true l.row l.invariant.2 c.before.before.before.before.read-row2.result c.before.before.before.before.read-row2.ensures (not-true _ (sym c.before.before.before.is-stretch2.ensures ∙ not-false _ c.before.before.if5.false)) (not-true _ (sym c.before.are-parted.ensures ∙ not-false _ c.if6.false)))
 
 returns-7 : tie.Need-returns-7 invariant-loop decreases-loop
 returns-7 c =

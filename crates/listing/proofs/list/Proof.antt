@@ -4,7 +4,7 @@ use mathlib.Core.Path.{◌≡◌, refl}
 use borrow.Author.Tests.{not-true, not-false}
 use lib.ListN.{length}
 use Rattle.interval.proofs.Items.{length_mapped}
-use Rattle.listing.proofs.Answering.{answers-unknown, answers-many, answers-no-room, answers-count}
+use Rattle.listing.proofs.Answering.{answers-unknown, answers-many, answers_no_room, answers-count}
 use borrow.Author.Rules.{rules}
 use Rattle.listing.proofs.list.Statement.{statement}
 use Rattle.listing.proofs.list.Tie as tie
@@ -40,7 +40,7 @@ returns-3 c =
     let g : length at-evaluate.evaluate.result.set.items ≡ 32 = search (length_mapped, at-evaluate.evaluate.type-inv.1.1.1.1.0) in (
       refl,
       (
-        λ e d f l. answers-no-room start.args.shift e start.args.out.now f l (at-evaluate.evaluate.ensures.1.1 e _ d.tag).0 (not-false _ at-if1.if1.false)
+        λ e d f l. answers_no_room start.args.shift e start.args.out.now f l (at-evaluate.evaluate.ensures.1.1 e _ d.tag).0 (not-false _ at-if1.if1.false)
             at-evaluate.evaluate.ensures.0 (omega (arith, at-if2.if2.false)) g c.if3.true,
         tt,
       ),

@@ -6,7 +6,7 @@ use lib.ListN.{length}
 use Rattle.text.proofs.Reading.{answer, found, good}
 use Rattle.markup.specs.Elements.{ReadsContent}
 use Rattle.markup.proofs.Tags.{tag-answer, tag-bounds}
-use Rattle.markup.proofs.Elements.{too_deep, no-element, empty-element, full-element, content-end, content_more}
+use Rattle.markup.proofs.Elements.{too_deep, no_element, empty-element, full-element, content-end, content_more}
 use borrow.Author.Rules.{rules}
 use Prim.Native.Nat.{ℕ, ◌+◌, ◌-◌, ◌*◌, ◌≤◌, ◌<◌}
 use borrow.Fn.Kinds.{In}
@@ -149,7 +149,7 @@ read-element-returns-3 t c =
 
 -- src/lib.rt:24:1
 read-element-returns-4 : (t : ℕ) → read-element-lts.Need-returns-4 (read-element-claims t) (read-element-at t) read-element.Post
-read-element-returns-4 t c = no-element _ (tag-answer c.enum_told.given.1 c.before.before.read-tag.ensures)
+read-element-returns-4 t c = no_element _ (tag-answer c.enum_told.given.1 c.before.before.read-tag.ensures)
 
 pub +read-content-read-element-spec : {M : Type 1} → statement M
 +read-content-read-element-spec = close μ-read-content μ-read-element (λ t. read-content-lts.spec (read-content-claims t)

@@ -2,7 +2,7 @@
 use native.Mathlib.Omega.{arith}
 use mathlib.Core.Path.{sym, ◌∙◌}
 use borrow.Author.Tests.{not-true, not-false}
-use Rattle.rigcactus.proofs.PrintingWays.{print_unwritable, print-no-room, print-answered}
+use Rattle.rigcactus.proofs.PrintingWays.{print_unwritable, print_no_room, print-answered}
 use borrow.Author.Rules.{rules}
 use Rattle.rigcactus.proofs.rigcactus_print.Statement.{statement}
 use Rattle.rigcactus.proofs.rigcactus_print.Tie as tie
@@ -23,7 +23,7 @@ number-requires-2 : tie.Need-number-requires-2
 number-requires-2 c κs = search rules
 
 returns-2 : tie.Need-returns-2
-returns-2 c = let h = print-no-room c.before.before.before.before.before.before.before.args.list.now c.before.before.before.before.before.before.before.args.«record».now (not-true _ (sym c.before.before.before.before.is-writable.ensures ∙ not-false _ c.before.before.before.if1.false)) (omega (arith, c.before.before.record-length.ensures.0, c.before.if2.true)) in (c.number2.ensures ∙ h.0, h.1)
+returns-2 c = let h = print_no_room c.before.before.before.before.before.before.before.args.list.now c.before.before.before.before.before.before.before.args.«record».now (not-true _ (sym c.before.before.before.before.is-writable.ensures ∙ not-false _ c.before.before.before.if1.false)) (omega (arith, c.before.before.record-length.ensures.0, c.before.if2.true)) in (c.number2.ensures ∙ h.0, h.1)
 
 print-requires : tie.Need-print-requires
 print-requires c κs = ((not-true _ (sym c.before.before.before.before.is-writable.ensures ∙ not-false _ c.before.before.before.if1.false)), omega (arith, c.before.before.record-length.ensures.0, c.before.if2.false))

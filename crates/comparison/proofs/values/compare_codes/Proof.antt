@@ -15,8 +15,8 @@ has-requires-2 c κs = search rules
 same-attribute-requires : tie.Need-same-attribute-requires
 same-attribute-requires c κs = search rules
 
-same-root-requires : tie.Need-same-root-requires
-same-root-requires c κs = search rules
+same-attribute-requires-2 : tie.Need-same-attribute-requires-2
+same-attribute-requires-2 c κs = search rules
 
 answer-if-requires : tie.Need-answer-if-requires
 answer-if-requires c κs = search rules
@@ -25,7 +25,7 @@ returns : tie.Need-returns
 returns c = λ n v w g h.
     let both = c.before.before.before in
     let codes = c.before.before.same-attribute.ensures v.attrs w.attrs g h in
-    let systems = c.before.same-root.ensures v.attrs w.attrs g h in
+    let systems = c.before.same-attribute2.ensures v.attrs w.attrs g h in
     chosen (both_tests (both.before.before.has.ensures _ v.attrs g) (both.before.has2.ensures _ w.attrs h)) _ both.if1.true
     (c.answer-if.ensures ∙ ap answer (both_tests codes systems))
 
@@ -34,4 +34,4 @@ returns-2 c = λ n v w g h. left_over (both_tests (c.before.before.has.ensures _
 
 pub compare-codes-spec : {M : Type 1} → statement M
 compare-codes-spec =
-    tie.close (tie.spec has-requires has-requires-2 same-attribute-requires same-root-requires answer-if-requires returns returns-2)
+    tie.close (tie.spec has-requires has-requires-2 same-attribute-requires same-attribute-requires-2 answer-if-requires returns returns-2)

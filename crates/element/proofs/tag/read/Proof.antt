@@ -1,4 +1,4 @@
-use Rattle.element.proofs.Tagging.{tag_of, tag_in, no-tag, no-tag_in}
+use Rattle.element.proofs.Tagging.{tag_of, tag_in, no_tag, no_tag_in}
 use Rattle.markup.proofs.Tags.{head_found, head-none}
 use borrow.Author.Rules.{rules}
 use Rattle.element.proofs.tag.read.Statement.{statement}
@@ -23,7 +23,7 @@ enum_told c = search rules
 
 -- src/tag.rt:162:9
 returns : tie.Need-returns
-returns c = (no-tag_in _, λ depth v after x. no-tag (head-none c.enum_told.given.1 c.before.before.read_head.ensures) x)
+returns c = (no_tag_in _, λ depth v after x. no_tag (head-none c.enum_told.given.1 c.before.before.read_head.ensures) x)
 
 -- src/tag.rt:172:30
 read-carried-requires : tie.Need-read-carried-requires

@@ -1,7 +1,7 @@
 use mathlib.Core.Path.{sym, ◌∙◌}
 use Rattle.markup.proofs.Characters.{not_quote, simple_char}
 use Rattle.element.proofs.Decoded.{chars-end, chars-next, chars-on}
-use Rattle.element.specs.Texts.{no-char-on}
+use Rattle.element.specs.Texts.{no_char-on}
 use Rattle.text.proofs.Reading.{answer}
 use borrow.Author.Rules.{rules}
 use Rattle.element.proofs.value.next.Statement.{statement}
@@ -41,7 +41,7 @@ enum_told c = search rules
 
 -- src/value.rt:74:9
 returns-2 : tie.Need-returns-2
-returns-2 c = (no-char-on, chars-end (answer c.enum_told.given.1 c.before.before.read_byte.ensures))
+returns-2 c = (no_char-on, chars-end (answer c.enum_told.given.1 c.before.before.read_byte.ensures))
 
 enum-told-2 : tie.Need-enum-told-2
 enum-told-2 c = search rules

@@ -6,7 +6,7 @@ use borrow.Author.Rules.{rules}
 use lib.ListN.{length}
 use Rattle.rules.specs.Parsers.{many}
 use Rattle.text.specs.Reads.{Good}
-use Rattle.text.proofs.Reading.{many_more, many-no, many-end}
+use Rattle.text.proofs.Reading.{many_more, many_no, many-end}
 use Rattle.element.specs.Texts.{is_bare}
 use Rattle.element.proofs.value.quote.Statement.{statement}
 use Rattle.element.proofs.value.quote.Tie as tie
@@ -29,7 +29,7 @@ shared-slice-read-if1 c = search rules
 
 -- src/value.rt:38:13
 returns : tie.Need-returns invariant-loop decreases-loop
-returns c = c.before.before.before.loop.invariant.1 _ (many-no _ _ _ c.before.before.loop-test.true (rw (eq-eqb _ 34 c.if1.true)))
+returns c = c.before.before.before.loop.invariant.1 _ (many_no _ _ _ c.before.before.loop-test.true (rw (eq-eqb _ 34 c.if1.true)))
 
 -- src/value.rt:40:9
 add-i : tie.Need-overflow-add-i invariant-loop decreases-loop

@@ -1,5 +1,5 @@
 -- `form::fixed::is_flavor` meets its contract.
-use Rattle.form.proofs.Choices.{flavor-groups}
+use Rattle.form.proofs.Choices.{flavor_groups}
 use borrow.Author.Rules.{rules}
 use Rattle.form.proofs.fixed.is_flavor.Statement.{statement}
 use Rattle.form.proofs.fixed.is_flavor.Tie as tie
@@ -34,7 +34,7 @@ is-unknown-requires : tie.Need-is-unknown-requires
 is-unknown-requires c κs = search rules
 
 returns : tie.Need-returns
-returns c = λ v a h. rw (c.before.before.before.before.before.before.is.ensures v a h, c.before.before.before.before.before.is-invalid.ensures v a h, c.before.before.before.is2.ensures v a h, c.before.is3.ensures v a h, c.is-unknown.ensures v a h) (flavor-groups v)
+returns c = λ v a h. rw (c.before.before.before.before.before.before.is.ensures v a h, c.before.before.before.before.before.is-invalid.ensures v a h, c.before.before.before.is2.ensures v a h, c.before.is3.ensures v a h, c.is-unknown.ensures v a h) (flavor_groups v)
 
 pub is-flavor-spec : {M : Type 1} → statement M
 is-flavor-spec =

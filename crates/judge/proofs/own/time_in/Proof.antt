@@ -1,4 +1,4 @@
-use Rattle.judge.proofs.Times.{no-time}
+use Rattle.judge.proofs.Times.{no_time}
 use mathlib.Core.Path.{refl}
 use borrow.Author.Rules.{rules}
 use Rattle.judge.proofs.own.time_in.Statement.{statement}
@@ -21,7 +21,7 @@ returns c = λ l t. let (a, b) = c.time-of.ensures l t in (λ e. a, rw c.before.
 
 -- src/own.rt:38:1
 returns-2 : tie.Need-returns-2
-returns-2 c = λ l t. no-time c.before.before.args.shift l c.before.before.args.kind c.match.keys2
+returns-2 c = λ l t. no_time c.before.before.args.shift l c.before.before.args.kind c.match.keys2
 
 pub time-in-spec : {M : Type 1} → statement M
 time-in-spec = tie.close (tie.spec enum_told time-of-requires returns returns-2)

@@ -1,4 +1,4 @@
-use Rattle.judge.proofs.Crossing.{no-interval}
+use Rattle.judge.proofs.Crossing.{no_interval}
 use native.Mathlib.Omega.{arith}
 use borrow.Author.Rules.{rules}
 use Rattle.judge.proofs.rule.breaks_bounds.Statement.{statement}
@@ -29,7 +29,7 @@ returns c = λ shift l kids t e b. c.breaks-interval.ensures shift l kids (t.pla
 
 -- src/rule.rt:126:1
 returns-2 : tie.Need-returns-2
-returns-2 c = λ shift l kids t e. no-interval c.before.before.args.kind c.match.keys2 e
+returns-2 c = λ shift l kids t e. no_interval c.before.before.args.kind c.match.keys2 e
 
 pub breaks-bounds-spec : {M : Type 1} → statement M
 breaks-bounds-spec = tie.close (tie.spec

@@ -1,6 +1,6 @@
 -- `markup::scan::read_byte` meets its contract.
 use borrow.Author.Tests.{eq-eqb, ne_eqb}
-use Rattle.text.proofs.Reading.{one-yes, one-no, one_end}
+use Rattle.text.proofs.Reading.{one_yes, one_no, one_end}
 use borrow.Author.Rules.{rules}
 use Rattle.markup.proofs.scan.read_byte.Statement.{statement}
 use Rattle.markup.proofs.scan.read_byte.Tie as tie
@@ -17,11 +17,11 @@ add-t9 c = search rules
 
 -- src/scan.rt:99:13
 returns : tie.Need-returns
-returns c = one-yes _ _ _ c.before.before.if1.true (eq-eqb _ _ c.if2.true)
+returns c = one_yes _ _ _ c.before.before.if1.true (eq-eqb _ _ c.if2.true)
 
 -- src/scan.rt:93:1
 returns-2 : tie.Need-returns-2
-returns-2 c = one-no _ _ _ c.before.before.if1.true (ne_eqb _ _ c.if2.false)
+returns-2 c = one_no _ _ _ c.before.before.if1.true (ne_eqb _ _ c.if2.false)
 
 -- src/scan.rt:93:1
 returns-3 : tie.Need-returns-3

@@ -2,7 +2,7 @@
 use mathlib.Core.Path.{sym, ◌∙◌}
 use Rattle.rules.specs.Markup.{name}
 use Rattle.text.specs.Reads.{upto}
-use Rattle.text.proofs.Reading.{one-yes, one-no, one_end, good, then, then_not, last}
+use Rattle.text.proofs.Reading.{one_yes, one_no, one_end, good, then, then_not, last}
 use borrow.Author.Rules.{rules}
 use Rattle.markup.proofs.scan.read_name.Statement.{statement}
 use Rattle.markup.proofs.scan.read_name.Tie as tie
@@ -31,12 +31,12 @@ skip-name-bytes-requires c κs = search rules
 returns : tie.Need-returns
 unfolding name
 returns c =
-    then _ _ (good (one-yes _ _ _ c.before.before.before.before.if1.true (sym c.before.before.is-name-start.ensures ∙ c.before.if2.true))) (λ a q. last _ _ (upto _ c.skip-name-bytes.ensures))
+    then _ _ (good (one_yes _ _ _ c.before.before.before.before.if1.true (sym c.before.before.is-name-start.ensures ∙ c.before.if2.true))) (λ a q. last _ _ (upto _ c.skip-name-bytes.ensures))
 
 -- src/scan.rt:80:1
 returns-2 : tie.Need-returns-2
 unfolding name
-returns-2 c = then_not _ _ (one-no _ _ _ c.before.before.before.if1.true (sym c.before.is-name-start.ensures ∙ c.if2.false))
+returns-2 c = then_not _ _ (one_no _ _ _ c.before.before.before.if1.true (sym c.before.is-name-start.ensures ∙ c.if2.false))
 
 -- src/scan.rt:80:1
 returns-3 : tie.Need-returns-3

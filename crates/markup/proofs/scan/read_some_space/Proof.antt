@@ -1,6 +1,6 @@
 -- `markup::scan::read_some_space` meets its contract.
 use Rattle.rules.specs.Markup.{some_space}
-use Rattle.text.proofs.Reading.{some-yes, some-no}
+use Rattle.text.proofs.Reading.{some_yes, some_no}
 use borrow.Author.Rules.{rules}
 use Rattle.markup.proofs.scan.read_some_space.Statement.{statement}
 use Rattle.markup.proofs.scan.read_some_space.Tie as tie
@@ -15,12 +15,12 @@ skip-space-requires c κs = search rules
 -- src/scan.rt:33:1
 returns : tie.Need-returns
 unfolding some_space
-returns c = some-yes _ _ c.before.skip-space.ensures c.if1.true
+returns c = some_yes _ _ c.before.skip-space.ensures c.if1.true
 
 -- src/scan.rt:33:1
 returns-2 : tie.Need-returns-2
 unfolding some_space
-returns-2 c = some-no _ _ c.before.skip-space.ensures c.if1.false
+returns-2 c = some_no _ _ c.before.skip-space.ensures c.if1.false
 
 pub read-some-space-spec : {M : Type 1} → statement M
 read-some-space-spec = tie.close (tie.spec skip-space-requires returns returns-2)

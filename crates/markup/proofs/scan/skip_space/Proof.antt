@@ -7,7 +7,7 @@ use lib.ListN.{length}
 use Rattle.rules.specs.Parsers.{many}
 use Rattle.rules.specs.Markup.{is_space}
 use Rattle.text.specs.Reads.{Good}
-use Rattle.text.proofs.Reading.{many_more, many-no, many-end}
+use Rattle.text.proofs.Reading.{many_more, many_no, many-end}
 use borrow.Author.Rules.{rules}
 use Rattle.markup.proofs.scan.skip_space.Statement.{statement}
 use Rattle.markup.proofs.scan.skip_space.Tie as tie
@@ -36,7 +36,7 @@ is-space-requires c κs = search rules
 -- src/scan.rt:26:13
 returns : tie.Need-returns invariant-loop decreases-loop
 returns c =
-    c.before.before.before.before.loop.invariant.1 _ (many-no _ _ _ c.before.before.before.loop-test.true (sym c.before.is-space.ensures ∙ not-true _ c.if1.true))
+    c.before.before.before.before.loop.invariant.1 _ (many_no _ _ _ c.before.before.before.loop-test.true (sym c.before.is-space.ensures ∙ not-true _ c.if1.true))
 
 -- src/scan.rt:28:9
 add-i : tie.Need-overflow-add-i invariant-loop decreases-loop

@@ -1,8 +1,8 @@
 -- `markup::tag::read_attribute` meets its contract.
 use Rattle.rules.specs.Markup.{attribute}
 use Rattle.text.proofs.Reading.{answer, found, none_of, then, then_not}
-use Rattle.markup.specs.Attributes.{no-parts}
-use Rattle.markup.proofs.Attributes.{parts-good}
+use Rattle.markup.specs.Attributes.{no_parts}
+use Rattle.markup.proofs.Attributes.{parts_good}
 use borrow.Author.Rules.{rules}
 use Rattle.markup.proofs.tag.read_attribute.Statement.{statement}
 use Rattle.markup.proofs.tag.read_attribute.Tie as tie
@@ -28,7 +28,7 @@ enum_told c = search rules
 -- src/tag.rt:35:9
 returns : tie.Need-returns
 unfolding attribute
-returns c = no-parts (none_of _ (then_not _ _ (answer c.enum_told.given.1 c.before.before.read_name.ensures)))
+returns c = no_parts (none_of _ (then_not _ _ (answer c.enum_told.given.1 c.before.before.read_name.ensures)))
 
 -- src/tag.rt:37:9
 skip-space-requires : tie.Need-skip-space-requires
@@ -50,7 +50,7 @@ enum-told-2 c = search rules
 returns-2 : tie.Need-returns-2
 unfolding attribute
 returns-2 c =
-    no-parts (none_of _ (then _ _ (found c.before.before.before.before.before.name.given.1 c.before.before.before.before.before.before.before.read_name.ensures) (λ a q. then _ _ c.before.before.before.skip-space.ensures (λ a q. then_not _ _ (answer c.enum-told2.given.1 c.before.before.read_byte.ensures)))))
+    no_parts (none_of _ (then _ _ (found c.before.before.before.before.before.name.given.1 c.before.before.before.before.before.before.before.read_name.ensures) (λ a q. then _ _ c.before.before.before.skip-space.ensures (λ a q. then_not _ _ (answer c.enum-told2.given.1 c.before.before.read_byte.ensures)))))
 
 -- src/tag.rt:42:9
 skip-space-requires-2 : tie.Need-skip-space-requires-2
@@ -72,13 +72,13 @@ enum-told-3 c = search rules
 returns-3 : tie.Need-returns-3
 unfolding attribute
 returns-3 c =
-    no-parts (none_of _ (then _ _ (found c.before.before.before.before.before.before.before.before.before.before.name.given.1 c.before.before.before.before.before.before.before.before.before.before.before.before.read_name.ensures) (λ a q. then _ _ c.before.before.before.before.before.before.before.before.skip-space.ensures (λ a q. then _ _ (found c.before.before.before.before.before.equals.given.1 c.before.before.before.before.before.before.before.read_byte.ensures) (λ a q. then _ _ c.before.before.before.skip-space2.ensures (λ a q.
+    no_parts (none_of _ (then _ _ (found c.before.before.before.before.before.before.before.before.before.before.name.given.1 c.before.before.before.before.before.before.before.before.before.before.before.before.read_name.ensures) (λ a q. then _ _ c.before.before.before.before.before.before.before.before.skip-space.ensures (λ a q. then _ _ (found c.before.before.before.before.before.equals.given.1 c.before.before.before.before.before.before.before.read_byte.ensures) (λ a q. then _ _ c.before.before.before.skip-space2.ensures (λ a q.
     then_not _ _ (answer c.enum-told3.given.1 c.before.before.read-value.ensures)))))))
 
 -- src/tag.rt:29:1
 returns-4 : tie.Need-returns-4
 returns-4 c =
-    parts-good _ _ _ _ _ _ _ (found c.before.before.before.before.before.before.before.before.before.before.before.name.given.1 c.before.before.before.before.before.before.before.before.before.before.before.before.before.read_name.ensures) c.before.before.before.before.before.before.before.before.before.skip-space.ensures (found c.before.before.before.before.before.before.equals.given.1 c.before.before.before.before.before.before.before.before.read_byte.ensures) c.before.before.before.before.skip-space2.ensures (found c.before.quoted.given.1 c.before.before.before.read-value.ensures)
+    parts_good _ _ _ _ _ _ _ (found c.before.before.before.before.before.before.before.before.before.before.before.name.given.1 c.before.before.before.before.before.before.before.before.before.before.before.before.before.read_name.ensures) c.before.before.before.before.before.before.before.before.before.skip-space.ensures (found c.before.before.before.before.before.before.equals.given.1 c.before.before.before.before.before.before.before.before.read_byte.ensures) c.before.before.before.before.skip-space2.ensures (found c.before.quoted.given.1 c.before.before.before.read-value.ensures)
 
 pub read-attribute-spec : {M : Type 1} → statement M
 read-attribute-spec =

@@ -1,7 +1,7 @@
 -- `markup::tag::read_tag` meets its contract.
 use Rattle.text.proofs.Reading.{answer, found}
-use Rattle.markup.specs.Tags.{empty-tag, open_tag, no-tag}
-use Rattle.markup.proofs.Tags.{head_found, head-none, no-attributes, no_end}
+use Rattle.markup.specs.Tags.{empty-tag, open_tag, no_tag}
+use Rattle.markup.proofs.Tags.{head_found, head-none, no_attributes, no_end}
 use borrow.Author.Rules.{rules}
 use Rattle.markup.proofs.tag.read_tag.Statement.{statement}
 use Rattle.markup.proofs.tag.read_tag.Tie as tie
@@ -27,7 +27,7 @@ enum_told c = search rules
 
 -- src/tag.rt:161:9
 returns : tie.Need-returns
-returns c = no-tag (head-none c.enum_told.given.1 c.before.before.read_head.ensures)
+returns c = no_tag (head-none c.enum_told.given.1 c.before.before.read_head.ensures)
 
 -- src/tag.rt:163:9
 read-attributes-requires : tie.Need-read-attributes-requires
@@ -44,7 +44,7 @@ enum-told-2 c = search rules
 -- src/tag.rt:165:9
 returns-2 : tie.Need-returns-2
 returns-2 c =
-    no-attributes (head_found c.before.before.before.before.head.given.1 c.before.before.before.before.before.before.read_head.ensures) (answer c.enum-told2.given.1 c.before.before.read-attributes.ensures)
+    no_attributes (head_found c.before.before.before.before.head.given.1 c.before.before.before.before.before.before.read_head.ensures) (answer c.enum-told2.given.1 c.before.before.read-attributes.ensures)
 
 -- src/tag.rt:167:9
 skip-space-requires : tie.Need-skip-space-requires

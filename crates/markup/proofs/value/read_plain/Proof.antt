@@ -1,7 +1,7 @@
 -- `markup::value::read_plain` meets its contract.
 use mathlib.Core.Path.{sym, ◌∙◌}
-use Rattle.text.proofs.Reading.{one-no, one_end}
-use Rattle.markup.proofs.Characters.{char-one, char-no}
+use Rattle.text.proofs.Reading.{one_no, one_end}
+use Rattle.markup.proofs.Characters.{char-one, char_no}
 use borrow.Author.Rules.{rules}
 use Rattle.markup.proofs.value.read_plain.Statement.{statement}
 use Rattle.markup.proofs.value.read_plain.Tie as tie
@@ -27,11 +27,11 @@ returns c = char-one _ _ _ c.before.before.before.if1.true (sym c.before.is_plai
 
 -- src/value.rt:40:1
 returns-2 : tie.Need-returns-2
-returns-2 c = char-no (one-no _ _ _ c.before.before.before.if1.true (sym c.before.is_plain.ensures ∙ c.if2.false))
+returns-2 c = char_no (one_no _ _ _ c.before.before.before.if1.true (sym c.before.is_plain.ensures ∙ c.if2.false))
 
 -- src/value.rt:40:1
 returns-3 : tie.Need-returns-3
-returns-3 c = char-no (one_end _ _ _ c.if1.false)
+returns-3 c = char_no (one_end _ _ _ c.if1.false)
 
 pub read-plain-spec : {M : Type 1} → statement M
 read-plain-spec =

@@ -5,7 +5,7 @@ use native.Mathlib.Omega.{arith}
 use lib.ListN.{length}
 use Rattle.text.proofs.Reading.{answer, found}
 use Rattle.markup.specs.Values.{TextOn}
-use Rattle.markup.proofs.Characters.{char-answer, char-good, char-none, text-end, text-not, on_none, on_more}
+use Rattle.markup.proofs.Characters.{char-answer, char_good, char-none, text-end, text-not, on_none, on_more}
 use borrow.Author.Rules.{rules}
 use Rattle.markup.proofs.value.read_text.Statement.{statement}
 use Rattle.markup.proofs.value.read_text.Tie as tie
@@ -65,12 +65,12 @@ returns-2 c =
 -- src/value.rt:133:5
 loop-less : tie.Need-loop-smaller invariant-loop decreases-loop
 loop-less c =
-    omega (arith, c.before.before.before.before.before.before.before.skip-simple.ensures.low, (char-good (char-answer c.before.next.given.1 c.before.before.before.read-char.ensures)).low, (char-good (char-answer c.before.next.given.1 c.before.before.before.read-char.ensures)).high)
+    omega (arith, c.before.before.before.before.before.before.before.skip-simple.ensures.low, (char_good (char-answer c.before.next.given.1 c.before.before.before.read-char.ensures)).low, (char_good (char-answer c.before.next.given.1 c.before.before.before.read-char.ensures)).high)
 
 -- src/value.rt:133:5
 loop-again : tie.Need-loop-preserved invariant-loop decreases-loop
 loop-again c =
-    on_more c.before.before.before.before.before.before.before.before.loop.invariant c.before.before.before.before.before.before.before.skip-simple.ensures (answer c.before.before.before.before.enum_told.given.1 c.before.before.before.before.before.before.read_byte.ensures) (char-good (char-answer c.before.next.given.1 c.before.before.before.read-char.ensures))
+    on_more c.before.before.before.before.before.before.before.before.loop.invariant c.before.before.before.before.before.before.before.skip-simple.ensures (answer c.before.before.before.before.enum_told.given.1 c.before.before.before.before.before.before.read_byte.ensures) (char_good (char-answer c.before.next.given.1 c.before.before.before.read-char.ensures))
 
 pub read-text-spec : {M : Type 1} → statement M
 read-text-spec =

@@ -1,6 +1,6 @@
 -- `markup::value::read_written` meets its contract.
 use Rattle.text.proofs.Reading.{answer, found}
-use Rattle.markup.proofs.Characters.{written-yes, written-no}
+use Rattle.markup.proofs.Characters.{written_yes, written_no}
 use borrow.Author.Rules.{rules}
 use Rattle.markup.proofs.value.read_written.Statement.{statement}
 use Rattle.markup.proofs.value.read_written.Tie as tie
@@ -23,11 +23,11 @@ enum_told c = search rules
 -- src/value.rt:54:1
 returns : tie.Need-returns
 returns c =
-    written-yes _ _ c.before.before.before.before.before.before.requires.1 (found c.before.written.given.1 c.before.before.before.read-literal.ensures)
+    written_yes _ _ c.before.before.before.before.before.before.requires.1 (found c.before.written.given.1 c.before.before.before.read-literal.ensures)
 
 -- src/value.rt:54:1
 returns-2 : tie.Need-returns-2
-returns-2 c = written-no _ _ (answer c.enum_told.given.1 c.before.before.read-literal.ensures)
+returns-2 c = written_no _ _ (answer c.enum_told.given.1 c.before.before.read-literal.ensures)
 
 pub read-written-spec : {M : Type 1} → statement M
 read-written-spec =

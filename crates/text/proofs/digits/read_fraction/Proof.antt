@@ -2,7 +2,7 @@
 use Prim.Native.Nat.{◌+◌, ◌-◌, ◌*◌, ◌^◌}
 use mathlib.Core.Path.{◌∙◌, ap}
 use native.Mathlib.Omega.{arith}
-use Rattle.text.proofs.Numerals.{none-at-end, no_byte, byte_at, no-point, no_digit, no_digit_counted, fraction-none, fraction-digits, decimal-first}
+use Rattle.text.proofs.Numerals.{none-at-end, no_byte, byte_at, no_point, no_digit, no_digit_counted, fraction-none, fraction-digits, decimal-first}
 use borrow.Author.Rules.{rules}
 use Rattle.text.proofs.digits.read_fraction.Statement.{statement}
 use Rattle.text.proofs.digits.read_fraction.Tie as tie
@@ -14,7 +14,7 @@ use Rattle.text.proofs.digits.value.Reads as value-reads
 
 -- src/digits.rt:96:9
 returns : tie.Need-returns
-returns c = fraction-none _ _ c.before.before.requires (no-point c.before.before.args.s.now c.before.before.args.at (none-at-end _ c.before.before.args.s.now c.before.before.args.at c.if1.true))
+returns c = fraction-none _ _ c.before.before.requires (no_point c.before.before.args.s.now c.before.before.args.at (none-at-end _ c.before.before.args.s.now c.before.before.args.at c.if1.true))
 
 -- src/digits.rt:98:8
 shared-slice-read-if2 : tie.Need-shared-slice-read-if2
@@ -22,7 +22,7 @@ shared-slice-read-if2 c = search rules
 
 -- src/digits.rt:99:9
 returns-2 : tie.Need-returns-2
-returns-2 c = fraction-none _ _ c.before.before.before.before.requires (no-point c.before.before.before.before.args.s.now c.before.before.before.before.args.at (no_byte 46 c.before.before.before.before.args.s.now c.before.before.before.before.args.at c.before.before.if1.false c.if2.true))
+returns-2 c = fraction-none _ _ c.before.before.before.before.requires (no_point c.before.before.before.before.args.s.now c.before.before.before.before.args.at (no_byte 46 c.before.before.before.before.args.s.now c.before.before.before.before.args.at c.before.before.if1.false c.if2.true))
 
 -- src/digits.rt:101:22
 add-count : tie.Need-overflow-add-count

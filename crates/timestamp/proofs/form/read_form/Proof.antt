@@ -1,5 +1,5 @@
 -- `timestamp::form::read_form` meets its contract: what was read, part after part, is the whole text or not.
-use Rattle.timestamp.proofs.Reading.{found, missing, no-year}
+use Rattle.timestamp.proofs.Reading.{found, missing, no_year}
 use Rattle.timestamp.proofs.Whole.{whole-written, whole_longer}
 use borrow.Author.Rules.{rules}
 use Rattle.timestamp.proofs.form.read_form.Statement.{statement}
@@ -25,7 +25,7 @@ enum_told c = search rules
 
 -- src/form.rt:183:9
 returns : tie.Need-returns
-returns c = no-year _ (missing _ 0 4 _ c.before.before.read.ensures c.enum_told.given.1)
+returns c = no_year _ (missing _ 0 4 _ c.before.before.read.ensures c.enum_told.given.1)
 
 -- src/form.rt:185:9
 read-parts-requires : tie.Need-read-parts-requires

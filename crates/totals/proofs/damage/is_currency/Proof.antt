@@ -1,11 +1,11 @@
 -- `totals::damage::is_currency` meets its contract.
-use Rattle.totals.proofs.Arithmetic.{no-currency, three_capitals}
+use Rattle.totals.proofs.Arithmetic.{no_currency, three_capitals}
 use Rattle.std.proofs.Common.{rules}
 use Rattle.totals.proofs.damage.is_currency.Statement.{statement}
 use Rattle.totals.proofs.damage.is_currency.Tie as tie
 
 returns : tie.Need-returns
-returns c = no-currency c.before.args.n c.if1.true
+returns c = no_currency c.before.args.n c.if1.true
 
 is-capital-requires : tie.Need-is-capital-requires
 is-capital-requires c κs = search rules

@@ -1,7 +1,7 @@
 -- `totals::entry::read` meets its contract.
 use Rattle.std.proofs.Common.{sym, ap, ◌∙◌, subst, arith, rules}
 use Rattle.form.specs.Amounts.{amount_of, Small}
-use Rattle.totals.proofs.Entering.{null-read, no-amount-read, amount-read}
+use Rattle.totals.proofs.Entering.{null-read, no_amount-read, amount-read}
 use Rattle.totals.proofs.entry.read.Statement.{statement}
 use Rattle.totals.proofs.entry.read.Tie as tie
 
@@ -24,7 +24,7 @@ enum_told : tie.Need-enum-told
 enum_told c = search rules
 
 returns-2 : tie.Need-returns-2
-returns-2 c = λ e shift h f t. (tt, no-amount-read e shift f t (sym (ap amount_of c.enum_told.given.1) ∙ c.before.before.amount-at.ensures.1 _ (h.tag.tells.placed 0 (omega arith))))
+returns-2 c = λ e shift h f t. (tt, no_amount-read e shift f t (sym (ap amount_of c.enum_told.given.1) ∙ c.before.before.amount-at.ensures.1 _ (h.tag.tells.placed 0 (omega arith))))
 
 element-copy-out-currency-at : tie.Need-element-copy-out-currency-at
 element-copy-out-currency-at c = search rules

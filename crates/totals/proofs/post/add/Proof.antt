@@ -1,7 +1,7 @@
 -- `totals::post::add` meets its contract.
 use Rattle.std.proofs.Common.{◌≡◌, length, sym, refl, ap, ◌∙◌, arith, rules}
 use Rattle.totals.proofs.Rows.{length_mapped}
-use Rattle.totals.proofs.Posting.{refused_as, place_few, no_row, no-total, summed, added_as}
+use Rattle.totals.proofs.Posting.{refused_as, place_few, no_row, no_total, summed, added_as}
 use Rattle.rules.specs.Totals.{is_in_range}
 use Rattle.totals.specs.Readings.{with_row}
 use borrow.Author.Tests.{not-true, not-false}
@@ -39,7 +39,7 @@ returns-2 c =
     let g : length s.args.t.rows ≡ 16 = search length_mapped in
     let (k, l) = summed s.args.t s.requires.0 g s.args.currency s.args.amount s.requires.1.0 s.requires.1.1 p c.before.before.before.before.total-at.ensures c.before.before.before.wrapping-add-u64.ensures in
     refused_as s.args.t s.requires.0 refl
-    (no-total s.args.t s.requires.0 g s.args.currency s.args.amount s.requires.1.0 s.requires.1.1 (λ e. c.before.before.before.before.before.if1.false (p ∙ e)) (sym (ap is_in_range k) ∙ sym c.before.before.is_in_range.ensures ∙ not-true _ c.before.if2.true))
+    (no_total s.args.t s.requires.0 g s.args.currency s.args.amount s.requires.1.0 s.requires.1.1 (λ e. c.before.before.before.before.before.if1.false (p ∙ e)) (sym (ap is_in_range k) ∙ sym c.before.before.is_in_range.ensures ∙ not-true _ c.before.if2.true))
     c.refuse2.ensures.0 c.refuse2.ensures.1
 
 enter-requires : tie.Need-enter-requires
