@@ -1,4 +1,5 @@
 // Comparison of two records: yes, no or unknown.
+#![tactic(auto)]
 ghost use Rattle.std.specs.Prelude.{◌≡◌, List, ℕ, ◌≤◌};
 ghost use Rattle.rules.specs.Basics.{if_some};
 ghost use Rattle.rules.specs.Refusal.{TYPE, answered};
@@ -22,7 +23,7 @@ use element::name::NULL_FLAVOR;
 use element::tag::{Tag, has};
 
 // Yes, no, or unknown.
-#[derive(Drop)]
+#[derive(Clone, Copy)]
 pub enum Answer {
     Yes,
     No,
@@ -55,7 +56,7 @@ pub fn also(a: Answer, b: Answer) -> Answer
 }
 
 // The answer on two records, or that they are not compared: their types differ, or are set types.
-#[derive(Drop)]
+#[derive(Clone, Copy)]
 pub enum Compared {
     Is(Answer),
     Other,

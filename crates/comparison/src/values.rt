@@ -51,7 +51,7 @@ fn same_amount(a: Amount, b: Amount) -> bool
 }
 
 // How the values of an attribute are compared: as texts, or as the amounts that they are.
-#[derive(Drop)]
+#[derive(Clone, Copy)]
 enum Reading {
     Text,
     Amount,

@@ -7,14 +7,14 @@ ghost use Rattle.datatype.specs.Bounds.{side_meant};
 use timestamp::Moment;
 
 // A side of an interval.
-#[derive(Drop)]
+#[derive(Clone, Copy)]
 pub enum Side {
     Low,
     High,
 }
 
 // What a side says: a value, that there is no bound, or nothing (the bound is missing, or null otherwise).
-#[derive(Drop)]
+#[derive(Clone, Copy)]
 pub enum Endpoint {
     Valued(Moment),
     Infinite,

@@ -10,7 +10,7 @@ ghost use Rattle.datatype.specs.Meaning.{type_meant, named_among, types_for};
 use text::words::stands_at;
 
 // The nine types, and the two kinds of element inside them that have no type.
-#[derive(Drop)]
+#[derive(Clone, Copy)]
 pub enum Kind {
     Ts,
     IvlTs,
@@ -26,7 +26,7 @@ pub enum Kind {
 }
 
 // The type that a text names, or that it names none of those asked for.
-#[derive(Drop)]
+#[derive(Clone, Copy)]
 pub enum Named {
     Is(Kind),
     Nothing,

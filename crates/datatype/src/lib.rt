@@ -1,4 +1,5 @@
 // Data types: what an element of a record is, what it may carry and hold by the table of types, and what it says.
+#![tactic(auto)]
 
 pub mod bounds;
 pub mod columns;

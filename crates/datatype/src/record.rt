@@ -3,7 +3,7 @@ use crate::kind::Kind;
 use element::tag::Tag;
 
 // The type of a record, and the start tag of its element.
-#[derive(Drop)]
+#[derive(Clone, Copy)]
 pub struct Record {
     pub kind: Kind,
     pub tag: Tag,

@@ -18,7 +18,7 @@ use refusal::Verdict;
 use timestamp::{Moment, Timestamp};
 
 // A value; that there is no bound below, or none above; or nothing.
-#[derive(Drop)]
+#[derive(Clone, Copy)]
 pub enum Said {
     Valued(Moment),
     Below,
@@ -27,7 +27,7 @@ pub enum Said {
 }
 
 // An element of a time: what its value is refused for, and what it says.
-#[derive(Drop)]
+#[derive(Clone, Copy)]
 pub struct Time {
     pub fault: Verdict,
     pub said: Said,

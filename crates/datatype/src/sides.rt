@@ -14,7 +14,7 @@ use element::tag::Tag;
 use text::is_same;
 
 // What the sides of an interval say, and the position past its element.
-#[derive(Drop)]
+#[derive(Clone, Copy)]
 pub struct Sides {
     pub low: Said,
     pub high: Said,
@@ -22,7 +22,7 @@ pub struct Sides {
 }
 
 // The first child of a name: whether it was passed, and what it says.
-#[derive(Drop)]
+#[derive(Clone, Copy)]
 struct First {
     seen: bool,
     said: Said,

@@ -8,7 +8,7 @@ use crate::kind::Kind;
 use form::Form;
 
 // Where an element stands: at the top, as a member of a set, or inside another value.
-#[derive(Drop)]
+#[derive(Clone, Copy)]
 pub enum Standing {
     Top,
     Member,
@@ -16,14 +16,14 @@ pub enum Standing {
 }
 
 // The form of an attribute that may be carried, or that it may not.
-#[derive(Drop)]
+#[derive(Clone, Copy)]
 pub enum Column {
     Takes(Form),
     Nothing,
 }
 
 // The rows of children that kinds have: none; low and high; terms; a minuend and a subtrahend; a displayName; parts.
-#[derive(Drop)]
+#[derive(Clone, Copy)]
 pub enum Row {
     Empty,
     Bounds,
@@ -35,7 +35,7 @@ pub enum Row {
 
 // What is constant in a type line: whether the element may carry a nullFlavor, the stage that its row of children reaches unless it is null,
 // and the row.
-#[derive(Drop)]
+#[derive(Clone, Copy)]
 struct Line(bool, u64, Row);
 
 // The line of a kind.
@@ -90,7 +90,7 @@ pub fn is_typed(standing: Standing) -> bool
 }
 
 // How a row of children goes on: with a child of a kind, or with one of the type that it names, to a stage; or that it does not.
-#[derive(Drop)]
+#[derive(Clone, Copy)]
 pub enum Next {
     Always(Kind, u64),
     Typed(u64),

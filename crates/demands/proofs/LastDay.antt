@@ -22,7 +22,7 @@ use Rattle.rules.specs.Invariants.{has_such, is_null, child_named, high, is_clos
 use Rattle.rules.specs.Types.{Kind, IVL_TS, TS, member_types, always, has_type, type_among, line_of}
 use Rattle.rules.specs.Judge.{Standing, top, inside, lacks, breaks_null, attribute_faults, element_faults, child_faults, top_faults}
 use Rattle.rules.specs.Check.{is_offset, shift_by, record_faults, check}
-use Rattle.rules.specs.Sets.{Place, at, next_place, previous_place, ◌isBefore◌, open_at, closed_at, Interval, ◌upto◌, holds, Expression, interval, meant, intervals, AreStretches}
+use Rattle.rules.specs.Sets.{Place, at, next_place, previous_place, ◌is_before◌, open_at, closed_at, Interval, ◌upto◌, holds, Expression, interval, meant, intervals, AreStretches}
 use Rattle.rules.specs.Stretches.{stretches}
 use Rattle.rules.specs.Listing.{bound_at, set_from, set_of}
 use Rattle.rules.specs.Comparison.{No, Unknown, compare_intervals}

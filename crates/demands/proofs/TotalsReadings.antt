@@ -13,7 +13,7 @@ use lib.ListN.{length}
 use lib.IntN.{ℤ, pos, neg_ℤ}
 use lib.Pow.{pow-add}
 use Rattle.rules.specs.Basics.{if_some, every, bytes, is_digit, decimal_from, decimal}
-use Rattle.rules.specs.Refusal.{Refusal, TYPE, earlier, first_of, Outcome, answered, refused, faults_in, ◌when◌, ◌unless◌, ◌andThen◌}
+use Rattle.rules.specs.Refusal.{Refusal, TYPE, earlier, first_of, Outcome, answered, refused, faults_in, ◌when◌, ◌unless◌, ◌and_then◌}
 use Rattle.rules.specs.Parsers.{ok, next, else, pure, one, up_to, byte, finish, whole}
 use Rattle.rules.specs.Timestamp.{point, ten_thousandths}
 use Rattle.rules.specs.Markup.{Attribute, Element, lookup}

@@ -6,7 +6,7 @@ use crate::row::{is_child, past_end_tag};
 use markup::scan::skip_space;
 
 // What stands next in an element: a child, at a position; or no more, and the position past the element.
-#[derive(Drop)]
+#[derive(Clone, Copy)]
 pub enum Inside {
     Child(usize),
     Past(usize),

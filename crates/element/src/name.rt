@@ -82,7 +82,7 @@ pub fn number_of(name: &[u8]) -> usize
 }
 
 // A known name with `="` right after it: its number and how long it is; KNOWN where none is found.
-#[derive(Drop)]
+#[derive(Clone, Copy)]
 pub struct Plain {
     pub number: usize,
     pub size: usize,

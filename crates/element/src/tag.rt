@@ -14,7 +14,7 @@ use text::{Read, begins_with};
 
 // A start tag: for each known name where its value stands, with the quotes, 0 if there is none; how many other names do not begin with xmlns,
 // and how many do; where the name of the element stands, up to `past`; where the tag ends, and whether content follows.
-#[derive(Drop)]
+#[derive(Clone, Copy)]
 pub struct Tag {
     pub places: [usize; KNOWN],
     pub others: usize,
@@ -34,7 +34,7 @@ pub fn has(tag: Tag, n: usize) -> bool
 }
 
 // What a tag carries: the attributes as `Tag` has them, and where they end.
-#[derive(Drop)]
+#[derive(Clone, Copy)]
 struct Carried {
     places: [usize; KNOWN],
     others: usize,
@@ -67,7 +67,7 @@ fn past_equals(s: &[u8], at: usize) -> usize
 }
 
 // The attribute at a position: the number of its name, where the name ends, and where its value stands; or that no name stands there.
-#[derive(Drop)]
+#[derive(Clone, Copy)]
 enum Start {
     Named {
         number: usize,

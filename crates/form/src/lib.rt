@@ -1,5 +1,6 @@
 // The forms of texts: what the decoded text of an attribute may be. An attribute's value stands at q, with its quotes, and ends at e. The
 // contracts go from its decoded text to the answer.
+#![tactic(auto)]
 ghost use Rattle.std.specs.Prelude.{◌≡◌, not, List, ℕ, ◌≤◌, ◌<◌, length, drop};
 ghost use Rattle.rules.specs.Basics.{is_some};
 ghost use Rattle.rules.specs.Refusal.{VALUE, faults_of, first_of, ◌when◌};
@@ -23,7 +24,7 @@ use refusal::{Refusal, Verdict};
 use timestamp::Timestamp;
 
 // The forms that the table of types asks for, by the name of what they are asked of.
-#[derive(Drop)]
+#[derive(Clone, Copy)]
 pub enum Form {
     AnyText,
     NonEmpty,

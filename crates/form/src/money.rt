@@ -8,7 +8,7 @@ ghost use Rattle.form.specs.Amounts.{amount_of, code_of, Small, SignAt};
 use text::digits;
 
 // An amount in ten-thousandths, with its sign; or that a text is none.
-#[derive(Drop)]
+#[derive(Clone, Copy)]
 pub enum Amount {
     Is { negative: bool, value: u64 },
     Bad,

@@ -7,7 +7,7 @@ use crate::name::is_qualifier;
 use crate::oid::is_number;
 
 // What each part of a text is to be.
-#[derive(Drop)]
+#[derive(Clone, Copy)]
 pub enum Part {
     Qualifier,
     Number,

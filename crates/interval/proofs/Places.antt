@@ -3,7 +3,7 @@
 use Rattle.std.proofs.Common.{◌≡◌, ℕ, suc, ◌+◌, ◌-◌, ◌*◌, ◌^◌, ◌<◌, ◌≤◌, min, true, false, not, ◌&&◌, ◌||◌, ltb, leb, List, [], ◌∷◌, map, sym, refl, ap, ◌∙◌, ap₂, ⊎_elim, zero-le, arith, ltb-true, le-ltb, lt-ltb, le-leb}
 use Rattle.rules.specs.Basics.{if_some, exists}
 use Rattle.rules.specs.Timestamp.{tick_at}
-use Rattle.rules.specs.Sets.{Place, at, gap_after, ◌isBefore◌, first_place, holds, is_in}
+use Rattle.rules.specs.Sets.{Place, at, gap_after, ◌is_before◌, first_place, holds, is_in}
 use Rattle.rules.proofs.Order.{places, up, down, next-number}
 use Rattle.rules.proofs.TickOrder.{origin, ticks_apart}
 use Rattle.rules.proofs.Edges.{end_place, since, until, past, half_open}

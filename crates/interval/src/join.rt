@@ -51,7 +51,7 @@ fn count_before(s: Stretches, v: Interval) -> usize
 }
 
 // An interval joined with stretches that it meets: the whole, and the place of the first stretch after it.
-#[derive(Drop)]
+#[derive(Clone, Copy)]
 struct Joint {
     whole: Interval,
     next: usize,

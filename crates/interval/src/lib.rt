@@ -1,4 +1,5 @@
 // Sets of times: bounds, intervals, sets as stretches, and union, intersection and difference.
+#![tactic(auto)]
 ghost use Rattle.std.specs.Prelude.{◌≡◌, ◌+◌, ◌^◌, ◌<◌, ◌≤◌, true, false};
 ghost use Rattle.rules.specs.Sets.{holds, is_in, apply as pageApply};
 ghost use Rattle.interval.specs.Meaning.{Ticked, interval_of, op_of, place_of, stretches_of, Canonical, Holds, applied, SaysSame};
@@ -15,7 +16,7 @@ use merge::{from_edges, merge};
 
 // A bound of an interval. A tick (the page's term) is counted from fourteen hours before 0001-01-01 00:00, so that none is negative.
 // The first variant stays `Unbounded`: the logic takes it for what is past an array's end.
-#[derive(Drop)]
+#[derive(Clone, Copy)]
 pub enum Bound {
     Unbounded,
     Open(u64),
@@ -23,7 +24,7 @@ pub enum Bound {
 }
 
 // The places from low to high; crossed bounds mean none.
-#[derive(Drop)]
+#[derive(Clone, Copy)]
 pub struct Interval {
     pub low: Bound,
     pub high: Bound,
@@ -31,14 +32,14 @@ pub struct Interval {
 
 // A set of places as its stretches (the page's term: runs of neighbouring places that can't be made longer), from low to high:
 // the first `count` of the items.
-#[derive(Drop)]
+#[derive(Clone, Copy)]
 pub struct Stretches {
     pub items: [Interval; 32],
     pub count: usize,
 }
 
 // What is done with two sets, place by place.
-#[derive(Drop)]
+#[derive(Clone, Copy)]
 pub enum Op {
     Union,
     Intersection,

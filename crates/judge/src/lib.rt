@@ -1,4 +1,5 @@
 // The faults of a record: each of its elements judged by the table of types, each start tag read once. The first on the ladder is given.
+#![tactic(auto)]
 ghost use Rattle.std.specs.Prelude.{List, ℕ, ◌≤◌, length};
 ghost use Rattle.rules.specs.Markup.{Element};
 ghost use Rattle.element.specs.Tags.{TagOf, TagIn};
@@ -48,7 +49,7 @@ fn judge_content(s: &[u8], tag: Tag, depth: usize, kind: Kind, shift: u64) -> Co
 }
 
 // A record checked: its first fault, and what it is held as.
-#[derive(Drop)]
+#[derive(Clone, Copy)]
 pub struct Checked {
     pub fault: Verdict,
     pub record: Record,

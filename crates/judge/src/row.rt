@@ -25,7 +25,7 @@ use refusal::{Refusal, Verdict, first};
 
 // A row of children judged: the first fault, the stage that it has come to, whether there are any, what the last child after which the row
 // stands at stage 1, and the last other one, say as bounds, and where it ends.
-#[derive(Drop)]
+#[derive(Clone, Copy)]
 pub struct Row {
     pub fault: Verdict,
     pub stage: u64,
@@ -37,7 +37,7 @@ pub struct Row {
 
 // What is inside an element, judged: the first fault, whether there are children, whether the bounds of an interval break a rule, and where
 // the element ends.
-#[derive(Drop)]
+#[derive(Clone, Copy)]
 pub struct Content {
     pub fault: Verdict,
     pub any: bool,
@@ -47,7 +47,7 @@ pub struct Content {
 
 // What a child is judged as: an element of a kind, where it stands; the refusal, if it is not allowed or has no type; and the stage that
 // the row is brought to.
-#[derive(Drop)]
+#[derive(Clone, Copy)]
 pub struct Asked {
     pub fault: Verdict,
     pub kind: Kind,

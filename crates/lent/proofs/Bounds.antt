@@ -4,7 +4,7 @@ use mathlib.Core.Bool.{and-false, or-false, not-not}
 use lib.IntN.{pred_ℤ, suc-pred}
 use lib.Signed.{le_z, lt_z}
 use Rattle.rules.specs.Basics.{if_some}
-use Rattle.rules.specs.Sets.{Place, at, gap_after, next_place, ◌isBefore◌, last_place, from_low}
+use Rattle.rules.specs.Sets.{Place, at, gap_after, next_place, ◌is_before◌, last_place, from_low}
 use Rattle.rules.specs.LentLists.{Row as PageRow, is_zero, bound_in, is_unbounded, signed}
 use Rattle.rules.proofs.Order.{before-next}
 use Rattle.lent.specs.Rows.{is_bound, is_in_order, is_faulty}

@@ -5,7 +5,7 @@ use mathlib.Core.Bool.{true}
 use mathlib.Core.List.{List, []}
 use lib.ListN.{length}
 use lib.IntN.{ℤ}
-use Rattle.rules.specs.Refusal.{number, Outcome, answered, refused, ◌andThen◌}
+use Rattle.rules.specs.Refusal.{number, Outcome, answered, refused, ◌and_then◌}
 use Rattle.rules.specs.Markup.{Element}
 use Rattle.rules.specs.Judge.{top_faults}
 use Rattle.rules.specs.Check.{shift_by, check}

@@ -1,7 +1,7 @@
 -- What the code answers on a record and leaves in the lent list, in the words of the rules ("Sets of times").
 use Rattle.std.specs.Prelude.{ℕ, ◌≤◌, ◌≡◌, length}
 use mathlib.Core.List.{List, flat_map}
-use Rattle.rules.specs.Refusal.{Outcome, answered, refused, ◌andThen◌}
+use Rattle.rules.specs.Refusal.{Outcome, answered, refused, ◌and_then◌}
 use Rattle.rules.specs.Sets.{Interval}
 use Rattle.rules.specs.Listing.{list_numbers}
 use Rattle.rules.specs.Services.{lent_after, eight_bytes, overwrite}

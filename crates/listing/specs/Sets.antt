@@ -1,7 +1,7 @@
 -- What the code knows of the set that an element writes, in the words of the rules ("Sets of times").
 use Rattle.std.specs.Prelude.{ℕ, ◌≤◌, min, ◌≡◌, true, false, List, length, drop}
 use Rattle.std.proofs.Math.Option.{Option, none, some}
-use Rattle.rules.specs.Refusal.{Refusal, Outcome, answered, refused, ◌andThen◌}
+use Rattle.rules.specs.Refusal.{Refusal, Outcome, answered, refused, ◌and_then◌}
 use Rattle.rules.specs.Markup.{Attribute, Element}
 use Rattle.rules.specs.Types.{IVL_TS, has_type}
 use Rattle.rules.specs.Sets.{Place, Op as PageOp, Interval as PageInterval, Expression, interval, combine, meant, intervals, is_in}

@@ -20,14 +20,14 @@ use interval::{Bound, Interval};
 use timestamp::Moment;
 
 // A bound, or that it is not known.
-#[derive(Drop)]
+#[derive(Clone, Copy)]
 pub enum Limit {
     Is(Bound),
     Unknown,
 }
 
 // An element of an interval: whether its bounds are known, the interval, if they are, and the position past the element.
-#[derive(Drop)]
+#[derive(Clone, Copy)]
 pub struct Written {
     pub known: bool,
     pub interval: Interval,

@@ -1,5 +1,6 @@
 // Listing: the set of times that a record writes, as its stretches (the page's term), and whether a place is in it. The contracts go from
 // a record as it is held after checking to what is answered.
+#![tactic(auto)]
 ghost use Rattle.std.specs.Prelude.{◌≡◌, true, List, [], ℕ, ◌^◌, ◌≤◌, ◌<◌};
 ghost use Rattle.rules.specs.Markup.{Element};
 ghost use Rattle.rules.specs.Judge.{top_faults};
@@ -20,7 +21,7 @@ use refusal::Refusal;
 use set::{Shape, shape_of_kind};
 
 // The answer on a record: the count of stretches that were written, or a refusal.
-#[derive(Drop)]
+#[derive(Clone, Copy)]
 pub enum Listed {
     Count(usize),
     Refused(Refusal),

@@ -17,7 +17,7 @@ use element::tag::Tag;
 use interval::{Op, apply, is_in};
 
 // Whether a place is in the set that an element writes, and the position past the element.
-#[derive(Drop)]
+#[derive(Clone, Copy)]
 pub struct Meant {
     pub is: bool,
     pub end: usize,

@@ -16,7 +16,7 @@ use element::tag::Tag;
 use interval::{Op, Stretches};
 
 // What an element writes, by its type: one interval, or a set of members that an operation puts together, or neither.
-#[derive(Drop)]
+#[derive(Clone, Copy)]
 pub enum Shape {
     Single,
     Members(Op),
@@ -25,7 +25,7 @@ pub enum Shape {
 
 // A set of times: whether all of it is known; and, if it is, how many intervals are written in it, 33 for more than 32, up to 32 its
 // stretches, and the position past the element that writes it.
-#[derive(Drop)]
+#[derive(Clone, Copy)]
 pub struct Evaluated {
     pub known: bool,
     pub count: usize,

@@ -24,7 +24,7 @@ fn slot(name: &[u8]) -> usize
 }
 
 // What slots or marks tell of the attributes from a position on: the answer on them, or nothing.
-#[derive(Drop)]
+#[derive(Clone, Copy)]
 pub enum Told {
     Sure(Read),
     Unsure,
@@ -99,7 +99,7 @@ fn next_place(i: usize) -> usize
 
 // What a table of marks tells of a name: that it is new, and a free place for its mark; that its mark is there; or that there is no place
 // for it.
-#[derive(Drop)]
+#[derive(Clone, Copy)]
 pub enum Spot {
     Free(usize),
     Marked,

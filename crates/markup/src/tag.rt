@@ -11,7 +11,7 @@ use crate::value::read_value;
 use text::Read;
 
 // The attribute at a position: where its name ends, where its value stands, with the quotes, and where that ends.
-#[derive(Drop)]
+#[derive(Clone, Copy)]
 pub enum Parts {
     Attribute {
         name_end: usize,
@@ -48,7 +48,7 @@ pub fn read_attribute(s: &[u8], at: usize) -> Parts
 }
 
 // The value of an attribute: where it stands, with its quotes, and where it ends; or that there is no such attribute.
-#[derive(Drop)]
+#[derive(Clone, Copy)]
 pub enum Found {
     Quoted(usize, usize),
     Absent,
@@ -139,7 +139,7 @@ pub fn read_attributes(s: &[u8], at: usize) -> Read
 }
 
 // The beginning of a tag, `<` and a name: where the name stands and where it ends. The attributes stand from the end of the name on.
-#[derive(Drop)]
+#[derive(Clone, Copy)]
 pub enum Head {
     Named { name: usize, name_end: usize },
     Bad,
@@ -165,7 +165,7 @@ pub fn read_head(s: &[u8], at: usize) -> Head
 }
 
 // The tag with which an element begins, `<name ../>` or `<name ..>`: where its name stands and where the tag ends.
-#[derive(Drop)]
+#[derive(Clone, Copy)]
 pub enum Tag {
     Empty {
         name: usize,

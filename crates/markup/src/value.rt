@@ -9,7 +9,7 @@ use crate::scan::{read_byte, read_literal};
 use text::Read;
 
 // The character of a value at a position: the byte that it stands for and where it ends, or that no such character stands there.
-#[derive(Drop)]
+#[derive(Clone, Copy)]
 pub enum Char {
     Is(u8, usize),
     Nothing,

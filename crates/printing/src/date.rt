@@ -6,7 +6,7 @@ ghost use Rattle.printing.specs.Dates.{date_at, InYear, InMonth};
 use timestamp::calendar;
 
 // A date of the calendar.
-#[derive(Drop)]
+#[derive(Clone, Copy)]
 pub struct Date {
     pub year: u64,
     pub month: u64,

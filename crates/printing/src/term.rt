@@ -10,7 +10,7 @@ use lent::Row;
 use writer::put;
 
 // Which bound of an interval.
-#[derive(Drop)]
+#[derive(Clone, Copy)]
 pub enum Side {
     Low,
     High,

@@ -1,11 +1,13 @@
 // Refusals: their numbers, and which of two comes first on the ladder.
+#![tactic(auto)]
+
 ghost use Rattle.std.specs.Prelude.{◌≡◌};
 ghost use Rattle.rules.specs.Basics.{if_some};
 ghost use Rattle.rules.specs.Refusal.{number as pageNumber, rank as pageRank, earlier};
 ghost use Rattle.refusal.specs.Meaning.{refusal_of, fault_of};
 
 // The page's refusals, in the order of the ladder.
-#[derive(Drop)]
+#[derive(Clone, Copy)]
 pub enum Refusal {
     NoDesk,
     Damaged,
@@ -30,7 +32,7 @@ pub enum Refusal {
 }
 
 // A refusal, or none: accepted.
-#[derive(Drop)]
+#[derive(Clone, Copy)]
 pub enum Verdict {
     Accepted,
     Refused(Refusal),

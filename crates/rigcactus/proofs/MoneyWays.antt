@@ -6,7 +6,7 @@ use mathlib.Core.List.{List, ◌∷◌}
 use mathlib.Core.Option.{Option, none, some}
 use lib.IntN.{ℤ}
 use Rattle.rules.specs.Basics.{if_some}
-use Rattle.rules.specs.Refusal.{Refusal, OFFSET, MARKUP, TYPE, rank_in, first_of, Outcome, answered, refused, faults_in, ◌when◌, ◌andThen◌}
+use Rattle.rules.specs.Refusal.{Refusal, OFFSET, MARKUP, TYPE, rank_in, first_of, Outcome, answered, refused, faults_in, ◌when◌, ◌and_then◌}
 use Rattle.rules.specs.Markup.{Element, document}
 use Rattle.rules.specs.Types.{MO, has_type}
 use Rattle.rules.specs.Check.{is_offset, shift_by, element_of, check}

@@ -8,7 +8,7 @@ use borrow.Author.Tests.{eqb-false, ne_eqb, not-true, not-false}
 use lib.Dec.{eqb}
 use lib.ListN.{length}
 use lib.IntN.{ℤ}
-use Rattle.rules.specs.Refusal.{DAMAGED, NO_DESK, DAY_FULL, number, Outcome, ◌andThen◌}
+use Rattle.rules.specs.Refusal.{DAMAGED, NO_DESK, DAY_FULL, number, Outcome, ◌and_then◌}
 use Rattle.rules.specs.Services.{packed, overwrite}
 use Rattle.rules.specs.Totals.{Table as RulesTable, empty_table, counted, is_full, Entry, reading, fitting, posting, is_counted, recorded, reporting}
 use Rattle.rules.specs.TotalNumbers.{report_numbers, entry_number}

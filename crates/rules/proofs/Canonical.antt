@@ -5,7 +5,7 @@ use mathlib.Core.List.{List, [], ◌∷◌}
 use mathlib.Core.Option.{Option, none, some}
 use lib.IntN.{pos}
 use Rattle.rules.specs.Basics.{if_some, exists}
-use Rattle.rules.specs.Sets.{Place, at, next_place, previous_place, ◌isBefore◌, Interval, IsStretch, is_in, ComesBefore, AllStretches, AreStretches}
+use Rattle.rules.specs.Sets.{Place, at, next_place, previous_place, ◌is_before◌, Interval, IsStretch, is_in, ComesBefore, AllStretches, AreStretches}
 use Rattle.rules.proofs.Order.{places, next-number, previous_number}
 use Rattle.rules.proofs.Edges.{first_edge, end_edge, since, until, past, inside, is-inside, not-until, after-end, passes}
 

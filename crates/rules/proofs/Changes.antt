@@ -4,7 +4,7 @@ use mathlib.Core.Bool.{Bool, true, false, not, ◌&&◌, cond}
 use mathlib.Core.List.{List, [], ◌∷◌, ◌++◌, flat_map, append_assoc}
 use mathlib.Core.Option.{Option, none, some}
 use Rattle.rules.specs.Basics.{if_some, list_of}
-use Rattle.rules.specs.Sets.{Place, next_place, ◌isBefore◌, Interval, first_place, last_place, holds, apply, Expression, interval, combine, meant, intervals}
+use Rattle.rules.specs.Sets.{Place, next_place, ◌is_before◌, Interval, first_place, last_place, holds, apply, Expression, interval, combine, meant, intervals}
 use Rattle.rules.specs.Stretches.{changes_of, insert, sorted, changes, place_before}
 use Rattle.rules.proofs.Order.{places, before-total, before-next, previous_number}
 use Rattle.rules.proofs.Edges.{since}
@@ -12,9 +12,9 @@ use Rattle.rules.proofs.Edges.{since}
 -- from low to high, all after c if there is a c
 abbrev pub Rising : (c : Option Place) → List Place → Type 0
 Rising c [] = Unit {0}
-Rising c (x ∷ xs) = (if_some c (◌isBefore x) true ≡ true) × Rising (some x) xs
+Rising c (x ∷ xs) = (if_some c (◌is_before x) true ≡ true) × Rising (some x) xs
 
-rising_insert : (c : Option Place) (x : Place) (xs : List Place) → if_some c (◌isBefore x) true ≡ true → Rising c xs → Rising c (insert x xs)
+rising_insert : (c : Option Place) (x : Place) (xs : List Place) → if_some c (◌is_before x) true ≡ true → Rising c xs → Rising c (insert x xs)
 unfolding insert
 rising_insert c x [] h r = (h, tt)
 rising_insert c x (y ∷ ys) h r = go (x is_before y) (y is_before x) refl refl (rising_insert (some y) x ys)

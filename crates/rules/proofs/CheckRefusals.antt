@@ -43,6 +43,7 @@ module _ (p : Refusal → Bool) where
   pub pass-member : {r : Refusal} {rs : List Refusal} → Pass p rs → Memᴰ r rs → p r ≡ true
   pass-member {r} (one_more {r = x} h l) (Memᴰ.head e) = rw e h
   pass-member (one_more h l) (Memᴰ.tail m) = pass-member l m
+  pass-member {r = r} none_left m = elim m [ ]
 
   pub first_passes : {r : Refusal} {rs : List Refusal} → Pass p rs → first_of rs ≡ some r → p r ≡ true
   first_passes {r} {rs} h e = pass-member h ((first-is rs r).0 e).0

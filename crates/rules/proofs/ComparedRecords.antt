@@ -188,3 +188,4 @@ module _ (offset : ℤ) where
     each_given k (Memᴰ.tail (Memᴰ.tail (Memᴰ.tail (Memᴰ.head h)))) = rw h given_identifier
     each_given k (Memᴰ.tail (Memᴰ.tail (Memᴰ.tail (Memᴰ.tail (Memᴰ.head h))))) = rw h given_code
     each_given k (Memᴰ.tail (Memᴰ.tail (Memᴰ.tail (Memᴰ.tail (Memᴰ.tail (Memᴰ.head h)))))) = rw h given_name
+    each_given k (Memᴰ.tail (Memᴰ.tail (Memᴰ.tail (Memᴰ.tail (Memᴰ.tail (Memᴰ.tail m)))))) = elim m [ ]

@@ -8,11 +8,11 @@ use native.Mathlib.Omega.{arith}
 use native.Mathlib.Nat.{zero-add, add-zero, add_assoc}
 use lib.ListN.{length, length-append}
 use Rattle.rules.specs.Basics.{is_some, if_some, exactly_one}
-use Rattle.rules.specs.Refusal.{Refusal, TYPE, UNKNOWN_BOUND, Outcome, answered, refused, ◌andThen◌, both}
+use Rattle.rules.specs.Refusal.{Refusal, TYPE, UNKNOWN_BOUND, Outcome, answered, refused, ◌and_then◌, both}
 use Rattle.rules.specs.Markup.{Attribute, Nodes, end, node, Element}
 use Rattle.rules.specs.Invariants.{is_null}
 use Rattle.rules.specs.Types.{IVL_TS, has_type}
-use Rattle.rules.specs.Sets.{Place, previous_place, ◌isBefore◌, Bound, unbounded, Interval, ◌upto◌, holds, Op, union, intersection, difference, apply, Expression, interval, combine, meant, intervals}
+use Rattle.rules.specs.Sets.{Place, previous_place, ◌is_before◌, Bound, unbounded, Interval, ◌upto◌, holds, Op, union, intersection, difference, apply, Expression, interval, combine, meant, intervals}
 use Rattle.rules.specs.Stretches.{low_at, high_at, changes, drawn, place_before, stretches}
 use Rattle.rules.specs.Listing.{interval_of, operation_of, set_from, members_of, joined, set_of, interval_count, intervals_written}
 use Rattle.rules.proofs.Order.{places}

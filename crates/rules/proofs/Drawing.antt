@@ -6,7 +6,7 @@ use mathlib.Core.Option.{Option, none, some}
 use lib.IntN.{ℤ}
 use lib.Signed.{le_z, lt_z}
 use Rattle.rules.specs.Basics.{if_some, exists}
-use Rattle.rules.specs.Sets.{Place, previous_place, ◌isBefore◌, Bound, unbounded, closed_at, Interval, ◌upto◌, first_place, from_low, holds, is_in, AreStretches, union, Expression, interval, combine, meant}
+use Rattle.rules.specs.Sets.{Place, previous_place, ◌is_before◌, Bound, unbounded, closed_at, Interval, ◌upto◌, first_place, from_low, holds, is_in, AreStretches, union, Expression, interval, combine, meant}
 use Rattle.rules.specs.Stretches.{low_at, high_at, changes, drawn, place_before, stretches}
 use Rattle.rules.proofs.Order.{places, before_irreflexive}
 use Rattle.rules.proofs.Edges.{since, half_open, first-low, end-high, since_up}

@@ -4,7 +4,7 @@ use mathlib.Core.Bool.{Bool, true, false, not, ◌&&◌, and-false}
 use mathlib.Core.Option.{Option, none, some}
 use lib.IntN.{pred_ℤ, suc-pred, pred-suc}
 use Rattle.rules.specs.Basics.{if_some}
-use Rattle.rules.specs.Sets.{Place, at, gap_after, next_place, previous_place, ◌isBefore◌, Bound, unbounded, open_at, closed_at, Interval, ◌upto◌, first_place, last_place, from_low, to_high, holds}
+use Rattle.rules.specs.Sets.{Place, at, gap_after, next_place, previous_place, ◌is_before◌, Bound, unbounded, open_at, closed_at, Interval, ◌upto◌, first_place, last_place, from_low, to_high, holds}
 use Rattle.rules.specs.Stretches.{low_at, high_at}
 use Rattle.rules.proofs.Order.{places, before-next}
 

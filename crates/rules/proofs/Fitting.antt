@@ -9,12 +9,12 @@ use borrow.Author.Tests.{lt-ltb}
 use lib.Dec.{ltb}
 use lib.IntN.{ℤ, pos, negsuc, sub_ℕ, suc-pred}
 use Rattle.rules.specs.Basics.{if_some, list_of, every, bytes}
-use Rattle.rules.specs.Refusal.{TYPE, UNKNOWN_BOUND, Outcome, answered, refused, ◌andThen◌, both}
+use Rattle.rules.specs.Refusal.{TYPE, UNKNOWN_BOUND, Outcome, answered, refused, ◌and_then◌, both}
 use Rattle.rules.specs.Markup.{Attribute, Nodes, end, node, Element, lookup}
 use Rattle.rules.specs.Timestamp.{Moment, read_timestamp, before_start, tick_at, tick_of}
 use Rattle.rules.specs.Invariants.{is_null, is_closed, is_pushed, Side, low, high, Endpoint, valued, infinite, unknown, has_flavor, endpoint_read, endpoint_valued, endpoint_in, endpoint_of, child_named}
 use Rattle.rules.specs.Types.{IVL_TS, has_type}
-use Rattle.rules.specs.Sets.{Place, at, gap_after, next_place, previous_place, ◌isBefore◌, Bound, unbounded, open_at, closed_at, Interval, ◌upto◌, first_place, last_place, Op, Expression, interval, combine, meant, intervals}
+use Rattle.rules.specs.Sets.{Place, at, gap_after, next_place, previous_place, ◌is_before◌, Bound, unbounded, open_at, closed_at, Interval, ◌upto◌, first_place, last_place, Op, Expression, interval, combine, meant, intervals}
 use Rattle.rules.specs.Stretches.{low_at, high_at, changes_of, insert, sorted, changes, drawn, place_before, stretches}
 use Rattle.rules.specs.Listing.{bound_at, value_read, bound_read, interval_of, operation_of, set_from, members_of, joined, set_of, bound_numbers, list_numbers}
 use Rattle.rules.specs.ListingPromise.{fits}

@@ -12,7 +12,7 @@ use lib.Dec.{ltb}
 use lib.ListN.{length}
 use lib.IntN.{ℤ}
 use Rattle.rules.specs.Basics.{is_some, find}
-use Rattle.rules.specs.Refusal.{Refusal, OFFSET, TOO_LONG, NOT_UTF_8, MARKUP, TYPE, UNKNOWN_BOUND, TOO_MANY, NO_ROOM, rank_in, rank, earlier, first_of, Outcome, answered, refused, faults_in, ◌unless◌, ◌when◌, ◌andThen◌}
+use Rattle.rules.specs.Refusal.{Refusal, OFFSET, TOO_LONG, NOT_UTF_8, MARKUP, TYPE, UNKNOWN_BOUND, TOO_MANY, NO_ROOM, rank_in, rank, earlier, first_of, Outcome, answered, refused, faults_in, ◌unless◌, ◌when◌, ◌and_then◌}
 use Rattle.rules.specs.Markup.{Attribute, Element, document}
 use Rattle.rules.specs.Types.{IVL_TS, QSU_TS, QSI_TS, QSD_TS, member_types, has_type, type_among}
 use Rattle.rules.specs.Utf8.{is_utf8}

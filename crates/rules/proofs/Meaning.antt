@@ -6,7 +6,7 @@ use mathlib.Core.Bool.{Bool, true, false, cond, or-false, and-true}
 use mathlib.Core.List.{List, [], ◌∷◌}
 use mathlib.Core.Option.{Option, none, some}
 use Rattle.rules.specs.Basics.{if_some, exists, every}
-use Rattle.rules.specs.Refusal.{TYPE, UNKNOWN_BOUND, Outcome, answered, refused, ◌andThen◌, both}
+use Rattle.rules.specs.Refusal.{TYPE, UNKNOWN_BOUND, Outcome, answered, refused, ◌and_then◌, both}
 use Rattle.rules.specs.Markup.{Attribute, Nodes, end, node, Element}
 use Rattle.rules.specs.Invariants.{is_null}
 use Rattle.rules.specs.Types.{IVL_TS, has_type}

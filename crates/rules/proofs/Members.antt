@@ -10,7 +10,7 @@ use borrow.Author.Tests.{not-true, not-false}
 use lib.Dec.{ltb}
 use lib.ListN.{length, length-append}
 use Rattle.rules.specs.Basics.{is_some, if_some, find, bytes, same}
-use Rattle.rules.specs.Refusal.{Refusal, SHAPE, RULE, UNKNOWN_BOUND, Outcome, answered, refused, ◌andThen◌, both, ◌when◌}
+use Rattle.rules.specs.Refusal.{Refusal, SHAPE, RULE, UNKNOWN_BOUND, Outcome, answered, refused, ◌and_then◌, both, ◌when◌}
 use Rattle.rules.specs.Markup.{Attribute, Nodes, end, node, Element, lookup}
 use Rattle.rules.specs.Invariants.{is_null, low, high, Endpoint, valued, infinite, unknown, endpoint_of}
 use Rattle.rules.specs.Types.{Kind, TS, IVL_TS, QSU_TS, QSI_TS, QSD_TS, name_of, member_types, all_types, has_type, type_among, ChildKind, always, typed, Child, line_of}

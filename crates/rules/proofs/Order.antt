@@ -6,7 +6,7 @@ use native.Mathlib.Omega.{arith}
 use lib.IntN.{ℤ, pos, negsuc, suc_ℤ, suc-pred, pred-suc}
 use lib.Signed.{lt_z, le_z}
 use borrow.Author.Tests.{ltb-true, ltb-false, leb-true, leb-false, not-true, not-false}
-use Rattle.rules.specs.Sets.{Place, at, gap_after, next_place, previous_place, ◌isBefore◌}
+use Rattle.rules.specs.Sets.{Place, at, gap_after, next_place, previous_place, ◌is_before◌}
 
 -- the test b tells whether m is less than n
 abbrev Tells : Bool → ℕ → ℕ → Type 0

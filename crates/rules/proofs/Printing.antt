@@ -17,7 +17,7 @@ use Rattle.rules.specs.Forms.{is_flavor, is_flag, form_faults}
 use Rattle.rules.specs.Invariants.{is_null, breaks_interval, child_named, Side, low, high, valued, endpoint_of, is_crossed}
 use Rattle.rules.specs.Types.{TS, IVL_TS, QSU_TS, always, typed, line_of}
 use Rattle.rules.specs.Judge.{member, inside, attribute_faults, element_faults, child_faults, top_faults}
-use Rattle.rules.specs.Sets.{Place, at, gap_after, ◌isBefore◌, Bound, unbounded, open_at, closed_at, Interval, ◌upto◌, first_place, holds, is_in, Op, union, Expression, interval, combine, meant, intervals}
+use Rattle.rules.specs.Sets.{Place, at, gap_after, ◌is_before◌, Bound, unbounded, open_at, closed_at, Interval, ◌upto◌, first_place, holds, is_in, Op, union, Expression, interval, combine, meant, intervals}
 use Rattle.rules.specs.Stretches.{stretches}
 use Rattle.rules.specs.Check.{is_offset, shift_by, record_faults, check}
 use Rattle.rules.specs.Utf8.{is_utf8}

@@ -78,7 +78,7 @@ unfolding same
 same_true [] [] e = refl
 same_true [] (d ∷ b) e = clash (cc)
 same_true (c ∷ a) [] e = clash (cc)
-same_true (c ∷ a) (d ∷ b) e = let (f, g) = both_true _ _ e in cc (eqb-true c d f, same_true a b g)
+same_true (c ∷ a) (d ∷ b) e = let (f, g) = both_true (eqb c d) (same a b) e in cc (eqb-true c d f, same_true a b g)
 
 pub same_refl : (a : List ℕ) → same a a ≡ true
 unfolding same

@@ -10,7 +10,7 @@ use lib.IntN.{ℤ, pos, negsuc, suc_ℤ, pred_ℤ, suc_ℤ-+ℤ}
 use lib.Signed.{lt_z}
 use Rattle.rules.specs.Timestamp.{Moment, before_start, tick_at, tick_of}
 use Rattle.rules.specs.Invariants.{high, is_pushed, valued, is_crossed}
-use Rattle.rules.specs.Sets.{Place, at, gap_after, ◌isBefore◌, previous_place}
+use Rattle.rules.specs.Sets.{Place, at, gap_after, ◌is_before◌, previous_place}
 use Rattle.rules.proofs.Order.{places, up, down, next-number, previous_number}
 
 -- the tick of a count from tick 0 on

@@ -8,7 +8,7 @@ use mathlib.Core.Option.{Option, none, some}
 use borrow.Author.Tests.{not-false}
 use lib.IntN.{ℤ}
 use Rattle.rules.specs.Basics.{is_some, exactly_one, find, bytes, same, begins}
-use Rattle.rules.specs.Refusal.{Refusal, TYPE, VALUE, Outcome, answered, refused, faults_in, faults_of, ◌when◌, ◌andThen◌}
+use Rattle.rules.specs.Refusal.{Refusal, TYPE, VALUE, Outcome, answered, refused, faults_in, faults_of, ◌when◌, ◌and_then◌}
 use Rattle.rules.specs.Markup.{Attribute, Element, lookup}
 use Rattle.rules.specs.Parsers.{whole}
 use Rattle.rules.specs.Forms.{amount_text, is_currency, form_faults}

@@ -10,7 +10,7 @@ use lib.Dec.{eqb}
 use lib.ListN.{length, length-append}
 use lib.IntN.{ℤ}
 use Rattle.rules.specs.Basics.{exists}
-use Rattle.rules.specs.Refusal.{Refusal, NO_ROW, TOTAL, DAMAGED, DAY_FULL, number, rank_in, first_of, Outcome, answered, refused, ◌unless◌, ◌when◌, ◌andThen◌}
+use Rattle.rules.specs.Refusal.{Refusal, NO_ROW, TOTAL, DAMAGED, DAY_FULL, number, rank_in, first_of, Outcome, answered, refused, ◌unless◌, ◌when◌, ◌and_then◌}
 use Rattle.rules.specs.Forms.{is_currency}
 use Rattle.rules.specs.Totals.{Table, totalling, counting, table, counted, is_in_range, is_held, is_held_twice, is_damaged, is_full, Entry, null, money, new_total, fitting, posting, is_uncounted, recorded, is_counted}
 use Rattle.rules.specs.TotalDays.{History, beginning, ◌then◌, Call, reading_of, answer_to, IsUsable, HasNoRow, Posted, damaged, full, faulty, a_null, no_row, out_of_range, added, reached, answers, is_added, is_null_answer, is_counted_refusal, how_many, sum_added, currencies_added, rows_of, counts_of, day_of}

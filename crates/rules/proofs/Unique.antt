@@ -4,7 +4,7 @@ use mathlib.Core.Bool.{Bool, true, false, ◌||◌, false≢true}
 use mathlib.Core.List.{List, [], ◌∷◌, Memᴰ}
 use mathlib.Core.Option.{Option, none, some}
 use Rattle.rules.specs.Basics.{if_some, exists}
-use Rattle.rules.specs.Sets.{Place, previous_place, ◌isBefore◌, Interval, holds, IsStretch, is_in, ComesBefore, AllStretches, AreStretches}
+use Rattle.rules.specs.Sets.{Place, previous_place, ◌is_before◌, Interval, holds, IsStretch, is_in, ComesBefore, AllStretches, AreStretches}
 use Rattle.rules.proofs.Order.{places, before_irreflexive, previous_number}
 use Rattle.rules.proofs.Edges.{first_edge, end_edge, since, until, inside, is-inside, after-end, by_edges, since_up, until_down, fails}
 

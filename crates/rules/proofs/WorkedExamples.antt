@@ -5,7 +5,7 @@ use mathlib.Core.Path.{◌≡◌, refl}
 use mathlib.Core.List.{List, [], ◌∷◌}
 use lib.IntN.{ℤ, pos, negsuc}
 use Rattle.rules.specs.Basics.{bytes}
-use Rattle.rules.specs.Refusal.{DATE, Outcome, answered, refused, ◌andThen◌}
+use Rattle.rules.specs.Refusal.{DATE, Outcome, answered, refused, ◌and_then◌}
 use Rattle.rules.specs.Utf8.{cut_length}
 use Rattle.rules.specs.Timestamp.{tick_of}
 use Rattle.rules.specs.Sets.{Bound, unbounded, open_at, closed_at, ◌upto◌, Expression, interval, combine, union, difference}

@@ -1,7 +1,7 @@
 -- Words that the other files use: optional values, tests over lists, texts, and the number that digits write.
 use Rattle.std.specs.Prelude.{ℕ, zero, suc, ◌+◌, ◌-◌, ◌*◌, ◌/◌, ◌%◌, Bool, true, false, not, ◌&&◌, ◌||◌, cond, List, [], ◌∷◌, ◌++◌, leb, eqb}
 use Prim.Native.Char.{code}
-use Prim.Native.String.{String, [] as no_text, ◌∷◌ as ◌andText◌}
+use Prim.Native.String.{String, [] as no_text, ◌∷◌ as ◌and_text◌}
 use Rattle.std.proofs.Math.Option.{Option, none, some}
 
 abbrev pub is_some : {A : Type 0} → Option A → Bool

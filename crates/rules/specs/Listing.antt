@@ -3,7 +3,7 @@ use Rattle.std.specs.Prelude.{ℕ, ◌+◌, Bool, not, cond, ltb, length, ℤ, p
 use mathlib.Core.List.{List, [], ◌∷◌, ◌++◌, flat_map}
 use Rattle.std.proofs.Math.Option.{Option}
 use Rattle.rules.specs.Basics.{is_some, if_some, find}
-use Rattle.rules.specs.Refusal.{Refusal, TYPE, SHAPE, UNKNOWN_BOUND, TOO_MANY, NO_ROOM, Outcome, answered, refused, ◌unless◌, ◌when◌, ◌andThen◌, both}
+use Rattle.rules.specs.Refusal.{Refusal, TYPE, SHAPE, UNKNOWN_BOUND, TOO_MANY, NO_ROOM, Outcome, answered, refused, ◌unless◌, ◌when◌, ◌and_then◌, both}
 use Rattle.rules.specs.Markup.{Attribute, Nodes, end, node, Element}
 use Rattle.rules.specs.Timestamp.{Moment, tick_at, tick_of}
 use Rattle.rules.specs.Invariants.{is_null, is_closed, is_pushed, Side, low, high, Endpoint, valued, infinite, unknown, endpoint_of}

@@ -81,8 +81,8 @@ abbrev pub ◌unless◌ : {A : Type 0} → Outcome A → List Refusal → Outcom
 o unless faults = if_some (first_of (faults_of o ++ faults)) refused o
 
 -- one and then the other
-infixl 30 ◌andThen◌
-abbrev pub ◌andThen◌ : {A B : Type 0} → Outcome A → (A → Outcome B) → Outcome B
+infixl 30 ◌and_then◌
+abbrev pub ◌and_then◌ : {A B : Type 0} → Outcome A → (A → Outcome B) → Outcome B
 answered a and_then f = f a
 refused r and_then f = refused r
 

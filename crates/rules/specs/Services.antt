@@ -4,7 +4,7 @@ use Rattle.std.specs.Prelude.{ℕ, zero, suc, ◌+◌, ◌-◌, ◌*◌, ◌/◌
 use mathlib.Core.List.{List, [], ◌∷◌, ◌++◌, flat_map}
 use Rattle.std.proofs.Math.Option.{Option}
 use Rattle.rules.specs.Basics.{if_some}
-use Rattle.rules.specs.Refusal.{Refusal, OFFSET, TOO_LONG, NOT_UTF_8, TYPE, number, Outcome, answered, refused, faults_in, ◌unless◌, ◌when◌, ◌andThen◌}
+use Rattle.rules.specs.Refusal.{Refusal, OFFSET, TOO_LONG, NOT_UTF_8, TYPE, number, Outcome, answered, refused, faults_in, ◌unless◌, ◌when◌, ◌and_then◌}
 use Rattle.rules.specs.Utf8.{is_utf8, cut_length}
 use Rattle.rules.specs.Markup.{Element}
 use Rattle.rules.specs.Timestamp.{Moment, read_timestamp, tick_of}

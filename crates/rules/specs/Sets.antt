@@ -18,8 +18,8 @@ abbrev pub previous_place : Place → Place
 previous_place (at t) = gap_after (pred_ℤ t)
 previous_place (gap_after t) = at t
 
-infix 50 ◌isBefore◌
-abbrev pub ◌isBefore◌ : Place → Place → Bool
+infix 50 ◌is_before◌
+abbrev pub ◌is_before◌ : Place → Place → Bool
 at s is_before at t = lt_z s t
 at s is_before gap_after t = le_z s t
 gap_after s is_before at t = lt_z s t

@@ -5,7 +5,7 @@ use mathlib.Core.List.{List, [], ◌∷◌, ◌++◌, flat_map}
 use Rattle.std.proofs.Math.Option.{Option, none, some}
 use Rattle.std.proofs.Math.IntN.{suc_ℤ}
 use Rattle.rules.specs.Basics.{if_some, list_of}
-use Rattle.rules.specs.Sets.{Place, at, gap_after, next_place, previous_place, ◌isBefore◌, Bound, unbounded, open_at, closed_at, Interval, ◌upto◌, first_place, last_place, Expression, meant, intervals}
+use Rattle.rules.specs.Sets.{Place, at, gap_after, next_place, previous_place, ◌is_before◌, Bound, unbounded, open_at, closed_at, Interval, ◌upto◌, first_place, last_place, Expression, meant, intervals}
 
 -- closed at its first place if that is a tick, open at the tick before it if that is a gap
 abbrev pub low_at : Place → Bound

@@ -3,7 +3,7 @@
 use Rattle.std.specs.Prelude.{ℕ, suc, ◌+◌, Bool, true, false, not, ◌&&◌, ◌||◌, cond, List, [], ◌∷◌, ◌++◌, ltb, eqb, length, ℤ, pos, neg_ℤ, ◌+ℤ◌}
 use Rattle.std.specs.Int.Signed.{le_z}
 use Rattle.rules.specs.Basics.{if_some, find, exists, bytes, same}
-use Rattle.rules.specs.Refusal.{Refusal, TYPE, NO_ROW, TOTAL, DAMAGED, DAY_FULL, is_same, Outcome, answered, refused, faults_in, ◌unless◌, ◌when◌, ◌andThen◌}
+use Rattle.rules.specs.Refusal.{Refusal, TYPE, NO_ROW, TOTAL, DAMAGED, DAY_FULL, is_same, Outcome, answered, refused, faults_in, ◌unless◌, ◌when◌, ◌and_then◌}
 use Rattle.rules.specs.Markup.{Attribute, Element, lookup}
 use Rattle.rules.specs.Forms.{is_currency}
 use Rattle.rules.specs.Invariants.{is_null}

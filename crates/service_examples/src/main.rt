@@ -1,5 +1,6 @@
 // The services on a table, whose head says how it is written: for each heading a line with the count of its rows that gave what is due, after
 // each row that did not.
+#![tactic(auto)]
 ghost use Rattle.std.specs.Prelude.{◌≡◌, length};
 
 mod escapes;
@@ -72,7 +73,7 @@ fn text_start(row: &[u8], at: usize, before: usize) -> usize {
 }
 
 // Where the last heading stands and the last text; how many rows there were since that heading, and how many gave what is due.
-#[derive(Drop)]
+#[derive(Clone, Copy)]
 struct Tally {
     heading: usize,
     text: usize,

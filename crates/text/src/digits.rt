@@ -45,7 +45,7 @@ pub fn value(s: &[u8], at: usize, n: usize) -> u64
 }
 
 // A number of a given count of digits, or that there are not as many.
-#[derive(Drop)]
+#[derive(Clone, Copy)]
 pub enum Number {
     Is(u64),
     Nothing,
@@ -74,7 +74,7 @@ pub fn read(s: &[u8], at: usize, n: usize) -> Number
 }
 
 // The digits after a point: their number in ten-thousandths, and their count, 0 if there is no point with digits; `end` is past them.
-#[derive(Drop)]
+#[derive(Clone, Copy)]
 pub struct Fraction {
     pub value: u64,
     pub count: usize,

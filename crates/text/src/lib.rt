@@ -1,4 +1,6 @@
 // Texts: UTF-8 and cutting.
+#![tactic(auto)]
+
 ghost use Rattle.std.specs.Prelude.{◌≡◌, true, ◌+◌, ◌≤◌, ◌<◌, length, take, drop, [], ◌∷◌};
 ghost use Rattle.rules.specs.Basics.{every, same, begins, is_from};
 ghost use Rattle.rules.specs.Utf8.{◌to◌, tail, in_range, is_utf8, cut_length};
@@ -8,7 +10,7 @@ pub mod digits;
 pub mod words;
 
 // What a reader finds at a position: where what it reads ends, or that nothing of the kind stands there.
-#[derive(Drop)]
+#[derive(Clone, Copy)]
 pub enum Read {
     At(usize),
     Bad,
@@ -16,7 +18,7 @@ pub enum Read {
 
 // What a lead byte says of the bytes that follow it: none, one, two or three of them; the range of the second byte of a
 // character of three or four, from low to high; or that the byte leads nothing.
-#[derive(Drop)]
+#[derive(Clone, Copy)]
 pub enum Lead {
     Alone,
     Two,

@@ -23,7 +23,7 @@ pub fn four(s: &[u8], at: usize) -> u64
 }
 
 // The numbers that four pairs of digits write, or that there is a byte that is no digit.
-#[derive(Drop)]
+#[derive(Clone, Copy)]
 pub enum Pairs {
     Are(u64, u64, u64, u64),
     Not,

@@ -7,7 +7,7 @@ use text::digits;
 use text::digits::{Fraction, Number};
 
 // The numbers of MM, DD, hh, mm and ss as far as they go, missing ones at their first value; `end` is past them.
-#[derive(Drop)]
+#[derive(Clone, Copy)]
 pub struct Parts {
     pub count: usize,
     pub month: u64,
@@ -19,7 +19,7 @@ pub struct Parts {
 }
 
 // An offset as written, in hours and minutes, or none: then the agreed one holds.
-#[derive(Drop)]
+#[derive(Clone, Copy)]
 pub enum Zone {
     Agreed,
     Plus(u64, u64),
@@ -27,21 +27,21 @@ pub enum Zone {
 }
 
 // Hours and minutes of an offset and the position past them, or that none stand there.
-#[derive(Drop)]
+#[derive(Clone, Copy)]
 pub enum Hours {
     Is(u64, u64, usize),
     Nothing,
 }
 
 // An offset; `end` is past it.
-#[derive(Drop)]
+#[derive(Clone, Copy)]
 pub struct Zoned {
     pub zone: Zone,
     pub end: usize,
 }
 
 // A timestamp as written.
-#[derive(Drop)]
+#[derive(Clone, Copy)]
 pub struct Written {
     pub year: u64,
     pub parts: Parts,
@@ -50,7 +50,7 @@ pub struct Written {
 }
 
 // A timestamp as written, or that a text has not the form of one.
-#[derive(Drop)]
+#[derive(Clone, Copy)]
 pub enum Form {
     Is(Written),
     Bad,

@@ -5,7 +5,7 @@ use text::words;
 use text::words::Pairs;
 
 // The numbers of a date and a clock.
-#[derive(Drop)]
+#[derive(Clone, Copy)]
 pub struct Numbers {
     pub year: u64,
     pub month: u64,
@@ -16,7 +16,7 @@ pub struct Numbers {
 }
 
 // The numbers of fourteen digits, or that a text is something else.
-#[derive(Drop)]
+#[derive(Clone, Copy)]
 pub enum Fourteen {
     Are(Numbers),
     Not,

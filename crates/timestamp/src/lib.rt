@@ -1,4 +1,5 @@
 // Timestamps: from a text to a tick, its precision and its span.
+#![tactic(auto)]
 ghost use Rattle.std.specs.Prelude.{◌≡◌, true, ◌+◌, ◌-◌, ◌*◌, ◌^◌, ◌≤◌, ◌<◌};
 ghost use Rattle.rules.specs.Basics.{is_from};
 ghost use Rattle.rules.specs.Timestamp.{is_offset_time, is_zone, shift_of, read_timestamp};
@@ -15,7 +16,7 @@ use tick::Tick;
 
 // A moment: its start and the next start of its smallest written unit, in ticks from fourteen hours before 0001-01-01 00:00, and its
 // precision, the count of digits written before any offset. Its span is from its start up to, not including, the next.
-#[derive(Drop)]
+#[derive(Clone, Copy)]
 pub struct Moment {
     pub start: u64,
     pub precision: u64,
@@ -23,7 +24,7 @@ pub struct Moment {
 }
 
 // What a text says as a timestamp: a moment, or a refusal.
-#[derive(Drop)]
+#[derive(Clone, Copy)]
 pub enum Timestamp {
     At(Moment),
     Refused(Refusal),

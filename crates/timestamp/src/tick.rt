@@ -6,7 +6,7 @@ ghost use Rattle.rules.specs.Calendar.{days_before, second as secondTicks, minut
 use crate::calendar;
 
 // A count of ticks.
-#[derive(Drop)]
+#[derive(Clone, Copy)]
 pub struct Tick(pub u64);
 
 impl Tick {

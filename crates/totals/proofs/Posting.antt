@@ -5,7 +5,7 @@ use borrow.Author.Tests.{not-false}
 use lib.ListN.{length-map}
 use lib.Seq.{take-set-lt}
 use Rattle.rules.specs.Basics.{if_some, exists, every, find}
-use Rattle.rules.specs.Refusal.{Refusal, NO_ROW, TOTAL, number, rank_in, first_of, Outcome, answered, refused, ◌unless◌, ◌when◌, ◌andThen◌}
+use Rattle.rules.specs.Refusal.{Refusal, NO_ROW, TOTAL, number, rank_in, first_of, Outcome, answered, refused, ◌unless◌, ◌when◌, ◌and_then◌}
 use Rattle.rules.specs.Forms.{is_currency}
 use Rattle.rules.specs.Services.{packed}
 use Rattle.rules.specs.Totals.{Row as RulesRow, table, counting, totalling, is_in_range, is_of, is_held, Entry, null, money, new_total, fitting, entered, is_uncounted, recorded}

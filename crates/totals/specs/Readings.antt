@@ -1,6 +1,6 @@
 -- What a record says of money and what posting it comes to, as code holds them, in the words of the rules (request A6).
 use Rattle.std.specs.Prelude.{◌≡◌, ℕ, ◌+◌, ◌-◌, ◌^◌, ◌<◌, ◌≤◌, true, false, cond, ◌⊎◌, nat_lt, slice_set}
-use Rattle.rules.specs.Refusal.{Outcome, answered, refused, ◌andThen◌}
+use Rattle.rules.specs.Refusal.{Outcome, answered, refused, ◌and_then◌}
 use Rattle.rules.specs.Forms.{is_currency}
 use Rattle.rules.specs.Services.{packed}
 use Rattle.rules.specs.Totals.{Entry, null, money, counted, is_damaged, fitting, is_uncounted, recorded}

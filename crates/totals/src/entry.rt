@@ -20,7 +20,7 @@ use form::money::Amount;
 use refusal::Refusal;
 
 // What was read: a null, an amount in two's complement of a currency, or a refusal.
-#[derive(Drop)]
+#[derive(Clone, Copy)]
 pub enum Reading {
     Null,
     Money { currency: u64, amount: u64 },

@@ -1,5 +1,6 @@
 // Daily totals by currency: a desk's part of the table as a value, what a record does to it, and its report. Lent numbers that two desks share are
 // taken into a part and put back at the edge, by `part` and `share`.
+#![tactic(auto)]
 
 pub mod damage;
 pub mod entry;
@@ -14,14 +15,14 @@ pub const ROWS: usize = 16;
 pub const ALL_ROWS: u64 = 32;
 
 // A row: the number of its currency, and its total in ten-thousandths, in two's complement.
-#[derive(Drop)]
+#[derive(Clone, Copy)]
 pub struct Row {
     pub currency: u64,
     pub total: u64,
 }
 
 // A desk's part: how many rows are held, the first of these; 17 stands for more than there is room for. Counts of records added, null and refused.
-#[derive(Drop)]
+#[derive(Clone, Copy)]
 pub struct Table {
     pub rows: [Row; ROWS],
     pub held: usize,

@@ -14,7 +14,7 @@ use crate::{ROWS, Row, Table};
 use refusal::Refusal;
 
 // A table after a record, and the answer to it as it is told.
-#[derive(Drop)]
+#[derive(Clone, Copy)]
 pub struct Posted {
     pub table: Table,
     pub answer: u64,
