@@ -1,5 +1,6 @@
 // A lent list of stretches, read and judged: four numbers a stretch, eight bytes a number.
 #![tactic(auto)]
+
 ghost use Rattle.std.specs.Prelude.{◌≡◌, ◌+◌, ◌*◌, ◌<◌, ◌≤◌, not, length, int_lt};
 ghost use Rattle.rules.specs.LentLists.{signed, is_improper_list};
 ghost use Rattle.lent.specs.Rows.{number_at, row_at, row_of, is_bound, is_in_order, is_faulty, is_clash};

@@ -1,0 +1,18 @@
+-- `writer::put_pair` meets its contract.
+use borrow.Author.Rules.{rules}
+use native.Mathlib.Omega.{arith}
+use mathlib.Core.Path.{refl}
+use lib.ListN.{length-set}
+use Rattle.rules.proofs.Digits.{digits_of-length_lem}
+use Rattle.writer.proofs.Placing.{pair_put}
+use Rattle.writer.proofs.put_pair.Goals as goal
+
+pub bounds-out-at-2 : goal.bounds-out-at-2
+bounds-out-at-2 c = rw length-set (omega arith)
+
+pub returns : goal.returns
+returns c = record { value = refl; put = record {
+    room = omega (arith, digits_of-length_lem 2 c.args.n);
+    next-is = omega (arith, digits_of-length_lem 2 c.args.n);
+    bytes_are = pair_put c.args.at c.args.n c.args.out.now c.requires.fact_1 c.requires.fact_2;
+  } }
