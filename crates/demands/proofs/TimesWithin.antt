@@ -53,7 +53,7 @@ in_flat_map f (a ∷ l) m = elim (Memᴰ.append_cases (f a) m) [
   | inr m ↦ let (c, i, n) = in_flat_map f l m in (c, Memᴰ.tail i, n)
 ]
 
-flat_map_in : {A B : Type 0} (f : A → List B) {l : List A} {a : A} {b : B} → Memᴰ a l → Memᴰ b (f a) → Memᴰ b (flat_map f l)
+flat_map_in : {A B : Type 0} (f : A → List B) {a : A} {l : List A} {b : B} → Memᴰ a l → Memᴰ b (f a) → Memᴰ b (flat_map f l)
 unfolding flat_map
 flat_map_in f {b = b} (Memᴰ.head {x = x} {xs = xs} e) m = Memᴰ.append_left (flat_map f xs) (subst (λ a. Memᴰ b (f a)) e m)
 flat_map_in f (Memᴰ.tail {x = x} i) m = Memᴰ.append_right (f x) (flat_map_in f i m)
@@ -392,13 +392,17 @@ column_for_lem x DisplayName t = clash (cc)
 column_for_lem x Part t = clash (cc)
 
 module _ (shift : ℕ) where
+  at_name : (p : Standing) (k : Kind) (a : Attribute) → same (bytes "xsi:type") a.name ≡ false → begins (bytes "xmlns") a.name ≡ false
+      → attribute_faults shift p k a ≡ if_some (column_for a.name k) (λ c. form_faults shift c.form a.value) (SHAPE ∷ [])
+  unfolding attribute_faults find
+  at_name top k a f g = rw (f, g) refl
+  at_name member k a f g = rw f refl
+  at_name inside k a f g = refl
+
   -- an attribute that is neither `xsi:type` nor `xmlns..` is judged by that column
   column_faults : (p : Standing) (k : Kind) (a : Attribute) (name : List ℕ) → same (bytes "xsi:type") name ≡ false → begins (bytes "xmlns") name ≡ false → a.name ≡ name
       → attribute_faults shift p k a ≡ if_some (column_for name k) (λ c. form_faults shift c.form a.value) (SHAPE ∷ [])
-  unfolding attribute_faults find
-  column_faults top k a name f g e = rw (e, f, g) refl
-  column_faults member k a name f g e = rw (e, f) refl
-  column_faults inside k a name f g e = rw e refl
+  column_faults p k a name f g e = subst (λ (n : List ℕ). same (bytes "xsi:type") n ≡ false → begins (bytes "xmlns") n ≡ false → attribute_faults shift p k a ≡ if_some (column_for n k) (λ c. form_faults shift c.form a.value) (SHAPE ∷ [])) e (at_name p k a) f g
 
   text_faults : {name : List ℕ} {form : Form} → IsText name form → (p : Standing) (k : Kind) (a : Attribute) → a.name ≡ name
       → attribute_faults shift p k a ≡ if_some (column_for name k) (λ c. form_faults shift c.form a.value) (SHAPE ∷ [])

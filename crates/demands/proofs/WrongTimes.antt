@@ -80,7 +80,7 @@ of_part : (r : Refusal) → IsPart r → IsOfText r
 of_part r part = omega (arith, part)
 
 -- not all pass a test exactly if one does not
-none_of : {A : Type 0} (p : A → Bool) {l : List A} {a : A} → Memᴰ a l → p a ≡ false → every p l ≡ false
+none_of : {A : Type 0} (p : A → Bool) {a : A} {l : List A} → Memᴰ a l → p a ≡ false → every p l ≡ false
 unfolding every
 none_of p (mathlib.Core.List.Memᴰ.head e) h = rw (← e, h) refl
 none_of p (mathlib.Core.List.Memᴰ.tail {x = x} m) h = go (p x) (none_of p m h)

@@ -1,5 +1,6 @@
 // Timestamps: from a text to a tick, its precision and its span.
 #![tactic(auto)]
+
 ghost use Rattle.std.specs.Prelude.{◌≡◌, true, ◌+◌, ◌-◌, ◌*◌, ◌^◌, ◌≤◌, ◌<◌};
 ghost use Rattle.rules.specs.Basics.{is_from};
 ghost use Rattle.rules.specs.Timestamp.{is_offset_time, is_zone, shift_of, read_timestamp};

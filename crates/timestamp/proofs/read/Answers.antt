@@ -1,0 +1,42 @@
+-- `timestamp::read` meets its contract, by a law for each way through it: of fourteen digits, and of any other text.
+use Rattle.timestamp.proofs.Answers.{found_form, found_fourteen, wrong-form, impossible, moment_is, possible}
+use Rattle.timestamp.specs.Moments.{moment_of}
+use Rattle.rules.specs.Refusal.{answered}
+use borrow.Author.Tests.{not-true, not-false}
+use mathlib.Core.Bool.{true, false}
+use mathlib.Core.Path.{refl, sym, ◌∙◌, ap}
+use borrow.Author.Rules.{rules}
+use Rattle.timestamp.proofs.read.Goals as goal
+
+pub returns-then-not-is_date : goal.returns-then-not-is_date
+returns-then-not-is_date c = impossible _ _ (found_fourteen _ _ _ c.read.ensures c.in-Are.is) c.args.shift false _ _ (sym c.is_date.ensures ∙ c.if-not-is_date.true) refl refl refl
+
+pub returns-then-not-is_clock : goal.returns-then-not-is_clock
+returns-then-not-is_clock c = impossible _ _ (found_fourteen _ _ _ c.read.ensures c.in-Are.is) c.args.shift true false _ (sym c.is_date.ensures ∙ c.if-not-is_date.false) (sym c.is_clock.ensures ∙ c.if-not-is_clock.true) refl refl
+
+pub fourteen_moment-requires : goal.fourteen_moment-requires
+fourteen_moment-requires c = possible _ _ (found_fourteen _ _ _ c.read.ensures c.in-Are.is) c.args.shift c.requires (sym c.is_date.ensures ∙ c.if-not-is_date.false) (sym c.is_clock.ensures ∙ c.if-not-is_clock.false) refl
+
+pub returns-in-Are : goal.returns-in-Are
+returns-in-Are c = ap (λ m. answered (moment_of m)) c.fourteen_moment.ensures ∙ moment_is _ _ (found_fourteen _ _ _ c.read.ensures c.in-Are.is) c.args.shift (possible _ _ (found_fourteen _ _ _ c.read.ensures c.in-Are.is) c.args.shift c.requires (sym c.is_date.ensures ∙ c.if-not-is_date.false) (sym c.is_clock.ensures ∙ c.if-not-is_clock.false) refl)
+
+pub returns-in_default-read_form : goal.returns-in_default-read_form
+returns-in_default-read_form c = wrong-form _ _ _ c.read_form.ensures c.in_default-read_form.is
+
+pub returns-then-not-is_date-2 : goal.returns-then-not-is_date-2
+returns-then-not-is_date-2 c = impossible _ _ (found_form _ _ _ c.read_form.ensures c.in-Is.is) c.args.shift false _ _ (sym c.is_date-2.ensures ∙ c.if-not-is_date-2.true) refl refl refl
+
+pub returns-then-not-is_clock-2 : goal.returns-then-not-is_clock-2
+returns-then-not-is_clock-2 c = impossible _ _ (found_form _ _ _ c.read_form.ensures c.in-Is.is) c.args.shift true false _ (sym c.is_date-2.ensures ∙ c.if-not-is_date-2.false) (sym c.is_clock-2.ensures ∙ c.if-not-is_clock-2.true) refl refl
+
+pub is_zone-requires : goal.is_zone-requires
+is_zone-requires c = (found_form _ _ _ c.read_form.ensures c.in-Is.is).2.small.1
+
+pub returns-then-not-is_zone : goal.returns-then-not-is_zone
+returns-then-not-is_zone c = impossible _ _ (found_form _ _ _ c.read_form.ensures c.in-Is.is) c.args.shift true true false (sym c.is_date-2.ensures ∙ c.if-not-is_date-2.false) (sym c.is_clock-2.ensures ∙ c.if-not-is_clock-2.false) (sym c.is_zone.ensures ∙ c.if-not-is_zone.true) refl
+
+pub make_moment-requires : goal.make_moment-requires
+make_moment-requires c = possible _ _ (found_form _ _ _ c.read_form.ensures c.in-Is.is) c.args.shift c.requires (sym c.is_date-2.ensures ∙ c.if-not-is_date-2.false) (sym c.is_clock-2.ensures ∙ c.if-not-is_clock-2.false) (sym c.is_zone.ensures ∙ c.if-not-is_zone.false)
+
+pub returns : goal.returns
+returns c = ap (λ m. answered (moment_of m)) c.make_moment.ensures ∙ moment_is _ _ (found_form _ _ _ c.read_form.ensures c.in-Is.is) c.args.shift (possible _ _ (found_form _ _ _ c.read_form.ensures c.in-Is.is) c.args.shift c.requires (sym c.is_date-2.ensures ∙ c.if-not-is_date-2.false) (sym c.is_clock-2.ensures ∙ c.if-not-is_clock-2.false) (sym c.is_zone.ensures ∙ c.if-not-is_zone.false))
