@@ -1,5 +1,6 @@
 // Sets of times: bounds, intervals, sets as stretches, and union, intersection and difference.
 #![tactic(auto)]
+
 ghost use Rattle.std.specs.Prelude.{◌≡◌, ◌+◌, ◌^◌, ◌<◌, ◌≤◌, true, false};
 ghost use Rattle.rules.specs.Sets.{holds, is_in, apply as pageApply};
 ghost use Rattle.interval.specs.Meaning.{Ticked, interval_of, op_of, place_of, stretches_of, Canonical, Holds, applied, SaysSame};

@@ -1,5 +1,6 @@
 // Markup: whether a text is one element, with its attributes and the elements inside it, and nothing beside it but white space.
 #![tactic(auto)]
+
 ghost use Rattle.std.specs.Prelude.{◌≡◌, ◌≤◌, length};
 ghost use Rattle.rules.specs.Basics.{is_some};
 ghost use Rattle.rules.specs.Markup.{document};

@@ -1,0 +1,71 @@
+use Rattle.std.proofs.Common.{◌≡◌, suc, ◌-◌, ◌*◌, ◌<◌, ◌≤◌, length, take, refl, ◌∙◌, arith, length-set, rules}
+use Rattle.interval.specs.declared.Interval.{Interval}
+use Rattle.interval.specs.Meaning.{AllTicked}
+use Rattle.interval.specs.Edges.{edges}
+use Rattle.interval.proofs.Items.{length_mapped}
+use Rattle.interval.proofs.Drawing.{edged-length, edge-below, edge-next, ticked_more, edges_more}
+use Rattle.interval.proofs.merge.from_edges.Goals as goal
+
+pub loop-k-init : goal.loop-k-init
+loop-k-init c =
+    let g : length c.empty-s.result.items ≡ 32 = search length_mapped in
+    (omega arith, g, tt, refl)
+
+pub overflow_mul-k : goal.overflow_mul-k
+overflow_mul-k c = omega (arith, c.requires.fact_2)
+
+pub overflow_mul-k-in-loop-k : goal.overflow_mul-k-in-loop-k
+overflow_mul-k-in-loop-k c = omega (arith, c.requires.fact_2)
+
+pub offset_bounds-e-k : goal.offset_bounds-e-k
+offset_bounds-e-k c = omega (arith, c.requires.fact_2)
+
+pub bounds-e-k : goal.bounds-e-k
+bounds-e-k c = omega (arith, c.requires.fact_2)
+
+pub low_bound-low-requires : goal.low_bound-low-requires
+low_bound-low-requires c = edge-below c.args.n c.args.e.now c.requires.fact_1 (2 * c.loop-k.k) (omega arith)
+
+pub overflow_mul-k-in-loop-k-2 : goal.overflow_mul-k-in-loop-k-2
+overflow_mul-k-in-loop-k-2 c = omega (arith, c.requires.fact_2)
+
+pub overflow_add-k : goal.overflow_add-k
+overflow_add-k c = omega (arith, c.requires.fact_2)
+
+pub offset_bounds-e-k-in-loop-k : goal.offset_bounds-e-k-in-loop-k
+offset_bounds-e-k-in-loop-k c = omega (arith, c.requires.fact_2)
+
+pub bounds-e-k-in-loop-k : goal.bounds-e-k-in-loop-k
+bounds-e-k-in-loop-k c = omega (arith, c.requires.fact_2)
+
+pub high_bound-high-requires : goal.high_bound-high-requires
+high_bound-high-requires c =
+    let d = edge-next c.args.n c.args.e.now c.requires.fact_1 c.requires.fact_2 (2 * c.loop-k.k) (omega arith) in
+    (omega (arith, d.0), d.1)
+
+pub offset_bounds-s-k : goal.offset_bounds-s-k
+offset_bounds-s-k c = omega (arith, c.requires.fact_2)
+
+pub bounds-s-k : goal.bounds-s-k
+bounds-s-k c = omega (arith, c.requires.fact_2)
+
+pub overflow_add-k-in-loop-k : goal.overflow_add-k-in-loop-k
+overflow_add-k-in-loop-k c = omega (arith, c.requires.fact_2)
+
+pub loop-k-smaller : goal.loop-k-smaller
+loop-k-smaller c = omega (arith, c.loop-k-test.true)
+
+pub loop-k-preserved : goal.loop-k-preserved
+loop-k-preserved c =
+    let l = c.loop-k in
+    let v : Interval = record { low = c.low_bound-low.result; high = c.high_bound-high.result } in
+    let lt : l.k < 32 = omega (arith, c.requires.fact_2, c.loop-k-test.true) in
+    let g : length c.args.e.now ≡ 65 = edged-length c.args.n c.args.e.now c.requires.fact_1 c.requires.fact_2 in (
+      omega (arith, c.loop-k-test.true),
+      length-set l.s.items l.k v ∙ l.invariant.1,
+      ticked_more c.args.e.now l.s.items l.k v l.invariant.1 g lt l.invariant.2 c.low_bound-low.ensures.ticked c.high_bound-high.ensures.ticked,
+      edges_more c.args.e.now l.s.items l.k v l.invariant.1 g lt l.invariant.3 c.low_bound-low.ensures.edge c.high_bound-high.ensures.edge,
+    )
+
+pub returns : goal.returns
+returns c = record { ticked = c.loop-k.invariant.2; edges_are = c.loop-k.invariant.3; fewest = omega arith; most = c.loop-k.invariant.0 }

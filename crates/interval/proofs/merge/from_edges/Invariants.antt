@@ -1,0 +1,14 @@
+-- `interval::merge::from_edges` meets its contract. The loop's invariant: the first k stretches have the first 2 k edges.
+use Rattle.std.proofs.Common.{◌≡◌, suc, ◌-◌, ◌*◌, ◌<◌, ◌≤◌, length, take, refl, ◌∙◌, arith, length-set, rules}
+use Rattle.interval.specs.declared.Interval.{Interval}
+use Rattle.interval.specs.Meaning.{AllTicked}
+use Rattle.interval.specs.Edges.{edges}
+use Rattle.interval.proofs.Items.{length_mapped}
+use Rattle.interval.proofs.Drawing.{edged-length, edge-below, edge-next, ticked_more, edges_more}
+use Rattle.interval.proofs.merge.from_edges.Given as goal
+
+abbrev pub invariant-loop-k : goal.invariant-loop-k
+invariant-loop-k l = (2 * l.k ≤ suc l.n) × (length l.s.items ≡ 32) × AllTicked (take l.k l.s.items) × (edges (take l.k l.s.items) ≡ take (2 * l.k) l.e)
+
+abbrev pub decreases-loop-k : goal.decreases-loop-k
+decreases-loop-k l = suc l.n - 2 * l.k

@@ -1,0 +1,14 @@
+-- `markup::marks::find_spot` meets its contract. The loop's invariant: the places before this one are passed.
+use Prim.Native.Nat.{◌-◌, ◌<◌}
+use mathlib.Core.Path.{◌≡◌, sym, ◌∙◌, ap}
+use native.Mathlib.Omega.{arith}
+use borrow.Author.Rules.{rules}
+use Rattle.markup.specs.Marks.{next_place, place_of, Passes, free, marked, full}
+use Rattle.markup.proofs.Marking.{place_first, place_more, passes_none, passes_more}
+use Rattle.markup.proofs.marks.find_spot.Given as goal
+
+abbrev pub invariant-loop-tries : goal.invariant-loop-tries
+invariant-loop-tries l = (place_of l.h l.tries ≡ l.i) × (l.i < 3_072) × Passes l.h l.table l.tries
+
+abbrev pub decreases-loop-tries : goal.decreases-loop-tries
+decreases-loop-tries l = 3_072 - l.tries

@@ -1,0 +1,7 @@
+-- `markup::marks::mix_byte` meets its contract.
+use native.Mathlib.Omega.{arith}
+use borrow.Author.Rules.{rules}
+use Rattle.markup.proofs.marks.mix_byte.Goals as goal
+
+pub returns : goal.returns
+returns c = (rw c.wide.ensures.0, omega arith)

@@ -1,0 +1,6 @@
+-- `markup::scan::is_name_start` meets its contract.
+use borrow.Author.Rules.{rules}
+use Rattle.markup.proofs.scan.is_name_start.Goals as goal
+
+pub returns : goal.returns
+returns c = rw c.is_letter.ensures

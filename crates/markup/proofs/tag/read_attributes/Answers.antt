@@ -1,0 +1,11 @@
+-- `markup::tag::read_attributes` meets its contract.
+use Rattle.rules.specs.Markup.{tag_attributes}
+use Rattle.text.proofs.Reading.{enough}
+use Rattle.markup.specs.Attributes.{distinct_attributes}
+use Rattle.markup.proofs.Attributes.{told-sure}
+use borrow.Author.Rules.{rules}
+use Rattle.markup.proofs.tag.read_attributes.Goals as goal
+
+pub returns-in-Sure : goal.returns-in-Sure
+unfolding tag_attributes
+returns-in-Sure c = enough distinct_attributes (told-sure c.in-Sure.is c.read_by_slots-told.ensures)
