@@ -1,5 +1,6 @@
 // A list of stretches printed back as a record: whether it can be written, how long it is, and its bytes.
 #![tactic(auto)]
+
 ghost use Rattle.std.specs.Prelude.{◌≡◌, true, false, not, ◌+◌, ◌%◌, ◌<◌, ◌≤◌, length};
 ghost use Rattle.rules.specs.Basics.{every};
 ghost use Rattle.rules.specs.LentLists.{is_improper_list, listed};

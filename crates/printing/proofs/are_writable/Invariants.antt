@@ -1,0 +1,18 @@
+-- `printing::are_writable` meets its contract. The loop's invariant: all can be written if those that are left can.
+use borrow.Author.Tests.{not-true, not-false}
+use Rattle.lent.proofs.Proper.{proper-length}
+use Rattle.printing.proofs.Records.{count_most, row-kinds, writable_start, writable_more, writable_not, writable_end}
+use Prim.Native.Nat.{◌-◌, ◌≤◌}
+use mathlib.Core.Path.{◌≡◌, sym, ◌∙◌}
+use native.Mathlib.Omega.{arith}
+use Rattle.rules.specs.Basics.{every}
+use Rattle.rules.specs.LentLists.{listed}
+use Rattle.rules.specs.Printing.{is_writable_stretch}
+use Rattle.printing.specs.Records.{terms_from}
+use Rattle.printing.proofs.are_writable.Given as goal
+
+abbrev pub invariant-loop-k : goal.invariant-loop-k
+invariant-loop-k l = (l.k ≤ l.n) × (every is_writable_stretch (terms_from l.list l.k (l.n - l.k)) ≡ every is_writable_stretch (listed l.list))
+
+abbrev pub decreases-loop-k : goal.decreases-loop-k
+decreases-loop-k l = l.n - l.k

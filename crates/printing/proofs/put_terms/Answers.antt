@@ -1,0 +1,61 @@
+use mathlib.Core.Path.{ap}
+use Rattle.lent.proofs.Proper.{proper-length}
+use Rattle.writer.proofs.Placing.{placed-none, put_rest}
+use Rattle.printing.proofs.Records.{count_most, row-kinds, writable_here, left_more, left_length, left_none, left_all, is-proper, all_writable}
+use Prim.Native.Nat.{◌+◌, ◌-◌, ◌≤◌}
+use mathlib.Core.Path.{◌≡◌, refl, sym, ◌∙◌}
+use mathlib.Core.Bool.{true}
+use native.Mathlib.Omega.{arith}
+use lib.ListN.{length}
+use Rattle.rules.specs.Basics.{every}
+use Rattle.rules.specs.Printing.{is_writable_stretch}
+use Rattle.printing.specs.Records.{terms_from}
+use Rattle.writer.specs.Placing.{placed}
+use Rattle.printing.proofs.Records.{left}
+use Rattle.printing.proofs.put_terms.Goals as goal
+
+pub term_count-n-requires : goal.term_count-n-requires
+term_count-n-requires c = tt
+
+pub loop-k-init : goal.loop-k-init
+loop-k-init c = (omega arith, refl, all_writable c.args.list.now c.requires.fact_1 c.term_count-n.result c.term_count-n.ensures, refl, refl)
+
+pub term_row-row-requires : goal.term_row-row-requires
+term_row-row-requires c = record { fact_1 = (proper-length c.args.list.now (is-proper c.args.list.now c.requires.fact_1)).0; fact_2 = omega (arith, c.term_count-n.ensures, c.loop-k-test.true) }
+
+pub put_term-next-requires : goal.put_term-next-requires
+put_term-next-requires c =
+    let k = row-kinds c.args.list.now (is-proper c.args.list.now c.requires.fact_1) c.loop-k.k (omega (arith, c.term_count-n.ensures, c.loop-k-test.true)) in
+    rw c.term_row-row.ensures (record { fact_1 = k.0; fact_2 = k.1; fact_3 = (writable_here c.args.list.now c.loop-k.k c.term_count-n.result c.loop-k-test.true c.loop-k.invariant.2).0; fact_4 = omega (arith, c.loop-k.invariant.1, c.loop-k.invariant.3, left_length c.args.list.now c.loop-k.k c.term_count-n.result c.loop-k-test.true, ap length (left_all c.args.list.now c.term_count-n.result c.term_count-n.ensures), c.requires.fact_2) })
+
+pub overflow_add-k : goal.overflow_add-k
+overflow_add-k c = omega (arith, c.loop-k-test.true, c.term_count-n.ensures, count_most c.args.list.now (is-proper c.args.list.now c.requires.fact_1))
+
+pub loop-k-smaller : goal.loop-k-smaller
+loop-k-smaller c = omega (arith, c.loop-k-test.true)
+
+pub loop-k-preserved : goal.loop-k-preserved
+loop-k-preserved c =
+    let p = rw c.term_row-row.ensures at c.put_term-next.ensures in
+    let l = c.loop-k in
+    let t = c.loop-k-test.true in (
+      omega (arith, t),
+      c.put_term-next.auto.out ∙ l.invariant.1,
+      (writable_here c.args.list.now l.k c.term_count-n.result t l.invariant.2).1,
+      omega (arith, p.next-is, l.invariant.3, left_length c.args.list.now l.k c.term_count-n.result t),
+      put_rest _ p ∙ ap (λ s. placed l.next s l.out) (sym (left_more c.args.list.now l.k c.term_count-n.result t)) ∙ l.invariant.4,
+    )
+
+pub shape_of-out : goal.shape_of-out
+shape_of-out c = c.loop-k.invariant.1
+
+pub returns : goal.returns
+returns c =
+    let l = c.loop-k in
+    let all = left_all c.args.list.now c.term_count-n.result c.term_count-n.ensures in
+    let none = left_none c.args.list.now l.k c.term_count-n.result (omega arith) in
+    record {
+      room = c.requires.fact_2;
+      next-is = omega (arith, l.invariant.3, ap length none, ap length all);
+      bytes_are = sym (placed-none l.next l.out) ∙ ap (λ s. placed l.next s l.out) (sym none) ∙ l.invariant.4 ∙ ap (λ s. placed c.args.at s c.args.out.now) all;
+    }
