@@ -1,6 +1,7 @@
 // What a document says, by the start tags of its elements: where the root stands, attributes by number, what follows a tag, decoded values.
 // The contracts go from what stands at a position to what is answered; where nothing of the kind stands there, they say no more than bounds.
 #![tactic(auto)]
+
 ghost use Rattle.std.specs.Prelude.{◌≡◌, List, ℕ, ◌≤◌, length};
 ghost use Rattle.std.proofs.Math.Option.{some};
 ghost use Rattle.rules.specs.Markup.{Element, document};

@@ -1,0 +1,7 @@
+-- `element::tag::has` meets its contract.
+use borrow.Author.Rules.{rules}
+use Rattle.element.proofs.Asked.{present}
+use Rattle.element.proofs.tag.has.Goals as goal
+
+pub returns : goal.returns
+returns c = λ s l t. present (t.placed c.args.n c.requires)

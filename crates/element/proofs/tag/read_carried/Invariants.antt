@@ -1,0 +1,13 @@
+-- `element::tag::read_carried` meets its contract.
+use Prim.Native.Nat.{◌-◌}
+use native.Mathlib.Omega.{arith}
+use borrow.Author.Rules.{rules}
+use lib.ListN.{length}
+use Rattle.element.proofs.Placing.{put, kept, known-counted, other-counted, turn, So, so_none, so_step, so_done, further}
+use Rattle.element.proofs.tag.read_carried.Given as goal
+
+abbrev pub invariant-loop-number : goal.invariant-loop-number
+invariant-loop-number l = So l.s l.at (record { places = l.places; others = l.others; namespaces = l.namespaces; end = l.end })
+
+abbrev pub decreases-loop-number : goal.decreases-loop-number
+decreases-loop-number l = length l.s - l.end
