@@ -25,28 +25,28 @@ pub loop-number-smaller-then-places-number-eq0 : goal.loop-number-smaller-then-p
 loop-number-smaller-then-places-number-eq0 c =
     let e = c in
     let s = e in
-    let t = turn s.skip_space-i.ensures e.in-Named.is s.start_at-start.ensures e.end-end.ensures.on_1 e.end-end.ensures.tells in
+    let t = turn s.skip_space-i.ensures e.in-Named.is s.start_at-start.ensures e.end-end.ensures.on_1 (e.end-end.ensures.on_2, e.end-end.ensures.tells) in
     omega (arith, further t)
 
 pub loop-number-preserved-then-places-number-eq0 : goal.loop-number-preserved-then-places-number-eq0
 loop-number-preserved-then-places-number-eq0 c =
     let e = c in
     let s = e in
-    let t = turn s.skip_space-i.ensures e.in-Named.is s.start_at-start.ensures e.end-end.ensures.on_1 e.end-end.ensures.tells in
+    let t = turn s.skip_space-i.ensures e.in-Named.is s.start_at-start.ensures e.end-end.ensures.on_1 (e.end-end.ensures.on_2, e.end-end.ensures.tells) in
     so_step _ s.loop-number.invariant t (put (omega arith) c.if-places-number-eq0.true) (known-counted _ t.number (omega arith))
 
 pub loop-number-smaller-else-places-number-eq0 : goal.loop-number-smaller-else-places-number-eq0
 loop-number-smaller-else-places-number-eq0 c =
     let e = c in
     let s = e in
-    let t = turn s.skip_space-i.ensures e.in-Named.is s.start_at-start.ensures e.end-end.ensures.on_1 e.end-end.ensures.tells in
+    let t = turn s.skip_space-i.ensures e.in-Named.is s.start_at-start.ensures e.end-end.ensures.on_1 (e.end-end.ensures.on_2, e.end-end.ensures.tells) in
     omega (arith, further t)
 
 pub loop-number-preserved-else-places-number-eq0 : goal.loop-number-preserved-else-places-number-eq0
 loop-number-preserved-else-places-number-eq0 c =
     let e = c in
     let s = e in
-    let t = turn s.skip_space-i.ensures e.in-Named.is s.start_at-start.ensures e.end-end.ensures.on_1 e.end-end.ensures.tells in
+    let t = turn s.skip_space-i.ensures e.in-Named.is s.start_at-start.ensures e.end-end.ensures.on_1 (e.end-end.ensures.on_2, e.end-end.ensures.tells) in
     so_step _ s.loop-number.invariant t (kept (λ h. c.if-places-number-eq0.false)) (known-counted _ t.number (omega arith))
 
 pub slice_bounds-begins_with-count : goal.slice_bounds-begins_with-count
@@ -62,27 +62,27 @@ pub overflow_add-others : goal.overflow_add-others
 overflow_add-others c =
     let e = c in
     let s = e in
-    let t = turn s.skip_space-i.ensures e.in-Named.is s.start_at-start.ensures e.end-end.ensures.on_1 e.end-end.ensures.tells in
+    let t = turn s.skip_space-i.ensures e.in-Named.is s.start_at-start.ensures e.end-end.ensures.on_1 (e.end-end.ensures.on_2, e.end-end.ensures.tells) in
     omega (arith, s.loop-number.invariant.few.0, further t, c.one_if-others.ensures.1)
 
 pub overflow_add-namespaces : goal.overflow_add-namespaces
 overflow_add-namespaces c =
     let e = c in
     let s = e in
-    let t = turn s.skip_space-i.ensures e.in-Named.is s.start_at-start.ensures e.end-end.ensures.on_1 e.end-end.ensures.tells in
+    let t = turn s.skip_space-i.ensures e.in-Named.is s.start_at-start.ensures e.end-end.ensures.on_1 (e.end-end.ensures.on_2, e.end-end.ensures.tells) in
     omega (arith, s.loop-number.invariant.few.1, further t, c.one_if-namespaces.ensures.1)
 
 pub loop-number-smaller : goal.loop-number-smaller
 loop-number-smaller c =
     let e = c in
     let s = e in
-    let t = turn s.skip_space-i.ensures e.in-Named.is s.start_at-start.ensures e.end-end.ensures.on_1 e.end-end.ensures.tells in
+    let t = turn s.skip_space-i.ensures e.in-Named.is s.start_at-start.ensures e.end-end.ensures.on_1 (e.end-end.ensures.on_2, e.end-end.ensures.tells) in
     omega (arith, further t)
 
 pub loop-number-preserved : goal.loop-number-preserved
 loop-number-preserved c =
     let e = c in
     let s = e in
-    let t = turn s.skip_space-i.ensures e.in-Named.is s.start_at-start.ensures e.end-end.ensures.on_1 e.end-end.ensures.tells in
+    let t = turn s.skip_space-i.ensures e.in-Named.is s.start_at-start.ensures e.end-end.ensures.on_1 (e.end-end.ensures.on_2, e.end-end.ensures.tells) in
     so_step _ s.loop-number.invariant t (kept (λ h. absurd (omega arith)))
     (other-counted _ _ _ t.number (omega arith) c.begins_with-space.ensures c.one_if-others.ensures c.one_if-namespaces.ensures)
