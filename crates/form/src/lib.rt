@@ -1,6 +1,7 @@
 // The forms of texts: what the decoded text of an attribute may be. An attribute's value stands at q, with its quotes, and ends at e. The
 // contracts go from its decoded text to the answer.
 #![tactic(auto)]
+
 ghost use Rattle.std.specs.Prelude.{◌≡◌, not, List, ℕ, ◌≤◌, ◌<◌, length, drop};
 ghost use Rattle.rules.specs.Basics.{is_some};
 ghost use Rattle.rules.specs.Refusal.{VALUE, faults_of, first_of, ◌when◌};

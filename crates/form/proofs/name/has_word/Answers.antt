@@ -1,0 +1,26 @@
+use Prim.Native.Nat.{◌-◌, ◌≤◌}
+use mathlib.Core.Bool.{Bool}
+use native.Mathlib.Omega.{arith}
+use lib.ListN.{length}
+use borrow.Author.Rules.{rules}
+use Rattle.element.proofs.Decoded.{on-bounds}
+use Rattle.form.proofs.Wording.{HasWord, word_start, word_end, word_found, word_more}
+use Rattle.form.proofs.name.has_word.Goals as goal
+
+pub loop-c-init : goal.loop-c-init
+loop-c-init c = (c.start-from.ensures.within, λ b h. h)
+
+pub next-first-requires : goal.next-first-requires
+next-first-requires c = c.loop-c.invariant.0
+
+pub returns-in_default : goal.returns-in_default
+returns-in_default c = λ v a h. word_start c.args.s.now c.args.w.now _ _ (c.loop-c.invariant.1 _ (word_end c.args.w.now c.loop-c.k c.next-first.ensures.tells c.in_default.is)) v (c.start-from.ensures.tells v a h)
+
+pub returns-then-c-k : goal.returns-then-c-k
+returns-then-c-k c = λ v a h. word_start c.args.s.now c.args.w.now _ _ (c.loop-c.invariant.1 _ (word_found c.args.w.now c.loop-c.k c.next-first.ensures.tells c.in-Is.is c.if-c-k.true)) v (c.start-from.ensures.tells v a h)
+
+pub loop-c-smaller : goal.loop-c-smaller
+loop-c-smaller c = omega (arith, (on-bounds c.in-Is.is c.next-first.ensures.on).0, (on-bounds c.in-Is.is c.next-first.ensures.on).1)
+
+pub loop-c-preserved : goal.loop-c-preserved
+loop-c-preserved c = ((on-bounds c.in-Is.is c.next-first.ensures.on).1, λ b h. c.loop-c.invariant.1 b (word_more c.args.w.now c.loop-c.k c.next-first.ensures.tells c.in-Is.is c.if-c-k.false b (rw c.along-k.ensures at h)))
