@@ -1,0 +1,9 @@
+-- `datatype::bounds::is_pushed` meets its contract.
+use borrow.Author.Rules.{rules}
+use Rattle.datatype.proofs.bounds.is_pushed.Goals as goal
+
+pub returns-in-Low : goal.returns-in-Low
+returns-in-Low c = rw c.in-Low.is
+
+pub returns-in-High : goal.returns-in-High
+returns-in-High c = rw c.in-High.is

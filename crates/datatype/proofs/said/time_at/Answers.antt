@@ -1,0 +1,24 @@
+-- `datatype::said::time_at` meets its contract.
+use mathlib.Core.Path.{refl, sym}
+use native.Mathlib.Omega.{arith}
+use Rattle.rules.specs.Refusal.{first_of}
+use Rattle.element.proofs.Asked.{absent, standing_to}
+use borrow.Author.Rules.{rules}
+use Rattle.datatype.proofs.said.time_at.Goals as goal
+
+pub returns-then-place-eq0 : goal.returns-then-place-eq0
+returns-then-place-eq0 c = λ o p. rw (absent p c.if-place-eq0.true) (refl, refl)
+
+pub moment-read-requires : goal.moment-read-requires
+moment-read-requires c = record { fact_1 = c.end-end.ensures.on_1 (omega (arith, c.requires.fact_1, c.if-place-eq0.false)); fact_2 = c.end-end.ensures.on_2; fact_3 = c.requires.fact_2 }
+
+pub returns-in_default : goal.returns-in_default
+returns-in_default c = λ o p.
+    let (w, is, x) = standing_to p c.if-place-eq0.false c.end-end.ensures.tells in
+    rw (is, sym (c.moment-read.ensures w x)) (c.fault_of.ensures, rw c.in_default.is)
+
+pub returns : goal.returns
+unfolding first_of
+returns c = λ o p.
+    let (w, is, x) = standing_to p c.if-place-eq0.false c.end-end.ensures.tells in
+    rw (is, sym (c.moment-read.ensures w x), c.in-At.is) (refl, refl)

@@ -1,0 +1,43 @@
+-- `datatype::sides::after_child` meets its contract.
+use Prim.Native.Nat.{ℕ}
+use mathlib.Core.Path.{sym, ◌∙◌, ap}
+use mathlib.Core.List.{List}
+use borrow.Author.Tests.{not-true, not-false}
+use Rattle.rules.specs.Basics.{same}
+use Rattle.rules.proofs.Tests.{clash}
+use Rattle.datatype.proofs.Finding.{seen_before, other_name, seen_now}
+use borrow.Author.Rules.{rules}
+use Rattle.datatype.proofs.sides.after_child.Goals as goal
+
+pub returns-then-first : goal.returns-then-first
+returns-then-first c = record { settled = (λ h. h); tells = λ d v after h. seen_before c.args.shift c.args.name.now v c.args.first c.if-first.true }
+
+pub slice_bounds-is_same-count : goal.slice_bounds-is_same-count
+slice_bounds-is_same-count c = c.requires.fact_1.name
+
+pub slice_bounds-is_same-start : goal.slice_bounds-is_same-start
+slice_bounds-is_same-start c = c.requires.fact_1.name
+
+pub slice_bounds-is_same-end : goal.slice_bounds-is_same-end
+slice_bounds-is_same-end c = c.requires.fact_1.past
+
+pub returns-then-not-is_same : goal.returns-then-not-is_same
+returns-then-not-is_same c =
+    let at-if1 = c in
+    let start = at-if1 in record {
+      settled = (λ h. h);
+      tells = λ d v after h.
+          other_name start.args.shift start.args.name.now v start.args.first at-if1.if-first.false
+          (ap (λ (x : List ℕ). same x start.args.name.now) h.named ∙ sym c.is_same.ensures ∙ c.if-not-is_same.true);
+    }
+
+pub returns : goal.returns
+returns c =
+    let at-is-same = c in let at-if1 = at-is-same in
+    let start = at-if1 in record {
+      settled = (λ h e. clash (cc));
+      tells = λ d v after h.
+          seen_now start.args.shift start.args.name.now v start.args.first at-if1.if-first.false
+          (ap (λ (x : List ℕ). same x start.args.name.now) h.named ∙ sym at-is-same.is_same.ensures ∙ c.if-not-is_same.false) c.time_of-time.result.said
+          (c.time_of-time.ensures v.attrs h.tells).1;
+    }

@@ -1,0 +1,58 @@
+use Prim.Native.Nat.{◌-◌}
+use mathlib.Core.Path.{refl}
+use native.Mathlib.Omega.{arith}
+use borrow.Author.Rules.{rules}
+use lib.ListN.{length}
+use Rattle.datatype.specs.Sides.{Settled}
+use Rattle.element.proofs.Walks.{Walked, walk_begins, walk_less, walk_goes, walk_ends}
+use Rattle.datatype.proofs.Finding.{Sought, sought_goes, sought_ends}
+use Rattle.datatype.proofs.sides.read_sides.Goals as goal
+
+pub loop-i-init : goal.loop-i-init
+loop-i-init c = ((λ e. refl), (λ e. refl), walk_begins c.requires.fact_1.end (λ all. (refl, refl)))
+
+pub next_inside-next-requires : goal.next_inside-next-requires
+next_inside-next-requires c = let tag = c.requires.fact_1 in record { fact_1 = tag.name; fact_2 = tag.past; fact_3 = c.loop-i.invariant.2.within }
+
+pub read-child-requires : goal.read-child-requires
+read-child-requires c = omega (arith, (rw c.in-Child.is at c.next_inside-next.ensures).high)
+
+pub after_child-low-requires : goal.after_child-low-requires
+after_child-low-requires c = record { fact_1 = c.read-child.ensures.within.0; fact_2 = c.requires.fact_2 }
+
+pub after_child-high-requires : goal.after_child-high-requires
+after_child-high-requires c = record { fact_1 = c.read-child.ensures.within.0; fact_2 = c.requires.fact_2 }
+
+pub overflow_sub-depth : goal.overflow_sub-depth
+overflow_sub-depth c = let at_next = c in (rw at_next.in-Child.is at at_next.next_inside-next.ensures).deep
+
+pub past_element-at-requires : goal.past_element-at-requires
+past_element-at-requires c = c.read-child.ensures.within.0
+
+pub loop-i-smaller : goal.loop-i-smaller
+loop-i-smaller c =
+    let at_read = c in let at_next = at_read in
+    walk_less (rw at_next.in-Child.is at at_next.next_inside-next.ensures) (at_read.read-child.ensures.within, at_read.read-child.ensures.tells) c.past_element-at.ensures.within
+
+pub loop-i-preserved : goal.loop-i-preserved
+loop-i-preserved c =
+    let at-after-child = c in let at_read = at-after-child in let at_next = at_read in
+    let at-inside = at_next in let at-loop = at-inside in (
+      at-after-child.after_child-low.ensures.settled at-loop.loop-i.invariant.0,
+      c.after_child-high.ensures.settled at-loop.loop-i.invariant.1,
+      walk_goes (rw at_next.in-Child.is at at-inside.next_inside-next.ensures) (at_read.read-child.ensures.within, at_read.read-child.ensures.tells) at-loop.loop-i.invariant.2 c.past_element-at.ensures.within (λ all k v rest h p. (
+        c.past_element-at.ensures.tells v rest h,
+        sought_goes at-loop.args.shift at-loop.loop-i.low at-loop.loop-i.high v at-after-child.after_child-low.result c.after_child-high.result
+            (at-after-child.after_child-low.ensures.tells _ v rest h) (c.after_child-high.ensures.tells _ v rest h) all k p,
+      )),
+    )
+
+pub returns-in-Past : goal.returns-in-Past
+returns-in-Past c =
+    let at-inside = c in let l = at-inside.loop-i in let n = rw c.in-Past.is at at-inside.next_inside-next.ensures in record {
+      within = (omega (arith, l.invariant.2.from, n.low), n.high);
+      tells = λ v after h.
+          let (p, e) = walk_ends n l.invariant.2 v after h in
+          let (x, y) = sought_ends at-inside.args.shift l.low l.high l.invariant.0 l.invariant.1 v.kids p in
+          (x, y, e);
+    }
