@@ -1,5 +1,6 @@
 // The faults of a record: each of its elements judged by the table of types, each start tag read once. The first on the ladder is given.
 #![tactic(auto)]
+
 ghost use Rattle.std.specs.Prelude.{List, ℕ, ◌≤◌, length};
 ghost use Rattle.rules.specs.Markup.{Element};
 ghost use Rattle.element.specs.Tags.{TagOf, TagIn};

@@ -1,6 +1,7 @@
 // Listing: the set of times that a record writes, as its stretches (the page's term), and whether a place is in it. The contracts go from
 // a record as it is held after checking to what is answered.
 #![tactic(auto)]
+
 ghost use Rattle.std.specs.Prelude.{◌≡◌, true, List, [], ℕ, ◌^◌, ◌≤◌, ◌<◌};
 ghost use Rattle.rules.specs.Markup.{Element};
 ghost use Rattle.rules.specs.Judge.{top_faults};

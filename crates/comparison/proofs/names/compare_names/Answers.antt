@@ -1,0 +1,69 @@
+use Prim.Native.Nat.{◌-◌}
+use native.Mathlib.Omega.{arith}
+use lib.ListN.{length}
+use borrow.Author.Rules.{rules}
+use Rattle.element.proofs.Walks.{walk_less}
+use Rattle.comparison.specs.Meaning.{answer_meant}
+use Rattle.comparison.proofs.Parts.{Compared, parts_begin, part, parts_more, parts-end, parts_over, parts_under}
+use Rattle.comparison.proofs.names.compare_names.Goals as goal
+
+pub loop-p-init : goal.loop-p-init
+loop-p-init c = parts_begin c.requires.fact_1.end c.requires.fact_2.end
+
+pub next_inside-first-requires : goal.next_inside-first-requires
+next_inside-first-requires c = let tag = c.requires.fact_1 in record { fact_1 = tag.name; fact_2 = tag.past; fact_3 = c.loop-p.invariant.first }
+
+pub next_inside-second-requires : goal.next_inside-second-requires
+next_inside-second-requires c = let tag = c.requires.fact_2 in record { fact_1 = tag.name; fact_2 = tag.past; fact_3 = c.loop-p.invariant.second }
+
+pub returns-in_default : goal.returns-in_default
+returns-in_default c = λ n v w after rest g k.
+    let at_second = c in
+    parts_over at_second.loop-p.invariant g k (rw c.in-Child.is at at_second.next_inside-first.ensures)
+    (rw c.in_default.is at at_second.next_inside-second.ensures)
+
+pub read-part-requires : goal.read-part-requires
+read-part-requires c = omega (arith, (rw c.in-Child.is at c.next_inside-first.ensures).high)
+
+pub read-other-requires : goal.read-other-requires
+read-other-requires c = omega (arith, (rw c.in-Child-second.is at c.next_inside-second.ensures).high)
+
+pub compare_parts-requires : goal.compare_parts-requires
+compare_parts-requires c = record { fact_1 = c.read-part.ensures.within.0; fact_2 = c.read-other.ensures.within.0 }
+
+pub overflow_sub-depth : goal.overflow_sub-depth
+overflow_sub-depth c = c.requires.fact_3
+
+pub past_element-i-requires : goal.past_element-i-requires
+past_element-i-requires c = c.read-part.ensures.within.0
+
+pub overflow_sub-depth-in-Child : goal.overflow_sub-depth-in-Child
+overflow_sub-depth-in-Child c = c.requires.fact_3
+
+pub past_element-j-requires : goal.past_element-j-requires
+past_element-j-requires c = c.read-other.ensures.within.0
+
+pub loop-p-smaller : goal.loop-p-smaller
+loop-p-smaller c =
+    let at_read = c in let at_first = at_read in
+    walk_less (rw at_first.in-Child.is at at_first.next_inside-first.ensures) (at_read.read-part.ensures.within, at_read.read-part.ensures.tells) c.past_element-i.ensures.within
+
+pub loop-p-preserved : goal.loop-p-preserved
+loop-p-preserved c =
+    let at_read = c in let at_second = at_read in let at_first = at_second in
+    let at-inside2 = at_first in let at-inside = at-inside2 in
+    let p = part (rw at_first.in-Child.is at at-inside.next_inside-first.ensures) (at_read.read-part.ensures.within, at_read.read-part.ensures.tells) (c.past_element-i.ensures.within, c.past_element-i.ensures.tells) in
+    let q = part (rw at_second.in-Child-second.is at at-inside2.next_inside-second.ensures) (c.read-other.ensures.within, c.read-other.ensures.tells) (c.past_element-j.ensures.within, c.past_element-j.ensures.tells) in
+    parts_more at-inside.loop-p.invariant p q c.compare_parts.ensures c.also-answer.ensures
+
+pub returns-in_default-second : goal.returns-in_default-second
+returns-in_default-second c = λ n v w after rest g k.
+    let at_second = c in
+    parts_under at_second.loop-p.invariant g k (rw c.in-Past.is at at_second.next_inside-first.ensures)
+    (rw c.in_default-second.is at at_second.next_inside-second.ensures)
+
+pub returns-in-Past : goal.returns-in-Past
+returns-in-Past c = λ n v w after rest g k.
+    let at_second = c in
+    parts-end at_second.loop-p.invariant g k (rw c.in-Past.is at at_second.next_inside-first.ensures)
+    (rw c.in-Past-second.is at at_second.next_inside-second.ensures)

@@ -1,0 +1,6 @@
+-- `comparison::times::compare_endpoints` meets its contract.
+use borrow.Author.Rules.{rules}
+use Rattle.comparison.proofs.times.compare_endpoints.Goals as goal
+
+pub returns-in-Valued : goal.returns-in-Valued
+returns-in-Valued c = rw c.in-Valued.is c.compare_valued.ensures

@@ -1,0 +1,19 @@
+-- `judge::judge_content` meets its contract. The depth falls from an element to its children.
+use Prim.Native.Nat.{ℕ, ◌-◌, ◌<◌}
+use native.Mathlib.Omega.{arith}
+use mathlib.Core.Path.{sym, subst}
+use lib.ListN.{length}
+use borrow.Author.Rules.{rules}
+use Rattle.datatype.specs.Meaning.{kind_meant}
+use Rattle.element.proofs.Walks.{Walked, walk_less, walk_goes}
+use Rattle.judge.proofs.Walking.{Judges, judged-first, judged-next, judged_last}
+use Rattle.judge.proofs.+judge_content.Given as goal
+
+abbrev pub decreases-judge_content : goal.decreases-judge_content
+decreases-judge_content l = MEASURE
+
+abbrev pub invariant-loop-i : goal.invariant-loop-i
+invariant-loop-i l = Walked l.s l.tag l.depth l.row.end (Judges l.shift (kind_meant l.kind) l.row)
+
+abbrev pub decreases-loop-i : goal.decreases-loop-i
+decreases-loop-i l = length l.s - l.row.end

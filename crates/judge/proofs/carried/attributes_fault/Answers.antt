@@ -1,0 +1,64 @@
+use Prim.Native.Nat.{◌-◌, ◌≤◌}
+use mathlib.Core.Path.{◌≡◌, sym}
+use mathlib.Core.List.{List}
+use mathlib.Core.Logic.{⊎_elim}
+use native.Mathlib.Omega.{arith}
+use Rattle.rules.specs.Refusal.{earlier}
+use Rattle.rules.specs.Markup.{Attribute}
+use Rattle.rules.specs.Types.{TS}
+use Rattle.rules.specs.Judge.{attribute_faults}
+use Rattle.rules.proofs.Precedence.{earlier-none_right}
+use Rattle.refusal.specs.Meaning.{fault_of}
+use Rattle.element.specs.Names.{known}
+use Rattle.element.specs.Tags.{Tells}
+use Rattle.element.proofs.Asked.{absent}
+use Rattle.datatype.specs.Meaning.{kind_meant}
+use Rattle.datatype.specs.Tables.{standing_meant}
+use Rattle.datatype.specs.Said.{time_fault}
+use Rattle.judge.proofs.ByNumber.{below, below_more, below_none}
+use Rattle.judge.proofs.Strange.{all-judged}
+use borrow.Author.Rules.{rules}
+use Rattle.judge.proofs.carried.attributes_fault.Goals as goal
+
+pub loop-n-init : goal.loop-n-init
+unfolding below
+loop-n-init c = (omega arith, λ l t h. sym (earlier-none_right (fault_of c.others_fault-so_far.result)))
+
+pub offset_bounds-tag-n : goal.offset_bounds-tag-n
+offset_bounds-tag-n c = omega (arith, c.loop-n-test.true)
+
+pub bounds-tag-n : goal.bounds-tag-n
+bounds-tag-n c = omega (arith, c.loop-n-test.true)
+
+pub attribute_fault-requires : goal.attribute_fault-requires
+attribute_fault-requires c =
+    let q = c.requires.fact_1.placed c.loop-n.n in
+    record { fact_1 = c.loop-n-test.true; fact_2 = omega (arith, c.if-place-ne0.true); fact_3 = omega (arith, q, c.if-place-ne0.true); fact_4 = c.requires.fact_2 }
+
+pub overflow_add-n : goal.overflow_add-n
+overflow_add-n c = omega (arith, c.loop-n-test.true)
+
+pub loop-n-smaller : goal.loop-n-smaller
+loop-n-smaller c = omega (arith, c.loop-n-test.true)
+
+pub loop-n-preserved : goal.loop-n-preserved
+loop-n-preserved c = (
+  omega (arith, c.loop-n-test.true),
+  λ l t h.
+      let n = c.loop-n.n in
+      let a = c.args in
+      let f = attribute_faults a.shift (standing_meant a.standing) (kind_meant a.kind) in
+      let at = t.placed n c.loop-n-test.true in
+      let o = fault_of c.others_fault-so_far.result in
+      let i = c.loop-n.invariant.1 l t h in
+      ⊎_elim
+      (λ w. rw w.3 (below_more f l n o i (w.1.ensures l at h) w.2.ensures))
+      (λ w. rw w.1 (below_none f l n o i (absent at w.0.left)))
+      c.if-place-ne0.branch,
+)
+
+pub returns : goal.returns
+returns c = λ d v after t h.
+    let a = c.args in
+    all-judged a.shift (standing_meant a.standing) (kind_meant a.kind) v.attrs t.distinct
+    (omega (arith, c.loop-n-test.false, c.loop-n.invariant.0)) (c.others_fault-so_far.ensures v.attrs t.others t.namespaces) (c.loop-n.invariant.1 v.attrs t.tells h)

@@ -1,0 +1,54 @@
+use Prim.Native.Nat.{ℕ, ◌-◌, ◌≤◌}
+use mathlib.Core.Path.{◌≡◌, sym, ◌∙◌}
+use mathlib.Core.List.{List}
+use native.Mathlib.Omega.{arith}
+use Rattle.rules.specs.Basics.{exists}
+use Rattle.rules.specs.Markup.{Attribute}
+use Rattle.rules.specs.Types.{line_of}
+use Rattle.rules.specs.Judge.{carries}
+use Rattle.element.specs.Names.{known}
+use Rattle.element.specs.Tags.{Tells}
+use Rattle.datatype.specs.Meaning.{kind_meant}
+use Rattle.judge.proofs.OwnColumns.{own_from, own_numbers, own_end, own_found, own_passed, own_told}
+use borrow.Author.Rules.{rules}
+use Rattle.judge.proofs.carried.has_own.Goals as goal
+
+pub loop-n-init : goal.loop-n-init
+loop-n-init c = (omega arith, λ s l t. own_numbers (kind_meant c.args.kind) l)
+
+pub own_column-requires : goal.own_column-requires
+own_column-requires c = omega (arith, c.loop-n-test.true)
+
+pub offset_bounds-tag-n : goal.offset_bounds-tag-n
+offset_bounds-tag-n c = omega (arith, c.loop-n-test.true)
+
+pub bounds-tag-n : goal.bounds-tag-n
+bounds-tag-n c = omega (arith, c.loop-n-test.true)
+
+pub returns-then-is_column-tag : goal.returns-then-is_column-tag
+returns-then-is_column-tag c = λ s l t.
+    let n = c.loop-n.n in
+    let k = kind_meant c.args.kind in
+    let h = c.loop-n-test.true in
+    let e = own_told k l n c.own_column.ensures c.is_column.ensures (t.placed n h) c.if-is_column-tag.true in
+    sym (own_found k l n h e) ∙ c.loop-n.invariant.1 s l t
+
+pub overflow_add-n : goal.overflow_add-n
+overflow_add-n c = omega (arith, c.loop-n-test.true)
+
+pub loop-n-smaller : goal.loop-n-smaller
+loop-n-smaller c = omega (arith, c.loop-n-test.true)
+
+pub loop-n-preserved : goal.loop-n-preserved
+loop-n-preserved c = (
+  omega (arith, c.loop-n-test.true),
+  λ s l t.
+      let n = c.loop-n.n in
+      let k = kind_meant c.args.kind in
+      let h = c.loop-n-test.true in
+      let e = own_told k l n c.own_column.ensures c.is_column.ensures (t.placed n h) c.if-is_column-tag.false in
+      sym (own_passed k l n h e) ∙ c.loop-n.invariant.1 s l t,
+)
+
+pub returns : goal.returns
+returns c = λ s l t. sym (own_end (kind_meant c.args.kind) l c.loop-n.n c.loop-n-test.false) ∙ c.loop-n.invariant.1 s l t

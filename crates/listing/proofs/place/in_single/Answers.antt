@@ -1,0 +1,14 @@
+-- `listing::place::in_single` meets its contract.
+use Rattle.interval.specs.Meaning.{place_of}
+use Rattle.listing.proofs.Placing.{within-written}
+use borrow.Author.Rules.{rules}
+use Rattle.listing.proofs.place.in_single.Goals as goal
+
+pub returns : goal.returns
+returns c =
+    let at-interval-of = c in let args = at-interval-of.args in record {
+      within = at-interval-of.interval_of-w.ensures.within;
+      tells = λ v after h.
+          let (w, e) = at-interval-of.interval_of-w.ensures.tells v after h in
+          (within-written at-interval-of.interval_of-w.result (place_of args.n args.gap) c.is_in.ensures w, e);
+    }

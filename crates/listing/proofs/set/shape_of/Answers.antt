@@ -1,0 +1,16 @@
+-- `listing::set::shape_of` meets its contract.
+use native.Mathlib.Omega.{arith}
+use Rattle.listing.proofs.Shapes.{untyped, typed}
+use borrow.Author.Rules.{rules}
+use Rattle.listing.proofs.set.shape_of.Goals as goal
+
+pub type_at-named-requires : goal.type_at-named-requires
+type_at-named-requires c = omega (arith, c.requires.placed 2)
+
+pub returns-in_default : goal.returns-in_default
+returns-in_default c = λ d v after h. untyped v.attrs (c.type_at-named.ensures v.attrs (h.tells.placed 2 (omega arith))) c.in_default.is
+
+pub returns : goal.returns
+returns c =
+    let at_named = c in let at-type-at = at_named in
+    λ d v after h. typed v.attrs (at-type-at.type_at-named.ensures v.attrs (h.tells.placed 2 (omega arith))) at_named.in-Is.is c.shape_of_kind.ensures

@@ -1,0 +1,10 @@
+-- `totals::part::has_stray` meets its contract. The loop's invariant: none of the first k rows is of neither desk.
+use Rattle.std.proofs.Common.{◌-◌, refl, arith, rules}
+use Rattle.totals.proofs.Owners.{SoFar, begin, stray, more, none_stray}
+use Rattle.totals.proofs.part.has_stray.Given as goal
+
+abbrev pub invariant-loop-k : goal.invariant-loop-k
+invariant-loop-k l = SoFar l.numbers l.held l.k
+
+abbrev pub decreases-loop-k : goal.decreases-loop-k
+decreases-loop-k l = l.held - l.k

@@ -1,0 +1,11 @@
+-- `totals::report::put_rows` meets its contract. The loop's invariant: the first k rows are written.
+use Rattle.std.proofs.Common.{◌≡◌, ◌-◌, length, arith, length-set}
+use Rattle.totals.proofs.Rows.{length_mapped}
+use Rattle.totals.proofs.Putting.{SoFar, begin, more, all-put}
+use Rattle.totals.proofs.report.put_rows.Given as goal
+
+abbrev pub invariant-loop-k : goal.invariant-loop-k
+invariant-loop-k l = SoFar l.initial.out l.t l.out l.k
+
+abbrev pub decreases-loop-k : goal.decreases-loop-k
+decreases-loop-k l = l.t.held - l.k

@@ -1,0 +1,11 @@
+-- `totals::share::put_rest` meets its contract. The loop's invariant: the first rows are put, and the others are to come.
+use Rattle.std.proofs.Common.{◌≡◌, ◌-◌, length, arith}
+use Rattle.totals.proofs.Rows.{length_mapped}
+use Rattle.totals.proofs.Sharing.{RestSoFar, begin_rest, more_rest, all_rest}
+use Rattle.totals.proofs.share.put_rest.Given as goal
+
+abbrev pub invariant-loop-i : goal.invariant-loop-i
+invariant-loop-i l = RestSoFar l.initial.numbers l.desk l.t l.j l.k l.numbers l.i l.at
+
+abbrev pub decreases-loop-i : goal.decreases-loop-i
+decreases-loop-i l = l.t.held - l.i
