@@ -4,7 +4,6 @@ use mathlib.Core.Path.{◌≡◌, refl}
 use mathlib.Core.Bool.{Bool, true, false}
 use mathlib.Core.List.{List, [], ◌∷◌}
 use denote.Enum.Declared.{tag_of}
-use types.Run.{OneOf, miss}
 use lib.Dec.{leb, ltb}
 use Rattle.rules.specs.Timestamp.{Moment}
 use Rattle.rules.specs.Invariants.{high, is_pushed, Endpoint, valued, is_crossed}
@@ -14,6 +13,7 @@ use Rattle.rules.proofs.TickOrder.{crossed}
 use Rattle.datatype.specs.Meaning.{kind_meant}
 use Rattle.datatype.specs.Said.{said_meant, endpoint_said}
 use Rattle.datatype.specs.declared.bounds.Side.TheVariants.{Low, High}
+use Rattle.timestamp.specs.declared.Moment.{Moment as Known}
 use Rattle.datatype.specs.declared.said.Said.{Said}
 use Rattle.datatype.specs.declared.said.Said.TheVariants.{Valued, Below, Above, Nothing}
 use Rattle.datatype.specs.declared.kind.Kind.{Kind}
@@ -23,16 +23,16 @@ use Rattle.datatype.specs.contracts.said.Said as said
 
 -- no value is said
 abbrev Unvalued : Said → Type 0
-Unvalued x = OneOf (1 ∷ 2 ∷ 3 ∷ []) (tag_of said.the_type x)
+Unvalued x = (m : Known) → x ≡ Valued m → ⊥
 
 pub low_unvalued : (closed : Bool) (x : Said) (h : Endpoint) → Unvalued x → false ≡ is_crossed closed (endpoint_said Low (said_meant x)) h
-low_unvalued closed (Valued m) h e = absurd (miss (1 ∷ 2 ∷ 3 ∷ []) 0 tt e)
+low_unvalued closed (Valued m) h e = absurd (e m refl)
 low_unvalued closed Below h e = refl
 low_unvalued closed Above h e = refl
 low_unvalued closed Nothing h e = refl
 
 pub high_unvalued : (closed : Bool) (l : Moment) (x : Said) → Unvalued x → false ≡ is_crossed closed (valued l) (endpoint_said High (said_meant x))
-high_unvalued closed l (Valued m) e = absurd (miss (1 ∷ 2 ∷ 3 ∷ []) 0 tt e)
+high_unvalued closed l (Valued m) e = absurd (e m refl)
 high_unvalued closed l Below e = refl
 high_unvalued closed l Above e = refl
 high_unvalued closed l Nothing e = refl
@@ -44,11 +44,8 @@ crossed_pushed closed l h e = rw (crossed closed l h, e)
 pub crossed_unpushed : (closed : Bool) (l h : Moment) → is_pushed high closed h ≡ false → ltb h.start l.start ≡ is_crossed closed (valued l) (valued h)
 crossed_unpushed closed l h e = rw (crossed closed l h, e)
 
-abbrev others : List ℕ
-others = 0 ∷ 2 ∷ 3 ∷ 4 ∷ 5 ∷ 6 ∷ 7 ∷ 8 ∷ 9 ∷ 10 ∷ []
-
-pub no_interval : {P : Type 0} (k : Kind) → OneOf others (tag_of kind.the_type k) → kind_meant k ≡ IVL_TS → P
-no_interval IvlTs h e = absurd (miss others 1 tt h)
+pub no_interval : {P : Type 0} (k : Kind) → (k ≡ IvlTs → ⊥) → kind_meant k ≡ IVL_TS → P
+no_interval IvlTs h e = absurd (h refl)
 no_interval Ts h e = clash (cc)
 no_interval QsuTs h e = clash (cc)
 no_interval QsiTs h e = clash (cc)

@@ -3,7 +3,6 @@ use mathlib.Core.Path.{◌≡◌, refl}
 use mathlib.Core.Bool.{false}
 use mathlib.Core.List.{List, [], ◌∷◌}
 use denote.Enum.Declared.{tag_of}
-use types.Run.{OneOf, miss}
 use Rattle.rules.specs.Basics.{exists}
 use Rattle.rules.specs.Markup.{Attribute}
 use Rattle.rules.specs.Types.{line_of}
@@ -13,7 +12,7 @@ use Rattle.datatype.specs.declared.kind.Kind.TheVariants.{Ts, IvlTs, QsuTs, QsiT
 use Rattle.datatype.specs.Meaning.{kind_meant}
 use Rattle.datatype.specs.contracts.kind.Kind as kind
 
-pub none-required : (l : List Attribute) (k : Kind) → OneOf (0 ∷ 1 ∷ 2 ∷ 3 ∷ 4 ∷ 5 ∷ 6 ∷ 7 ∷ 8 ∷ 10 ∷ []) (tag_of kind.the_type k)
+pub none-required : (l : List Attribute) (k : Kind) → (k ≡ DisplayName → ⊥)
     → false ≡ exists (lacks l) (line_of (kind_meant k)).columns
 unfolding line_of exists
 none-required l Ts e = refl
@@ -25,5 +24,5 @@ none-required l Mo e = refl
 none-required l Ii e = refl
 none-required l Cd e = refl
 none-required l En e = refl
-none-required l DisplayName e = absurd (miss (0 ∷ 1 ∷ 2 ∷ 3 ∷ 4 ∷ 5 ∷ 6 ∷ 7 ∷ 8 ∷ 10 ∷ []) 9 tt e)
+none-required l DisplayName e = absurd (e refl)
 none-required l Part e = refl

@@ -59,7 +59,7 @@ row_faults shift k null j (node n attrs kids rest) =
 pub row_any : (shift : ℕ) (k : Kind) (j : Judging) (l : Nodes) → (row_after shift k j l).any ≡ (has_children l || j.any)
 unfolding row_after
 row_any shift k j end = refl
-row_any shift k j (node n attrs kids rest) = go (has_children rest) (row_any shift k _ rest)
+row_any shift k j (node n attrs kids rest) = go (has_children rest) (row_any shift k (row_step shift k j (record { name = n; attrs = attrs; kids = kids })) rest)
   where
     go : (b : Bool) {x : Bool} → x ≡ (b || true) → x ≡ true
     go true e = e
@@ -76,7 +76,7 @@ shape_hides o = earlier_assoc o (some SHAPE) (some RULE)
 pub hides_on : (shift : ℕ) (k : Kind) (j : Judging) (l : Nodes) → Hides j.fault → Hides (row_after shift k j l).fault
 unfolding row_after
 hides_on shift k j end h = h
-hides_on shift k j (node n attrs kids rest) h = hides_on shift k _ rest (hides_more j.fault _ h)
+hides_on shift k j (node n attrs kids rest) h = hides_on shift k (row_step shift k j (record { name = n; attrs = attrs; kids = kids })) rest (hides_more j.fault _ h)
 
 -- an invariant beside a fault before RULE
 pub hidden : (x y w : Option Refusal) (b c : Bool) → Hides w → earlier (earlier x (earlier y (first_of (RULE when b)))) w ≡ earlier (earlier x (earlier y (first_of (RULE when c)))) w

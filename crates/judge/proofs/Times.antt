@@ -3,7 +3,6 @@ use Prim.Native.Nat.{ℕ}
 use mathlib.Core.Path.{◌≡◌, refl}
 use mathlib.Core.List.{List, [], ◌∷◌}
 use denote.Enum.Declared.{tag_of}
-use types.Run.{OneOf, miss}
 use Rattle.rules.specs.Markup.{Attribute}
 use Rattle.rules.specs.Types.{TS}
 use Rattle.rules.proofs.Tests.{clash}
@@ -15,8 +14,8 @@ use Rattle.datatype.specs.declared.kind.Kind.TheVariants.{Ts, IvlTs, QsuTs, QsiT
 use Rattle.judge.specs.Rows.{said_of}
 
 module _ {P : Type 0} (shift : ℕ) (l : List Attribute) where
-  pub no_time : (k : Kind) → OneOf (1 ∷ 2 ∷ 3 ∷ 4 ∷ 5 ∷ 6 ∷ 7 ∷ 8 ∷ 9 ∷ 10 ∷ []) (tag_of kind.the_type k) → (kind_meant k ≡ TS → P) × (nothing ≡ said_of (kind_meant k) shift l)
-  no_time Ts e = absurd (miss (1 ∷ 2 ∷ 3 ∷ 4 ∷ 5 ∷ 6 ∷ 7 ∷ 8 ∷ 9 ∷ 10 ∷ []) 0 tt e)
+  pub no_time : (k : Kind) → (k ≡ Ts → ⊥) → (kind_meant k ≡ TS → P) × (nothing ≡ said_of (kind_meant k) shift l)
+  no_time Ts e = absurd (e refl)
   no_time IvlTs e = (λ z. clash (cc), refl)
   no_time QsuTs e = (λ z. clash (cc), refl)
   no_time QsiTs e = (λ z. clash (cc), refl)

@@ -5,7 +5,6 @@ use mathlib.Core.Bool.{Bool, true, false, cond}
 use mathlib.Core.List.{List, [], ◌∷◌}
 use mathlib.Core.Option.{Option, none, some}
 use denote.Enum.Declared.{tag_of}
-use types.Run.{OneOf, miss}
 use Rattle.rules.specs.Basics.{is_some, bytes, same, find}
 use Rattle.rules.specs.Markup.{Attribute, Element, lookup}
 use Rattle.rules.specs.Types.{Kind as RulesKind, TS, IVL_TS, QSU_TS, QSI_TS, QSD_TS, MO, II, CD, EN, DisplayName as Display, Part as NamePart, name_of, member_types, all_types, has_type, type_among}
@@ -75,21 +74,18 @@ module _ (attrs : List Attribute) where
         go Part t = absurd t
 
 -- the kinds that write neither
-abbrev others : List ℕ
-others = 0 ∷ 5 ∷ 6 ∷ 7 ∷ 8 ∷ 9 ∷ 10 ∷ []
-
-pub other-kind : (k : Kind) → OneOf others (tag_of kind.the_type k) → Other ≡ shape_of k
-other-kind IvlTs e = absurd (miss others 1 tt e)
-other-kind QsuTs e = absurd (miss others 2 tt e)
-other-kind QsiTs e = absurd (miss others 3 tt e)
-other-kind QsdTs e = absurd (miss others 4 tt e)
-other-kind Ts e = refl
-other-kind Mo e = refl
-other-kind Ii e = refl
-other-kind Cd e = refl
-other-kind En e = refl
-other-kind DisplayName e = refl
-other-kind Part e = refl
+pub other-kind : (k : Kind) → (k ≡ IvlTs → ⊥) → (k ≡ QsuTs → ⊥) → (k ≡ QsiTs → ⊥) → (k ≡ QsdTs → ⊥) → Other ≡ shape_of k
+other-kind IvlTs a b c d = absurd (a refl)
+other-kind QsuTs a b c d = absurd (b refl)
+other-kind QsiTs a b c d = absurd (c refl)
+other-kind QsdTs a b c d = absurd (d refl)
+other-kind Ts a b c d = refl
+other-kind Mo a b c d = refl
+other-kind Ii a b c d = refl
+other-kind Cd a b c d = refl
+other-kind En a b c d = refl
+other-kind DisplayName a b c d = refl
+other-kind Part a b c d = refl
 
 -- the name of the kind that a text names
 named-is : (kinds : List RulesKind) (v : List ℕ) {k : RulesKind} → named_among kinds v ≡ some k → v ≡ name_of k

@@ -2,7 +2,6 @@
 use Rattle.std.proofs.Common.{◌≡◌, ℕ, Bool, true, false, cond, List, [], ◌∷◌, ℤ, sym, refl, ap, ◌∙◌}
 use mathlib.Core.Option.{none, some}
 use denote.Enum.Declared.{tag_of}
-use types.Run.{OneOf, miss}
 use Rattle.rules.specs.Basics.{if_some, find, bytes}
 use Rattle.rules.specs.Refusal.{answered}
 use Rattle.rules.specs.Markup.{Element, lookup}
@@ -37,23 +36,20 @@ found p (j ∷ kinds) {k} e = go (p j) refl e (found p kinds)
 pub is_mo : {s : List ℕ} {e : Element} {r : Record} → RecordOf s e r → r.kind ≡ Mo → true ≡ has_type e.attrs MO
 is_mo {s} {e} {r} h z = sym (found (has_type e.attrs) all_types (h.kind ∙ ap (λ k. some (kind_meant k)) z))
 
-abbrev others : List ℕ
-others = 0 ∷ 1 ∷ 2 ∷ 3 ∷ 4 ∷ 6 ∷ 7 ∷ 8 ∷ 9 ∷ 10 ∷ []
-
-other-kind : (k : Kind) → OneOf others (tag_of kind.the_type k) → kind_meant k ≡ MO → ⊥
+other-kind : (k : Kind) → (k ≡ Mo → ⊥) → kind_meant k ≡ MO → ⊥
 other-kind Ts e z = clash (cc)
 other-kind IvlTs e z = clash (cc)
 other-kind QsuTs e z = clash (cc)
 other-kind QsiTs e z = clash (cc)
 other-kind QsdTs e z = clash (cc)
-other-kind Mo e z = miss others 5 tt e
+other-kind Mo e z = e refl
 other-kind Ii e z = clash (cc)
 other-kind Cd e z = clash (cc)
 other-kind En e z = clash (cc)
 other-kind DisplayName e z = clash (cc)
 other-kind Part e z = clash (cc)
 
-pub is-other : {s : List ℕ} {e : Element} {r : Record} → RecordOf s e r → OneOf others (tag_of kind.the_type r.kind) → false ≡ has_type e.attrs MO
+pub is-other : {s : List ℕ} {e : Element} {r : Record} → RecordOf s e r → (r.kind ≡ Mo → ⊥) → false ≡ has_type e.attrs MO
 is-other {s} {e} {r} h o = go (has_type e.attrs MO) refl
   where
     go : (b : Bool) → has_type e.attrs MO ≡ b → false ≡ b

@@ -10,7 +10,7 @@ use Rattle.judge.proofs.Walking.{Judges, judged-first, judged-next, judged_last}
 use Rattle.judge.proofs.+judge_content.Given as goal
 
 abbrev pub decreases-judge_content : goal.decreases-judge_content
-decreases-judge_content l = MEASURE
+decreases-judge_content l = l.depth
 
 abbrev pub invariant-loop-i : goal.invariant-loop-i
 invariant-loop-i l = Walked l.s l.tag l.depth l.row.end (Judges l.shift (kind_meant l.kind) l.row)

@@ -12,6 +12,4 @@ returns-in_default c = left_absent same_amount (amount_of c.args.b) (ap amount_o
 
 pub returns : goal.returns
 returns c =
-    let a = c.a-1.given in
-    let b = c.b-1.given in
-    both-present same_amount (ap amount_of a.1) (ap amount_of b.1) (same_number a.0.0 b.0.0 a.0.1.0 b.0.1.0)
+    both-present same_amount (ap amount_of c.in-Is.is) (ap amount_of c.in-Is-b.is) (same_number c.in-Is.m c.in-Is-b.n c.in-Is.x c.in-Is-b.y)

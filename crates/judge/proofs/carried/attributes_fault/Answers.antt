@@ -19,6 +19,7 @@ use Rattle.judge.proofs.ByNumber.{below, below_more, below_none}
 use Rattle.judge.proofs.Strange.{all-judged}
 use borrow.Author.Rules.{rules}
 use Rattle.judge.proofs.carried.attributes_fault.Goals as goal
+use Rattle.judge.proofs.carried.attributes_fault.Goals.{then-place-ne0, else-place-ne0}
 
 pub loop-n-init : goal.loop-n-init
 unfolding below
@@ -51,10 +52,10 @@ loop-n-preserved c = (
       let at = t.placed n c.loop-n-test.true in
       let o = fault_of c.others_fault-so_far.result in
       let i = c.loop-n.invariant.1 l t h in
-      ⊎_elim
-      (λ w. rw w.3 (below_more f l n o i (w.1.ensures l at h) w.2.ensures))
-      (λ w. rw w.1 (below_none f l n o i (absent at w.0.left)))
-      c.if-place-ne0.branch,
+      elim c.if-place-ne0.branch [
+        | then-place-ne0 w ↦ rw w.so_far-is (below_more f l n o i (w.attribute_fault.ensures l at h) w.first-so_far.ensures)
+        | else-place-ne0 w ↦ rw w.so_far-is (below_none f l n o i (absent at w.if-place-ne0.false))
+      ],
 )
 
 pub returns : goal.returns

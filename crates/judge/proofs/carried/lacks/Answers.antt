@@ -12,4 +12,4 @@ unfolding line_of exists
 returns-in-DisplayName c = λ s l t. rw (c.in-DisplayName.is, c.has.ensures s l t) (sym (or-false _))
 
 pub returns-in_default : goal.returns-in_default
-returns-in_default c = λ s l t. none-required l c.args.kind c.in_default.keys2
+returns-in_default c = λ s l t. none-required l c.args.kind c.in_default.not-DisplayName

@@ -10,4 +10,4 @@ pub returns-in-IvlTs : goal.returns-in-IvlTs
 returns-in-IvlTs c = λ shift l kids t e b. c.breaks_interval.ensures shift l kids (t.placed 3 (omega arith)) (t.placed 4 (omega arith)) b
 
 pub returns : goal.returns
-returns c = λ shift l kids t e. no_interval c.args.kind c.in_default.keys2 e
+returns c = λ shift l kids t e. no_interval c.args.kind c.in_default.not-IvlTs e

@@ -11,12 +11,12 @@ use borrow.Author.Rules.{rules}
 use Rattle.judge.proofs.rule.is_crossed.Goals as goal
 
 pub returns-in_default : goal.returns-in_default
-returns-in_default c = λ l p. low_unvalued _ c.args.low _ c.in_default.keys2
+returns-in_default c = λ l p. low_unvalued _ c.args.low _ c.in_default.not-Valued
 
 pub returns-in_default-high : goal.returns-in_default-high
 returns-in_default-high c = λ l p.
     let at_low = c in
-    rw at_low.in-Valued.is (high_unvalued _ (moment_of at_low.in-Valued.l) at_low.args.high c.in_default-high.keys2)
+    rw at_low.in-Valued.is (high_unvalued _ (moment_of at_low.in-Valued.l) at_low.args.high c.in_default-high.not-Valued)
 
 pub returns-then-l-h : goal.returns-then-l-h
 returns-then-l-h c = λ l p.

@@ -13,4 +13,4 @@ pub returns-in-QsdTs : goal.returns-in-QsdTs
 returns-in-QsdTs c = rw c.in-QsdTs.is
 
 pub returns-in_default : goal.returns-in_default
-returns-in_default c = other-kind c.args.kind c.in_default.keys5
+returns-in_default c = other-kind c.args.kind c.in_default.not-IvlTs c.in_default.not-QsuTs c.in_default.not-QsiTs c.in_default.not-QsdTs

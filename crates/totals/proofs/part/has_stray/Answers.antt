@@ -1,3 +1,4 @@
+use Rattle.std.proofs.Common.{ap, not}
 use Rattle.std.proofs.Common.{◌-◌, refl, arith, rules}
 use Rattle.totals.proofs.Owners.{SoFar, begin, stray, more, none_stray}
 use Rattle.totals.proofs.part.has_stray.Goals as goal
@@ -18,7 +19,7 @@ pub bounds-numbers-k : goal.bounds-numbers-k
 bounds-numbers-k c = omega (arith, c.loop-k-test.true, c.requires)
 
 pub returns-then-not-is_desk : goal.returns-then-not-is_desk
-returns-then-not-is_desk c = stray c.args.numbers.now _ c.loop-k.k c.loop-k.invariant c.loop-k-test.true c.is_desk.ensures c.if-not-is_desk.true
+returns-then-not-is_desk c = stray c.args.numbers.now _ c.loop-k.k c.loop-k.invariant c.loop-k-test.true c.is_desk.ensures (ap not c.if-not-is_desk.true)
 
 pub overflow_add-k-in-loop-k : goal.overflow_add-k-in-loop-k
 overflow_add-k-in-loop-k c = omega (arith, c.loop-k-test.true, c.requires)
@@ -27,7 +28,7 @@ pub loop-k-smaller : goal.loop-k-smaller
 loop-k-smaller c = omega (arith, c.loop-k-test.true, c.requires)
 
 pub loop-k-preserved : goal.loop-k-preserved
-loop-k-preserved c = more c.args.numbers.now _ c.loop-k.k c.loop-k.invariant c.loop-k-test.true c.is_desk.ensures c.if-not-is_desk.false
+loop-k-preserved c = more c.args.numbers.now _ c.loop-k.k c.loop-k.invariant c.loop-k-test.true c.is_desk.ensures (ap not c.if-not-is_desk.false)
 
 pub returns : goal.returns
 returns c = none_stray c.args.numbers.now _ c.loop-k.k c.loop-k.invariant c.loop-k-test.false

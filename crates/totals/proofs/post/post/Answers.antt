@@ -5,7 +5,7 @@ use Rattle.totals.proofs.Posting.{refused_as, null_as}
 use Rattle.totals.proofs.post.post.Goals as goal
 
 pub add-requires : goal.add-requires
-add-requires c = let all = (c.requires.fact_1, subst Readable c.in-Money.is c.requires.fact_2) in record { fact_1 = all.0; fact_2 = all.1; fact_3 = all.2 }
+add-requires c = let read = subst Readable c.in-Money.is c.requires.fact_2 in record { fact_1 = c.requires.fact_1; fact_2 = read.0; fact_3 = read.1 }
 
 pub returns-in-Null : goal.returns-in-Null
 returns-in-Null c = rw c.in-Null.is (null_as c.args.t c.requires.fact_1 refl refl)

@@ -16,7 +16,7 @@ pub put_rows-requires : goal.put_rows-requires
 put_rows-requires c = record { fact_1 = c.requires.fact_1; fact_2 = omega (arith, c.requires.fact_2, (counts-room c.args.out.now c.args.t c.requires.fact_2).2) }
 
 pub shape_of-out : goal.shape_of-out
-shape_of-out c = c.put_rows.auto.out.0 ∙ (counts-room c.args.out.now c.args.t c.requires.fact_2).2
+shape_of-out c = c.put_rows.auto.out ∙ (counts-room c.args.out.now c.args.t c.requires.fact_2).2
 
 pub returns : goal.returns
 returns c = c.put_rows.ensures ∙ counts-put c.args.out.now c.args.t c.requires.fact_2

@@ -15,9 +15,6 @@ overflow_mul-numbers-2 c = omega (arith, c.requires.fact_2)
 pub bounds-numbers-k : goal.bounds-numbers-k
 bounds-numbers-k c = omega (arith, c.requires.fact_2)
 
-pub overflow_mul-numbers-2 : goal.overflow_mul-numbers-2
-overflow_mul-numbers-2 c = omega (arith, c.requires.fact_2)
-
 pub overflow_add-numbers-2 : goal.overflow_add-numbers-2
 overflow_add-numbers-2 c = omega (arith, c.requires.fact_2)
 
