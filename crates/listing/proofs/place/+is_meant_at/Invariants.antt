@@ -11,7 +11,7 @@ use Rattle.listing.proofs.Placing.{means_single, means-other, means_members, Pla
 use Rattle.listing.proofs.place.+is_meant_at.Given as goal
 
 abbrev pub decreases-is_meant_at : goal.decreases-is_meant_at
-decreases-is_meant_at l = MEASURE
+decreases-is_meant_at l = l.depth
 
 abbrev pub invariant-loop-i : goal.invariant-loop-i
 invariant-loop-i l = Begun l.op l.any l.so_far × Walked l.s l.tag l.depth l.at (Placing l.shift l.op (place_of l.n l.gap) l.any l.so_far)

@@ -16,18 +16,15 @@ use Rattle.listing.proofs.set.+evaluate.Goals as goal
 pub returns-then-has : goal.returns-then-has
 returns-then-has t c =
     let at-nothing = c in let start = at-nothing in
-    none_said start.args.shift start.requires.0.end at-nothing.nothing-so_far.ensures (λ v after h.
+    let all = none_said start.args.shift start.requires.0.end at-nothing.nothing-so_far.ensures (λ v after h.
     (_, null-set start.args.shift v (c.has.ensures _ v.attrs h.tells) c.if-has.true))
-
--- clauses: ['formed', 'within', 'tells']
+    in record { formed = all.0; within = all.1.0; tells = all.1.1 }
 
 pub shape_of-shape-requires : goal.shape_of-shape-requires
 shape_of-shape-requires t c = c.requires.0
 
 pub of_single-so_far-requires : goal.of_single-so_far-requires
-of_single-so_far-requires t c = c.requires
-
--- clauses: ['fact_1', 'fact_2']
+of_single-so_far-requires t c = record { fact_1 = c.requires.0; fact_2 = c.requires.1 }
 
 pub returns-in-Single : goal.returns-in-Single
 returns-in-Single t c =
@@ -43,12 +40,11 @@ returns-in-Single t c =
 pub returns-in-Other : goal.returns-in-Other
 returns-in-Other t c =
     let at-shape-of = c in let at-if1 = at-shape-of in let at_has = at-if1 in let at-nothing = at_has in let start = at-nothing in
-    none_said start.args.shift start.requires.0.end at-nothing.nothing-so_far.ensures (λ v after h. (
+    let all = none_said start.args.shift start.requires.0.end at-nothing.nothing-so_far.ensures (λ v after h. (
       _,
       other-set start.args.shift v (at_has.has.ensures _ v.attrs h.tells) at-if1.if-has.false (rw c.in-Other.is at (at-shape-of.shape_of-shape.ensures _ v after h)),
     ))
-
--- clauses: ['formed', 'within', 'tells']
+    in record { formed = all.0; within = all.1.0; tells = all.1.1 }
 
 pub loop-i-init : goal.loop-i-init
 loop-i-init t c =

@@ -15,7 +15,7 @@ use Rattle.listing.proofs.Evaluating.{none_said, null-set, single_set, other-set
 use Rattle.listing.proofs.set.+evaluate.Given as goal
 
 abbrev pub decreases-evaluate : goal.decreases-evaluate
-decreases-evaluate l = MEASURE
+decreases-evaluate l = l.depth
 
 abbrev pub invariant-loop-i : goal.invariant-loop-i
 invariant-loop-i l = Formed l.so_far × Walked l.s l.tag l.depth l.so_far.end (Evaluating l.shift l.op l.so_far)
