@@ -1,5 +1,6 @@
 // The services, as a host in C calls them. Each asks nothing of its caller, and its answer is the rules' for every input.
 #![tactic(auto)]
+
 ghost use Rattle.std.specs.Prelude.{◌≡◌, Bool, true, List, ℕ, ◌+◌, ◌*◌, ◌^◌, ◌<◌, ◌≤◌};
 ghost use Rattle.rules.specs.Basics.{if_some};
 ghost use Rattle.rules.specs.Refusal.{number as pageNumber, first_of};

@@ -2,11 +2,7 @@
 use mir.Syntax.{w64}
 use mir.ValLaws.{to_z-of_z}
 use Rattle.rigcactus.proofs.Signed.{in_range_lem}
-use Rattle.rigcactus.proofs.is_offset.Statement.{statement}
-use Rattle.rigcactus.proofs.is_offset.Tie as tie
+use Rattle.rigcactus.proofs.is_offset.Goals as goal
 
-returns : tie.Need-returns
+pub returns : goal.returns
 returns c = rw (to_z-of_z w64 c.args.offset c.ranges.offset) (in_range_lem c.args.offset)
-
-pub is-offset-spec : {M : Type 1} → statement M
-is-offset-spec = tie.close (tie.spec returns)

@@ -1,0 +1,9 @@
+-- `rigcactus::first_refused` meets its contract.
+use native.Mathlib.Omega.{arith}
+use Rattle.rules.proofs.ListingPromise.{small}
+use Rattle.refusal.specs.Meaning.{refusal_of}
+use borrow.Author.Rules.{rules}
+use Rattle.rigcactus.proofs.first_refused.Goals as goal
+
+pub overflow_add-result : goal.overflow_add-result
+overflow_add-result c = omega (arith, c.number.ensures, small (refusal_of c.args.r))

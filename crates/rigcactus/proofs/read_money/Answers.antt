@@ -1,0 +1,34 @@
+-- `rigcactus::read_money` meets its contract.
+use mathlib.Core.Path.{◌≡◌, sym, ◌∙◌, ap, subst}
+use mir.ValLaws.{to_z-of_z}
+use mir.Syntax.{w64}
+use borrow.Author.Tests.{not-true, not-false}
+use Rattle.rules.specs.Check.{is_offset, shift_by}
+use Rattle.refusal.specs.Meaning.{fault_of}
+use Rattle.rules.proofs.ListingCases.{check_faultless}
+use Rattle.rigcactus.proofs.Held.{accepted-held}
+use Rattle.rigcactus.proofs.TypedFaults.{typed-accepted}
+use Rattle.rigcactus.proofs.MoneyWays.{is_money, refused-read, money-offset, money-refused, money-read}
+use borrow.Author.Rules.{rules}
+use Rattle.rigcactus.proofs.read_money.Goals as goal
+
+pub returns-then-not-is_offset : goal.returns-then-not-is_offset
+returns-then-not-is_offset c = refused-read c.args.offset c.args.«record».now (money-offset c.args.offset c.args.«record».now (sym (subst (λ z. c.is_offset.result ≡ is_offset z) (to_z-of_z w64 c.args.offset c.ranges.offset) c.is_offset.ensures) ∙ c.if-not-is_offset.true))
+
+pub shift_of-requires : goal.shift_of-requires
+shift_of-requires c = sym c.is_offset.ensures ∙ c.if-not-is_offset.false
+
+pub check-checked-requires : goal.check-checked-requires
+check-checked-requires c = c.shift_of.ensures.1
+
+pub returns-in-Refused : goal.returns-in-Refused
+returns-in-Refused c = refused-read c.args.offset c.args.«record».now (money-refused c.args.offset c.args.«record».now (sym (subst (λ z. c.is_offset.result ≡ is_offset z) (to_z-of_z w64 c.args.offset c.ranges.offset) c.is_offset.ensures) ∙ c.if-not-is_offset.false) (subst (λ z. c.shift_of.result ≡ shift_by z) (to_z-of_z w64 c.args.offset c.ranges.offset) c.shift_of.ensures.0) (sym (ap fault_of c.in-Refused.is) ∙ (c.typed_fault-fault.ensures c.shift_of.result c.args.«record».now is_money c.check-checked.ensures c.is_money.ensures)))
+
+pub read-requires : goal.read-requires
+read-requires c = c.check-checked.ensures.within
+
+pub returns : goal.returns
+returns c =
+    let (e, a, m) = typed-accepted is_money c.args.offset c.args.«record».now (sym (subst (λ z. c.is_offset.result ≡ is_offset z) (to_z-of_z w64 c.args.offset c.ranges.offset) c.is_offset.ensures) ∙ c.if-not-is_offset.false) (subst (λ z. c.shift_of.result ≡ shift_by z) (to_z-of_z w64 c.args.offset c.ranges.offset) c.shift_of.ensures.0) (sym (ap fault_of c.in_default.is) ∙ (c.typed_fault-fault.ensures c.shift_of.result c.args.«record».now is_money c.check-checked.ensures c.is_money.ensures)) in
+    let (x, y) = c.read.ensures e (shift_by c.args.offset) (accepted-held c.check-checked.result c.check-checked.ensures c.args.offset e a) (check_faultless c.args.offset c.args.«record».now a) m in
+    (x, y ∙ money-read c.args.offset c.args.«record».now e a m)

@@ -1,0 +1,9 @@
+-- `rigcactus::verdict_number` meets its contract.
+use borrow.Author.Rules.{rules}
+use Rattle.rigcactus.proofs.verdict_number.Goals as goal
+
+pub returns-in-Accepted : goal.returns-in-Accepted
+returns-in-Accepted c = rw c.in-Accepted.is
+
+pub returns-in-Refused : goal.returns-in-Refused
+returns-in-Refused c = rw c.in-Refused.is c.number.ensures
