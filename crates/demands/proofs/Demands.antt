@@ -23,7 +23,7 @@ use Rattle.rules.proofs.Precedence.{number_injective, first-is, no_fault, unless
 use Rattle.rules.proofs.CheckRefusals.{Pass, pass-append, pass_when, first_passes, read_passes, check_refusals}
 use Rattle.rules.proofs.Ticks.{precision-range}
 use Rattle.rules.proofs.Utf8.{cut-whole, cut_fits, cut-longest}
-use Rattle.rules.proofs.ListingCases.{faulty_early, faulty, other-type, unclear, many, a_set, case}
+use Rattle.rules.proofs.ListingCases.{faulty_early, faulty, other_type, unclear, many, a_set, case}
 use Rattle.rules.proofs.ListingPromise.{count_bits, listing_promise}
 use Rattle.rules.proofs.LentLists.{signed_eight}
 use Rattle.rules.proofs.ComparedRecords.{says as says-answer, comparison_of}
@@ -31,11 +31,11 @@ use Rattle.rules.proofs.ComparisonPromise.{names-first, names-second, comparison
 use Rattle.demands.specs.Services.{services, result_in, is_among, Answers, accepts, refuses, Compares, says, names}
 use Rattle.demands.specs.Demands.{time_refusals, record_refusals, list_refusals, IsFirst, time_faults, cut_faults, IsCut, Demand2, Demand3, Demands}
 use Rattle.demands.proofs.Answers.{iff_trans, record_among, packed-refused, packed-accepted, packed-answers}
-use Rattle.demands.proofs.Printing.{print-answers, print_promise}
+use Rattle.demands.proofs.Printing.{print_answers, print_promise}
 use Rattle.demands.proofs.Years.{years_kept}
 use Rattle.demands.proofs.WrongTimes.{wrong-times_kept}
 use Rattle.demands.proofs.LastDay.{last_day_kept}
-use Rattle.demands.proofs.DesksAnswers.{start-answers, add-answers, report-answers}
+use Rattle.demands.proofs.DesksAnswers.{start_answers, add_answers, report_answers}
 use Rattle.demands.proofs.Desks.{totals_kept, desks_kept}
 
 -- checking
@@ -43,8 +43,8 @@ module _ (offset : ℤ) (input : List ℕ) where
   among_checked : (r : Refusal) → check offset input ≡ refused r → is_among record_refusals r ≡ true
   among_checked r e = (record_among r (check_refusals offset input e)).0
 
-  check-answers : Answers record_refusals (λ n. n ≡ 0) (Unit {0}) (check_answer offset input)
-  check-answers = packed-answers (λ e. 0) (check offset input) (λ e h. refl) (λ r h. (among_checked r h, tt))
+  check_answers : Answers record_refusals (λ n. n ≡ 0) (Unit {0}) (check_answer offset input)
+  check_answers = packed-answers (λ e. 0) (check offset input) (λ e h. refl) (λ r h. (among_checked r h, tt))
 
   check-accepted : number_in (check_answer offset input) ≡ 0 ↔ record_faults offset input ≡ []
   check-accepted = (
@@ -83,11 +83,11 @@ module _ (offset : ℤ) (input list : List ℕ) {answer : ℕ} {after : List ℕ
   by_refusal : {r : Refusal} → is_among list_refusals r ≡ true → Refuses offset input answer list after r → ListAnswers
   by_refusal {r} may h = refuses r may h.number_given h.no_count h.unchanged
 
-  list-answers : ListAnswers
+  list_answers : ListAnswers
   unfolding exists
-  list-answers = elim (case offset input) [
+  list_answers = elim (case offset input) [
     | faulty r q c f ↦ by_refusal (record_among q (faulty_early offset (room_of list) input r c f)).1 (p.faulty r q c f)
-    | other-type e c l ↦ by_refusal refl (p.other-type e c l)
+    | other_type e c l ↦ by_refusal refl (p.other_type e c l)
     | unclear e c l u ↦ by_refusal refl (p.unknown_bound.1 (e, c, l, u))
     | many e c l u m ↦ by_refusal refl (p.too_many.1 (e, c, l, u, m))
     | a_set e h ↦
@@ -117,8 +117,8 @@ module _ (offset : ℤ) (text : List ℕ) where
   unfolding timing
   timing-answered m = unless_answered (read_timestamp (shift_by offset) text) (OFFSET when not (is_offset offset) ++ TOO_LONG when is_too_long text) m
 
-  tick-answers : (tick : ℤ) → Answers time_refusals (λ n. (4 ≤ n) × (n ≤ 18)) (tick_after offset text tick ≡ tick) (tick_answer offset text)
-  tick-answers tick = packed-answers (λ m. m.precision) (timing offset text)
+  tick_answers : (tick : ℤ) → Answers time_refusals (λ n. (4 ≤ n) × (n ≤ 18)) (tick_after offset text tick ≡ tick) (tick_answer offset text)
+  tick_answers tick = packed-answers (λ m. m.precision) (timing offset text)
       (λ m e. precision-range (shift_by offset) text m ((timing-answered m).0 e).0)
       (λ r e. (first_passes among time_passes ((timing-refused r).0 e), rw e refl))
 
@@ -144,9 +144,9 @@ module _ (text : List ℕ) (room : ℕ) where
   unfolding cutting
   cutting-answered n = unless_answered (answered (cut_length room text)) (cut_faults text) n
 
-  cut-answers : Answers (TOO_LONG ∷ NOT_UTF_8 ∷ []) (λ n. n ≤ length text) (Unit {0}) (cut_answer text room)
+  cut_answers : Answers (TOO_LONG ∷ NOT_UTF_8 ∷ []) (λ n. n ≤ length text) (Unit {0}) (cut_answer text room)
   unfolding exists
-  cut-answers = packed-answers (λ n. n) (cutting text room)
+  cut_answers = packed-answers (λ n. n) (cutting text room)
       (λ n e. let z : cut_length room text ≡ n = cc ((cutting-answered n).0 e).0 in rw (← z) (cut_fits room text).1)
       (λ r e. (first_passes may (pass-append may (pass_when may TOO_LONG (is_too_long text) refl) (pass_when may NOT_UTF_8 (not (is_utf8 text)) refl)) ((cutting-refused r).0 e), tt))
 
@@ -167,11 +167,11 @@ met_2 = record {
   accepted = check-accepted;
   refused = check-first;
   time = time;
-  time-refused = time-first;
+  time_refused = time-first;
   comparison = λ offset first second a b c e f g. rw (comparison_of offset first second e f, g) (says-answer _);
   comparison_promise = comparison_promise;
   cut = cut;
-  cut-refused = cut-first;
+  cut_refused = cut-first;
 }
 
 met_3 : Demand3 services
@@ -183,23 +183,23 @@ demands_met = record {
     order = refl;
     numbers = refl;
     one_number = number_injective;
-    check-answers = check-answers;
+    check_answers = check_answers;
     compare_answers = compare_answers;
-    list-answers = λ offset input list. list-answers offset input list (listing_promise offset input list);
-    tick-answers = tick-answers;
-    cut-answers = cut-answers;
-    print-answers = print-answers;
+    list_answers = λ offset input list. list_answers offset input list (listing_promise offset input list);
+    tick_answers = tick_answers;
+    cut_answers = cut_answers;
+    print_answers = print_answers;
     open_answers = λ numbers. refl;
-    start-answers = start-answers;
-    add-answers = add-answers;
-    report-answers = report-answers;
+    start_answers = start_answers;
+    add_answers = add_answers;
+    report_answers = report_answers;
   };
   two = met_2;
   three = met_3;
   print = print_promise;
   years = years_kept services met_2;
   last_day = last_day_kept services met_2 met_3;
-  wrong-times = wrong-times_kept services met_2 met_3;
+  wrong_times = wrong-times_kept services met_2 met_3;
   totals = totals_kept;
   desks = desks_kept;
 }

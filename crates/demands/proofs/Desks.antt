@@ -16,7 +16,7 @@ use Rattle.rules.specs.DeskNumbers.{shared_in, shared_numbers, numbers_after, st
 use Rattle.rules.proofs.Tests.{clash}
 use Rattle.rules.proofs.TotalReading.{reading-currency, reading_refusals}
 use Rattle.rules.proofs.Totals.{posted, posted_only, ladder_counted, exactly-full, exactly_no_row, exactly-total}
-use Rattle.rules.proofs.Desks.{desk-is, Sound, faultless}
+use Rattle.rules.proofs.Desks.{desk_is, Sound, faultless}
 use Rattle.rules.proofs.DeskNumbers.{at-most_32}
 use Rattle.demands.specs.Services.{services}
 use Rattle.demands.specs.Totals.{IsTotal, TotalsPromise}
@@ -52,7 +52,7 @@ module _ (numbers : List ℕ) (lent : Lent 103 numbers) (n : ℕ) where
   usable u = record { desk = is-desk n u.desk; sound = (sound-is numbers lent).1 u.sound }
 
   undamaged : Usable numbers n → Undamaged numbers n
-  undamaged u = record { desk = desk-is n u.desk; sound = (sound-is numbers lent).0 u.sound }
+  undamaged u = record { desk = desk_is n u.desk; sound = (sound-is numbers lent).0 u.sound }
 
   refused_so : {a : ℕ} → Refuses numbers n a → Refused numbers n a
   refused_so (Refuses.no_desk h) = Refused.no_desk ((not-desk n).1 h)
@@ -60,7 +60,7 @@ module _ (numbers : List ℕ) (lent : Lent 103 numbers) (n : ℕ) where
 
   refuses_so : {a : ℕ} → Refused numbers n a → Refuses numbers n a
   refuses_so (Refused.no_desk h) = Refuses.no_desk ((not-desk n).0 h)
-  refuses_so (Refused.damaged d f) = Refuses.damaged (desk-is n d) ((damage_is numbers lent).0 f)
+  refuses_so (Refused.damaged d f) = Refuses.damaged (desk_is n d) ((damage_is numbers lent).0 f)
 
   sound : Usable numbers n → Sound s
   sound u = (faultless s).0 u.sound
@@ -147,7 +147,7 @@ module _ (numbers : List ℕ) (lent : Lent 103 numbers) (n : ℕ) where
     -- every case has its answer and its numbers, and no other
     pub adding_only : {a : ℕ} {x : List ℕ} → Adding numbers n k a x → (a ≡ answer) × (x ≡ after)
     adding_only (Adding.refuses r) = let (e, f) = add-refused numbers n k (refused_so r) in (sym e, sym f)
-    adding_only (Adding.full-day u f) = let v = usable u in given v (full (part_undamaged numbers n v) (counts_are numbers lent n ∙ f))
+    adding_only (Adding.full_day u f) = let v = usable u in given v (full (part_undamaged numbers n v) (counts_are numbers lent n ∙ f))
     adding_only (Adding.faulty_record {r = r} v h) =
         let u = usable v.undamaged in
         refused_given u (ladder_counted r (reading_refusals k.offset k.record' h)) (faulty (is_usable u v) h)
@@ -159,11 +159,11 @@ module _ (numbers : List ℕ) (lent : Lent 103 numbers) (n : ℕ) where
     adding_only (Adding.out_of_range v h i a x m) =
         let u = usable v.undamaged in
         refused_given u refl (out_of_range (is_usable u v) h (λ q. ((no_row_so u h).0 q).0 i a) (ap is_in_range (sum-at u h i a x) ∙ (no_total _).1 m))
-    adding_only (Adding.added-to-row {c = c} {z = z} v h i a x y) =
+    adding_only (Adding.added_to_row {c = c} {z = z} v h i a x y) =
         let u = usable v.undamaged in
         let (e, f) = given u (added (is_usable u v) h (λ q. ((no_row_so u h).0 q).0 i a) (ap is_in_range (sum-at u h i a x) ∙ total-range _ y)) in
         (e, sym (added-held numbers lent (sound u) n u.desk c z i a x y) ∙ f)
-    adding_only (Adding.added-row {c = c} {z = z} v h none l a y) =
+    adding_only (Adding.added_row {c = c} {z = z} v h none l a y) =
         let u = usable v.undamaged in
         let new = total-new c z t.rows (not-held numbers lent (sound u) n u.desk c (reading-currency k.offset k.record' h) none) in
         let (e, f) = given u (added (is_usable u v) h (λ q. omega (arith, l, ((no_row_so u h).0 q).1)) (ap is_in_range new ∙ total-range z y)) in
@@ -177,15 +177,15 @@ module _ (numbers : List ℕ) (lent : Lent 103 numbers) (n : ℕ) where
 
         by_case : Usable numbers n → {o : Outcome Entry} → Posted k t o → Adding numbers n k answer after
         by_case u (damaged d) = let e = part_undamaged numbers n u in clash (cc)
-        by_case u (full d f) = is (Adding.full-day (undamaged u) (sym (counts_are numbers lent n) ∙ f))
+        by_case u (full d f) = is (Adding.full_day (undamaged u) (sym (counts_are numbers lent n) ∙ f))
         by_case u (faulty v h) = is (Adding.faulty_record (not_full u v) h)
         by_case u (a_null v h) = is (Adding.null_record (not_full u v) h)
         by_case u (no_row v h m) = let (none, l) = (no_row_so u h).0 m in is (Adding.no_row (not_full u v) h none l)
         by_case u (out_of_range v h m e) = let (i, a, (x, y, w)) = outside_so u h e in is (Adding.out_of_range (not_full u v) h i a y w)
         by_case u (added v {c = c} {z = z} h m e) = elim (held_so u h (is_held c t.rows) refl) [
-          | inl (i, a, (x, y)) ↦ is (Adding.added-to-row (not_full u v) h i a y (total_of (x +ℤ z) (sym (ap is_in_range (sum-at u h i a y)) ∙ e)))
+          | inl (i, a, (x, y)) ↦ is (Adding.added_to_row (not_full u v) h i a y (total_of (x +ℤ z) (sym (ap is_in_range (sum-at u h i a y)) ∙ e)))
           | inr (none, f) ↦
-              is (Adding.added-row (not_full u v) h none (room_so u h none m) (letters_of c (reading-currency k.offset k.record' h)) (total_of z (reading_small k h)))
+              is (Adding.added_row (not_full u v) h none (room_so u h none m) (letters_of c (reading-currency k.offset k.record' h)) (total_of z (reading_small k h)))
         ]
 
     -- each refusal is given exactly if what it is for is so
@@ -226,9 +226,9 @@ module _ (numbers : List ℕ) (lent : Lent 103 numbers) (n : ℕ) where
     exact = record {
       no_desk = (no_desk_given, λ h. so (Adding.refuses (Refuses.no_desk h)));
       damaged = (damaged_given, λ (d, f). so (Adding.refuses (Refuses.damaged d f)));
-      day-full = (
+      day_full = (
         λ e. let (u, f) = own_refusal DAY_FULL (λ z. omega arith) (λ z. omega arith) e in (undamaged u, sym (counts_are numbers lent n) ∙ ((exactly-full k t).0 f).1),
-        λ (u, f). so (Adding.full-day u f),
+        λ (u, f). so (Adding.full_day u f),
       );
       no_row = (
         λ e.
@@ -259,7 +259,7 @@ desks_kept = record {
   isolation = λ before alone l m n d o. (isolated before alone n d o, same_part before alone n d o);
   days = λ before l h n d. day-at before n d h;
   limits = λ before l h n d. limits-at before n d h;
-  full-days = λ before l h n d. full_at before n d h;
+  full_days = λ before l h n d. full_at before n d h;
   tables = λ before l h. (lent_at before h, (sound-is _ (lent_at before h)).0 (sound-at before h));
   says = table-says;
   starts = starting;

@@ -15,7 +15,7 @@ use Rattle.rules.specs.TotalNumbers.{Lent, total_number, row_in}
 use Rattle.rules.specs.Desks.{Owned, Shared, owned, is_desk, rows_for, with_rows, part_of, recorded_of}
 use Rattle.rules.specs.DeskNumbers.{shared_in, shared_numbers}
 use Rattle.rules.proofs.Totals.{Proper}
-use Rattle.rules.proofs.Desks.{desk-is, Sound, sound_part}
+use Rattle.rules.proofs.Desks.{desk_is, Sound, sound_part}
 use Rattle.rules.proofs.DeskNumbers.{length-parts, at-most_32}
 use Rattle.demands.specs.Totals.{AreLetters, IsTotal}
 use Rattle.demands.specs.Desks.{held_in, counts_from, currency_at, total_at, how_many_of, raised, IsAt}
@@ -75,7 +75,7 @@ module _ (numbers : List ℕ) (lent : Lent 103 numbers) (p : Sound (shared_in nu
 
     -- or as a new row after all others
     room_left : how_many_of n numbers (held_in numbers) < 16 → length s.rows < 32
-    room_left m = go (desk-is n h)
+    room_left m = go (desk_is n h)
       where
         below : length (rows_for n s.rows) < 16
         below = rw (own_many numbers few n) m

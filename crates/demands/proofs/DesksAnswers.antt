@@ -35,9 +35,9 @@ module _ (n : ℕ) (numbers : List ℕ) where
   abbrev StartAnswers : ℕ → Type 0
   StartAnswers = Answers (NO_DESK ∷ DAMAGED ∷ []) (λ n. n ≡ 0) (start_after n numbers ≡ numbers)
 
-  pub start-answers : StartAnswers (start_answer n numbers)
+  pub start_answers : StartAnswers (start_answer n numbers)
   unfolding exists
-  start-answers = elim (case numbers n) [
+  start_answers = elim (case numbers n) [
     | shared_refusal r ↦ let (e, f) = start-refused numbers n r in subst StartAnswers (sym e) (shared-answers refl refl f r)
     | of_desk_lem u ↦ subst StartAnswers (sym (start_given numbers n u).0) (accepts refl refl)
   ]
@@ -46,9 +46,9 @@ module _ (n : ℕ) (numbers : List ℕ) where
     abbrev ReportAnswers : ℕ → Type 0
     ReportAnswers = Answers (NO_DESK ∷ DAMAGED ∷ []) (λ n. n ≤ 16) (report_after n numbers report ≡ report)
 
-    pub report-answers : ReportAnswers (report_answer n numbers)
+    pub report_answers : ReportAnswers (report_answer n numbers)
     unfolding exists
-    report-answers = elim (case numbers n) [
+    report_answers = elim (case numbers n) [
       | shared_refusal r ↦ let (e, f) = report-refused numbers n report r in subst ReportAnswers (sym e) (shared-answers refl refl f r)
       | of_desk_lem u ↦
           let m = length (rows_for n (shared_in numbers).rows) in
@@ -98,9 +98,9 @@ module _ (n : ℕ) (offset : ℤ) (record' numbers : List ℕ) where
         ]
       ]
 
-  pub add-answers : AddAnswers answer
+  pub add_answers : AddAnswers answer
   unfolding exists
-  add-answers = elim (case numbers n) [
+  add_answers = elim (case numbers n) [
     | shared_refusal r ↦ let (e, f) = add-refused numbers n k r in subst AddAnswers (sym e) (shared-answers refl refl (λ m. f) r)
     | of_desk_lem u ↦
         let t = part_of n (shared_in numbers) in

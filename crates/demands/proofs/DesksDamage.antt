@@ -16,9 +16,9 @@ use Rattle.rules.specs.TotalNumbers.{Lent, total_in, currency_in}
 use Rattle.rules.specs.Desks.{Owned, owned, Shared, is_desk, rows_for, counts_for, part_of, is_faulty}
 use Rattle.rules.specs.DeskNumbers.{shared_in}
 use Rattle.rules.proofs.Tests.{clash, same_refl}
-use Rattle.rules.proofs.Desks.{desk-is, is_stray, Sound, faultless, sound_part}
+use Rattle.rules.proofs.Desks.{desk_is, is_stray, Sound, faultless, sound_part}
 use Rattle.rules.proofs.DeskNumbers.{sound-formed, sound-within, at-most_32, rows-length}
-use Rattle.demands.specs.Desks.{IsDesk, held_in, counted_by, desk_at, currency_at, total_at, IsFaulty, too_many, of_neither, over_16, wrong-form, held_twice, out_of_range, over_counted, IsRow, Says}
+use Rattle.demands.specs.Desks.{IsDesk, held_in, counted_by, desk_at, currency_at, total_at, IsFaulty, too_many, of_neither, over_16, wrong_form, held_twice, out_of_range, over_counted, IsRow, Says}
 use Rattle.demands.proofs.TotalsNumbers.{letters_in, letters-read, same-currency, total_in_lem, outside-read}
 use Rattle.demands.proofs.DesksRows.{is_unformed, is_outside, some-nth, no_nth, some_own, some_twice, no_twice, row_at, small_at, held-is, nth-held, held-nth, own_many}
 
@@ -31,7 +31,7 @@ pub not-desk : (n : ℕ) → is_desk n ≡ false ↔ (IsDesk n → ⊥)
 not-desk n = (λ e d. let f = is-desk n d in clash (cc), go (is_desk n) refl)
   where
     go : (b : Bool) → is_desk n ≡ b → (IsDesk n → ⊥) → b ≡ false
-    go true e h = absurd (h (desk-is n e))
+    go true e h = absurd (h (desk_is n e))
     go false e h = refl
 
 opposed : (b : Bool) → not b ≡ true → b ≡ true → ⊥
@@ -69,7 +69,7 @@ module _ (numbers : List ℕ) (lent : Lent 103 numbers) where
         go true b c d e i j k l m h = over_16 n desk (omega (arith, ltb-true 16 (length (rows_for n s.rows)) i, own_many numbers few n))
         go false true c d e i j k l m h =
             let (q, x, g) = own_found n is_unformed j in
-            wrong-form q x (λ w a. let (u, v, t) = letters-read w (currency_at numbers q) a in opposed (is_currency w) (rw v at g) t)
+            wrong_form q x (λ w a. let (u, v, t) = letters-read w (currency_at numbers q) a in opposed (is_currency w) (rw v at g) t)
         go false false true d e i j k l m h =
             let (q, r, x, y, o, f, g, u) = some_twice n s.rows k in
             let (a, b) = held-nth numbers few q _ f in
@@ -112,9 +112,9 @@ module _ (numbers : List ℕ) (lent : Lent 103 numbers) where
 
     no_damage : IsFaulty numbers → ⊥
     no_damage (too_many l) = omega (arith, few, held-is numbers few)
-    no_damage (of_neither i l f) = f (desk-is (desk_at numbers i) (desk-held i l))
+    no_damage (of_neither i l f) = f (desk_is (desk_at numbers i) (desk-held i l))
     no_damage (over_16 n d l) = omega (arith, own_many numbers few n, (sound_part s p n (is-desk n d)).few)
-    no_damage (wrong-form i l f) = f (currency_in (currency_at numbers i)) (letters_in (currency_at numbers i) (formed-held i l))
+    no_damage (wrong_form i l f) = f (currency_in (currency_at numbers i)) (letters_in (currency_at numbers i) (formed-held i l))
     no_damage (held_twice i j l m d c) =
         let h : i < held_in numbers = omega arith in
         let e = nth-held numbers few j m ∙ ap (λ n. owned n (row_at numbers j).row ∷ []) (sym d) in
@@ -128,7 +128,7 @@ module _ (numbers : List ℕ) (lent : Lent 103 numbers) where
       row_at numbers i,
       nth-held numbers few i l,
       record {
-        desk-is = refl;
+        desk_is = refl;
         letters = letters_in (currency_at numbers i) (formed-held i l);
         amount = total_in_lem (total_at numbers i) (small _) (within_held i l);
       },
@@ -155,4 +155,4 @@ module _ (numbers : List ℕ) (lent : Lent 103 numbers) where
   pub table-says : (IsFaulty numbers → ⊥) → Says s numbers
   table-says e =
       let p = (faultless s).0 (sound-is.1 e) in
-      record { held = held-is numbers (few p); rows = row-says p; first-added = refl; first-null = refl; first-refused = refl; second-added = refl; second-null = refl; second-refused = refl }
+      record { held = held-is numbers (few p); rows = row-says p; first_added = refl; first_null = refl; first_refused = refl; second_added = refl; second_null = refl; second_refused = refl }

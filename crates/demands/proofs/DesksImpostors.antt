@@ -88,13 +88,13 @@ module _ (s : Services) (p : Demands s) where
   left n text numbers i = get_or (s.add_leaves n (pos 0) (bytes text) numbers) i 0
 
   left_is : (n : ℕ) (text : String) (numbers : List ℕ) → Lent 103 numbers → (i : ℕ) → left n text numbers i ≡ get_or (add_after n (pos 0) (bytes text) numbers) i 0
-  left_is n text numbers l i = ap (λ x. get_or x i 0) ((demands_determine s p).same-add_left n (pos 0) (bytes text) numbers l)
+  left_is n text numbers l i = ap (λ x. get_or x i 0) ((demands_determine s p).same_add_left n (pos 0) (bytes text) numbers l)
 
   abbrev started : (desk : ℕ) → (numbers : List ℕ) → (i : ℕ) → ℕ
   started n numbers i = get_or (s.start_leaves n numbers) i 0
 
   started-is : (n : ℕ) (numbers : List ℕ) → Lent 103 numbers → (i : ℕ) → started n numbers i ≡ get_or (start_after n numbers) i 0
-  started-is n numbers l i = ap (λ x. get_or x i 0) ((demands_determine s p).same-start_left n numbers l)
+  started-is n numbers l i = ap (λ x. get_or x i 0) ((demands_determine s p).same_start_left n numbers l)
 
   -- one that adds twice
   pub adds_twice : left 1 five none 9 ≡ 100_000 → ⊥
@@ -137,17 +137,17 @@ module _ (s : Services) (p : Demands s) where
   counts_for_other-desk h = omega (arith, h, left_is 2 five fives lent_fives 1)
 
   -- one that stays at the limit and says that it added
-  pub saturates : s.add-says 1 (pos 0) (bytes five) most ≡ 1 * 2 ^ 8 → ⊥
+  pub saturates : s.add_says 1 (pos 0) (bytes five) most ≡ 1 * 2 ^ 8 → ⊥
   unfolding opened
   saturates h = omega (arith, h, (demands_determine s p).same_add 1 (pos 0) (bytes five) most lent-most)
 
   -- one whose day limit is of both desks together
-  pub shares_day_limit : s.add-says 2 (pos 0) (bytes five) full ≡ 25 → ⊥
+  pub shares_day_limit : s.add_says 2 (pos 0) (bytes five) full ≡ 25 → ⊥
   unfolding opened
   shares_day_limit h = omega (arith, h, (demands_determine s p).same_add 2 (pos 0) (bytes five) full lent-full)
 
   -- one whose row limit is of both desks together
-  pub shares_row_limit : s.add-says 2 (pos 0) (bytes five) sixteen ≡ 16 → ⊥
+  pub shares_row_limit : s.add_says 2 (pos 0) (bytes five) sixteen ≡ 16 → ⊥
   unfolding opened
   shares_row_limit h = omega (arith, h, (demands_determine s p).same_add 2 (pos 0) (bytes five) sixteen lent_sixteen)
 
@@ -167,16 +167,16 @@ module _ (s : Services) (p : Demands s) where
   frees_no_row h = omega (arith, h, started-is 1 mixed lent-mixed 0)
 
   -- one that starts a desk of any number
-  pub starts-any-desk : s.start-says 3 none ≡ 0 → ⊥
+  pub starts-any-desk : s.start_says 3 none ≡ 0 → ⊥
   unfolding opened
   starts-any-desk h = omega (arith, h, (demands_determine s p).same_start 3 none lent_none)
 
   -- one that reports the rows of both desks
-  pub reports-both : s.report-says 1 mixed ≡ 3 * 2 ^ 8 → ⊥
+  pub reports-both : s.report_says 1 mixed ≡ 3 * 2 ^ 8 → ⊥
   unfolding opened
-  reports-both h = omega (arith, h, (demands_determine s p).same-report 1 mixed lent-mixed)
+  reports-both h = omega (arith, h, (demands_determine s p).same_report 1 mixed lent-mixed)
 
   -- one that reports rows sorted, francs first
   pub sorts_rows : get_or (s.report_leaves 1 mixed (replicate 35 0)) 3 0 ≡ 4_606_019 → ⊥
   unfolding opened
-  sorts_rows h = omega (arith, h, ap (λ l. get_or l 3 0) ((demands_determine s p).same-report_left 1 mixed (replicate 35 0) lent-mixed lent-report))
+  sorts_rows h = omega (arith, h, ap (λ l. get_or l 3 0) ((demands_determine s p).same_report_left 1 mixed (replicate 35 0) lent-mixed lent-report))

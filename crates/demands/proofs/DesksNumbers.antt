@@ -15,7 +15,7 @@ use Rattle.rules.specs.TotalNumbers.{Lent, row_numbers, report_numbers}
 use Rattle.rules.specs.Desks.{Owned, Shared, shared, is_desk, rows_for, with_rows, counts_for, part_of, with_part, recorded_of}
 use Rattle.rules.specs.DeskNumbers.{shared_in, count_numbers, owned_numbers, shared_numbers}
 use Rattle.rules.proofs.Tests.{clash}
-use Rattle.rules.proofs.Desks.{desk-is, Sound, rows_back}
+use Rattle.rules.proofs.Desks.{desk_is, Sound, rows_back}
 use Rattle.rules.proofs.DeskNumbers.{at-most_32, shared-written}
 use Rattle.demands.specs.Desks.{held_in, counts_from, how_many_of, own_rows, other_rows, cleared, raised}
 use Rattle.demands.proofs.DesksRows.{held-is, own_many}
@@ -130,7 +130,7 @@ module _ (numbers : List ℕ) (lent : Lent 103 numbers) (p : Sound (shared_in nu
         (ap₂ (λ k l. k ∷ l) (rw e at others-many) (ap₂ (λ a b. a ++ (0 ∷ 0 ∷ 0 ∷ []) ++ b) (ap (λ l. take 3 (drop 1 l)) (seven numbers lent.long)) (rw e at others_are)))
 
     pub start-numbers : overwrite numbers (shared_numbers (with_part n empty_table s)) ≡ overwrite numbers (cleared n numbers)
-    start-numbers = ap (overwrite numbers) (started (desk-is n h))
+    start-numbers = ap (overwrite numbers) (started (desk_is n h))
 
     -- a record that is not added
     pub null-numbers : overwrite numbers (shared_numbers (recorded_of n (answered null) s)) ≡ raised (1 + counts_from n) numbers

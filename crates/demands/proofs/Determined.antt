@@ -21,7 +21,7 @@ use Rattle.rules.specs.TotalDays.{Call}
 use Rattle.rules.specs.ComparisonPromise.{record_in, answer_in, Names, Says, IsOf}
 use Rattle.rules.proofs.Tests.{clash}
 use Rattle.rules.proofs.Precedence.{first-is, no_fault}
-use Rattle.rules.proofs.ListingCases.{faulty, other-type, unclear, many, a_set, case}
+use Rattle.rules.proofs.ListingCases.{faulty, other_type, unclear, many, a_set, case}
 use Rattle.rules.proofs.ListingPromise.{small}
 use Rattle.rules.proofs.PrintingCases.{unwritable, full, fitting, printing_case, unwritable_is}
 use Rattle.rules.proofs.ComparisonPromise.{Pair, alike, unlike, pair}
@@ -99,7 +99,7 @@ module _ (offset : ℤ) (input before : List ℕ) {a b : ℕ} {x y : List ℕ} w
   same_promise : ListingPromise offset input a before x → ListingPromise offset input b before y → (a ≡ b) × (x ≡ y)
   same_promise p q = elim (case offset input) [
     | faulty r t c f ↦ same_refusal (p.faulty r t c f) (q.faulty r t c f)
-    | other-type e c l ↦ same_refusal (p.other-type e c l) (q.other-type e c l)
+    | other_type e c l ↦ same_refusal (p.other_type e c l) (q.other_type e c l)
     | unclear e c l u ↦ same_refusal (p.unknown_bound.1 (e, c, l, u)) (q.unknown_bound.1 (e, c, l, u))
     | many e c l u m ↦ same_refusal (p.too_many.1 (e, c, l, u, m)) (q.too_many.1 (e, c, l, u, m))
     | a_set e h ↦ same_set (p.sets e h) (q.sets e h)
@@ -120,10 +120,10 @@ module _ {before : List ℕ} {a b : ℕ} {x y : List ℕ} where
   )
 
 module _ {s t : Services} (p : Demands s) (q : Demands t) where
-  same_check : (offset : ℤ) (input : List ℕ) → s.check-says offset input ≡ t.check-says offset input
+  same_check : (offset : ℤ) (input : List ℕ) → s.check_says offset input ≡ t.check_says offset input
   same_check offset input =
-      same_given (λ f h i. h ∙ sym i) (given (record_faults offset input) _ (p.two.refused offset input) (p.one.check-answers offset input))
-      (given (record_faults offset input) _ (q.two.refused offset input) (q.one.check-answers offset input))
+      same_given (λ f h i. h ∙ sym i) (given (record_faults offset input) _ (p.two.refused offset input) (p.one.check_answers offset input))
+      (given (record_faults offset input) _ (q.two.refused offset input) (q.one.check_answers offset input))
 
   same_compare : (offset : ℤ) (first second : List ℕ) → s.compare_says offset first second ≡ t.compare_says offset first second
   same_compare offset first second = go (check offset first) (check offset second) refl refl
@@ -135,30 +135,30 @@ module _ {s t : Services} (p : Demands s) (q : Demands t) where
       by_comparer : (a b : Element) (o : Option Comparer) → check offset first ≡ answered a → check offset second ≡ answered b → comparer_for a b ≡ o
           → s.compare_says offset first second ≡ t.compare_says offset first second
       by_comparer a b none e f g =
-          same_names ((p.two.comparison_promise offset).type-refused first second a b e f (no_comparer a b (pair a b) g))
-          ((q.two.comparison_promise offset).type-refused first second a b e f (no_comparer a b (pair a b) g))
+          same_names ((p.two.comparison_promise offset).type_refused first second a b e f (no_comparer a b (pair a b) g))
+          ((q.two.comparison_promise offset).type_refused first second a b e f (no_comparer a b (pair a b) g))
       by_comparer a b (some c) e f g = same-says (p.two.comparison offset first second a b c e f g) (q.two.comparison offset first second a b c e f g)
 
       go : (o u : Outcome Element) → check offset first ≡ o → check offset second ≡ u → s.compare_says offset first second ≡ t.compare_says offset first second
-      go (refused r) u e f = same_names ((p.two.comparison_promise offset).first-refused first second r e) ((q.two.comparison_promise offset).first-refused first second r e)
+      go (refused r) u e f = same_names ((p.two.comparison_promise offset).first_refused first second r e) ((q.two.comparison_promise offset).first_refused first second r e)
       go (answered a) (refused r) e f =
-          same_names ((p.two.comparison_promise offset).second-refused first second a r e f) ((q.two.comparison_promise offset).second-refused first second a r e f)
+          same_names ((p.two.comparison_promise offset).second_refused first second a r e f) ((q.two.comparison_promise offset).second_refused first second a r e f)
       go (answered a) (answered b) e f = by_comparer a b _ e f refl
 
-  same-list : (offset : ℤ) (input list : List ℕ)
-      → (s.list-says offset input list ≡ t.list-says offset input list) × (s.list_leaves offset input list ≡ t.list_leaves offset input list)
-  same-list offset input list = same_promise offset input list (p.three.listing_promise offset input list) (q.three.listing_promise offset input list)
+  same_list : (offset : ℤ) (input list : List ℕ)
+      → (s.list_says offset input list ≡ t.list_says offset input list) × (s.list_leaves offset input list ≡ t.list_leaves offset input list)
+  same_list offset input list = same_promise offset input list (p.three.listing_promise offset input list) (q.three.listing_promise offset input list)
 
-  same-tick : (offset : ℤ) (text : List ℕ) (tick : ℤ) → s.tick-says offset text ≡ t.tick-says offset text
-  same-tick offset text tick =
+  same_tick : (offset : ℤ) (text : List ℕ) (tick : ℤ) → s.tick_says offset text ≡ t.tick_says offset text
+  same_tick offset text tick =
       same_given (λ f h i. let (m, e) = faultless_read offset text f in (p.two.time offset text tick m e f).1 ∙ sym (q.two.time offset text tick m e f).1)
-      (given (time_faults offset text) _ (p.two.time-refused offset text) (p.one.tick-answers offset text tick))
-      (given (time_faults offset text) _ (q.two.time-refused offset text) (q.one.tick-answers offset text tick))
+      (given (time_faults offset text) _ (p.two.time_refused offset text) (p.one.tick_answers offset text tick))
+      (given (time_faults offset text) _ (q.two.time_refused offset text) (q.one.tick_answers offset text tick))
 
-  same-tick_left : (offset : ℤ) (text : List ℕ) (tick : ℤ) → s.tick_leaves offset text tick ≡ t.tick_leaves offset text tick
-  same-tick_left offset text tick =
-      go (given (time_faults offset text) _ (p.two.time-refused offset text) (p.one.tick-answers offset text tick))
-      (given (time_faults offset text) _ (q.two.time-refused offset text) (q.one.tick-answers offset text tick))
+  same_tick_left : (offset : ℤ) (text : List ℕ) (tick : ℤ) → s.tick_leaves offset text tick ≡ t.tick_leaves offset text tick
+  same_tick_left offset text tick =
+      go (given (time_faults offset text) _ (p.two.time_refused offset text) (p.one.tick_answers offset text tick))
+      (given (time_faults offset text) _ (q.two.time_refused offset text) (q.one.tick_answers offset text tick))
     where
       go : {R Q : ℕ → Type 0} {a b : ℕ} → Given (time_faults offset text) R (s.tick_leaves offset text tick ≡ tick) a
           → Given (time_faults offset text) Q (t.tick_leaves offset text tick ≡ tick) b → s.tick_leaves offset text tick ≡ t.tick_leaves offset text tick
@@ -166,20 +166,20 @@ module _ {s t : Services} (p : Demands s) (q : Demands t) where
       go (first_given r d m z k) (faultless f n h) = let i = (no_fault (time_faults offset text)).1 f in clash (cc)
       go (first_given r d m z k) (first_given u e n y l) = k ∙ sym l
 
-  same-cut : (text : List ℕ) (room : ℕ) → s.cut-says text room ≡ t.cut-says text room
-  same-cut text room =
+  same_cut : (text : List ℕ) (room : ℕ) → s.cut_says text room ≡ t.cut_says text room
+  same_cut text room =
       same_given (λ f h i. longest (p.two.cut text room f).1 (q.two.cut text room f).1)
-      (given (cut_faults text) _ (p.two.cut-refused text room) (p.one.cut-answers text room))
-      (given (cut_faults text) _ (q.two.cut-refused text room) (q.one.cut-answers text room))
+      (given (cut_faults text) _ (p.two.cut_refused text room) (p.one.cut_answers text room))
+      (given (cut_faults text) _ (q.two.cut_refused text room) (q.one.cut_answers text room))
     where
       longest : {m n : ℕ} → IsCut text room m → IsCut text room n → m ≡ n
       longest {m} {n} a b = omega (arith, a.most n b.within b.fits b.whole, b.most m a.within a.fits a.whole)
 
   -- by the case that a list and a lent record are
-  same-print : (list record' : List ℕ) → (s.print-says list record' ≡ t.print-says list record') × (s.print_leaves list record' ≡ t.print_leaves list record')
-  same-print list record' =
-      let a = p.one.print-answers list record' in
-      let b = q.one.print-answers list record' in
+  same_print : (list record' : List ℕ) → (s.print_says list record' ≡ t.print_says list record') × (s.print_leaves list record' ≡ t.print_leaves list record')
+  same_print list record' =
+      let a = p.one.print_answers list record' in
+      let b = q.one.print_answers list record' in
       elim (printing_case list (length record')) [
         | unwritable h ↦
             let w = (unwritable_is list).0 h in
@@ -190,23 +190,23 @@ module _ {s t : Services} (p : Demands s) (q : Demands t) where
 
   -- a table afterwards, and the answer, are the rules' of either
   same_start : (n : ℕ) (numbers : List ℕ) → Lent 103 numbers
-      → (s.start-says n numbers ≡ t.start-says n numbers) × (s.start_leaves n numbers ≡ t.start_leaves n numbers)
+      → (s.start_says n numbers ≡ t.start_says n numbers) × (s.start_leaves n numbers ≡ t.start_leaves n numbers)
   same_start n numbers l =
       let (e, f) = starting_only numbers l n (p.desks.starts numbers l n) in
       let (g, h) = starting_only numbers l n (q.desks.starts numbers l n) in
       (e ∙ sym g, f ∙ sym h)
 
   same_add : (n : ℕ) (offset : ℤ) (record' numbers : List ℕ) → Lent 103 numbers
-      → (s.add-says n offset record' numbers ≡ t.add-says n offset record' numbers) × (s.add_leaves n offset record' numbers ≡ t.add_leaves n offset record' numbers)
+      → (s.add_says n offset record' numbers ≡ t.add_says n offset record' numbers) × (s.add_leaves n offset record' numbers ≡ t.add_leaves n offset record' numbers)
   same_add n offset record' numbers l =
       let k : Call = record { offset = offset; record' = record' } in
       let (e, f) = adding_only numbers l n k (p.desks.adds numbers l n k) in
       let (g, h) = adding_only numbers l n k (q.desks.adds numbers l n k) in
       (e ∙ sym g, f ∙ sym h)
 
-  same-report : (n : ℕ) (numbers report : List ℕ) → Lent 103 numbers → Lent 35 report
-      → (s.report-says n numbers ≡ t.report-says n numbers) × (s.report_leaves n numbers report ≡ t.report_leaves n numbers report)
-  same-report n numbers report l m =
+  same_report : (n : ℕ) (numbers report : List ℕ) → Lent 103 numbers → Lent 35 report
+      → (s.report_says n numbers ≡ t.report_says n numbers) × (s.report_leaves n numbers report ≡ t.report_leaves n numbers report)
+  same_report n numbers report l m =
       let (e, f) = reporting_only numbers l n report (p.desks.reports numbers report l m n) in
       let (g, h) = reporting_only numbers l n report (q.desks.reports numbers report l m n) in
       (e ∙ sym g, f ∙ sym h)
@@ -215,21 +215,21 @@ module _ {s t : Services} (p : Demands s) (q : Demands t) where
   demands_agree = record {
     same_check = same_check;
     same_compare = same_compare;
-    same-list = λ offset input list. (same-list offset input list).0;
-    same-list_left = λ offset input list. (same-list offset input list).1;
-    same-tick = λ offset text. same-tick offset text (pos 0);
-    same-tick_left = same-tick_left;
-    same-cut = same-cut;
-    same-print = λ list record'. (same-print list record').0;
-    same-print_left = λ list record'. (same-print list record').1;
+    same_list = λ offset input list. (same_list offset input list).0;
+    same_list_left = λ offset input list. (same_list offset input list).1;
+    same_tick = λ offset text. same_tick offset text (pos 0);
+    same_tick_left = same_tick_left;
+    same_cut = same_cut;
+    same_print = λ list record'. (same_print list record').0;
+    same_print_left = λ list record'. (same_print list record').1;
     same_open = λ numbers l. (p.desks.opens numbers l).0 ∙ sym (q.desks.opens numbers l).0;
     same_open_left = λ numbers l. (p.desks.opens numbers l).1 ∙ sym (q.desks.opens numbers l).1;
     same_start = λ n numbers l. (same_start n numbers l).0;
-    same-start_left = λ n numbers l. (same_start n numbers l).1;
+    same_start_left = λ n numbers l. (same_start n numbers l).1;
     same_add = λ n offset record' numbers l. (same_add n offset record' numbers l).0;
-    same-add_left = λ n offset record' numbers l. (same_add n offset record' numbers l).1;
-    same-report = λ n numbers l. (same-report n numbers (replicate 35 0) l blank).0;
-    same-report_left = λ n numbers report l m. (same-report n numbers report l m).1;
+    same_add_left = λ n offset record' numbers l. (same_add n offset record' numbers l).1;
+    same_report = λ n numbers l. (same_report n numbers (replicate 35 0) l blank).0;
+    same_report_left = λ n numbers report l m. (same_report n numbers report l m).1;
   }
 
 pub demands_determine : (s : Services) → Demands s → Same s services

@@ -55,22 +55,22 @@ use Rattle.demands.proofs.LastDayBounds.{spelled-read, bounds-read, bounds-cross
 next-possible : (w : Written) → IsPossible w → IsCoarse w → (written_after w).year ≤ 9999 → IsPossible (written_after w)
 next-possible w p c y = record { date = date-after w p.date c y; clock = clock-after w p.clock c; zone = p.zone }
 
-next-spelled : (text : List ℕ) (w : Written) → Spells text w → IsPossible w → IsCoarse w → (written_after w).year ≤ 9999
+next_spelled : (text : List ℕ) (w : Written) → Spells text w → IsPossible w → IsCoarse w → (written_after w).year ≤ 9999
     → (next : List ℕ) × Spells next (written_after w) × IsPossible (written_after w)
-next-spelled text w s p c y =
+next_spelled text w s p c y =
     let q = next-possible w p c y in
     let n = as_many w c in (
       _,
       record {
         offset = s.offset;
         spelled = refl;
-        year-digits = omega arith;
+        year_digits = omega arith;
         part_digits = two_digits (written_after w) q.date q.clock (omega arith);
-        parts-most = omega arith;
-        fraction-digits = s.fraction-digits;
+        parts_most = omega arith;
+        fraction_digits = s.fraction_digits;
         after_seconds = elim s.after_seconds [ inl e ↦ inl e | inr e ↦ absurd (omega arith) ];
-        zone-spelled = s.zone-spelled;
-        after-hours = elim s.after-hours [ inl e ↦ inl e | inr e ↦ inr (omega arith) ];
+        zone_spelled = s.zone_spelled;
+        after_hours = elim s.after_hours [ inl e ↦ inl e | inr e ↦ inr (omega arith) ];
       },
       q,
     )
@@ -170,8 +170,8 @@ module _ (offset : ℤ) (input : List ℕ) (e : Element) (l h : Written) (last :
   unfolding child_faults child_named line_of find same rank_in
   within_early =
       let (a, b, k) = x.two in
-      let u = x.bounded.low-written in
-      let v = x.bounded.high-written in
+      let u = x.bounded.low_written in
+      let v = x.bounded.high_written in
       let f : some a ≡ some u.attrs = subst (λ (n : Nodes). child_named (bytes "low") n ≡ some u.attrs) k u.stands in
       let g : some b ≡ some v.attrs = subst (λ (n : Nodes). child_named (bytes "high") n ≡ some v.attrs) k v.stands in
       subst (λ (n : Nodes). Pass early (child_faults shift IVL_TS (is_null e.attrs) 0 n)) (sym k)
@@ -239,8 +239,8 @@ module _ (s : Services) (two : Demand2 s) (three : Demand3 s) where
       (two.time offset text tick (moment_of (shift_by offset) w) r (rw (r, o, le-ltb 16_384 (length text) n) refl)).2
 
   checks : (offset : ℤ) (input : List ℕ) (e : Element) (l h : Written) (last : ℤ) → IsPass offset input e l h → LastTick offset h (is_closed high e.attrs) last
-      → (number_in (s.check-says offset input) ≡ number RULE ↔ lt_z last (tick_on offset l) ≡ true)
-      × (number_in (s.check-says offset input) ≡ 0 ↔ lt_z last (tick_on offset l) ≡ false)
+      → (number_in (s.check_says offset input) ≡ number RULE ↔ lt_z last (tick_on offset l) ≡ true)
+      × (number_in (s.check_says offset input) ≡ 0 ↔ lt_z last (tick_on offset l) ≡ false)
   checks offset input e l h last x t =
       let f = faults_are offset input e l h last x t in (
         iff_trans (two.refused offset input RULE) (rw f (first_rule (lt_z last (tick_on offset l)))),
@@ -258,7 +258,7 @@ module _ (s : Services) (two : Demand2 s) (three : Demand3 s) where
       let z : ss ≡ p.stretches = p.no_other ss (subst (λ (y : Expression). AreStretches (meant y) ss) y a) in
       subst (ListsAs s offset input list) (sym z) (p.room (rw (← z) (omega arith)))
 
-  lists : (offset : ℤ) (input list : List ℕ) (e : Element) (v : Interval) → number_in (s.check-says offset input) ≡ 0 → document input ≡ some e
+  lists : (offset : ℤ) (input list : List ℕ) (e : Element) (v : Interval) → number_in (s.check_says offset input) ≡ 0 → document input ≡ some e
       → has_type e.attrs IVL_TS ≡ true → is_null e.attrs ≡ false → LowIs offset e.attrs e.kids v.low → HighIs offset e.attrs e.kids v.high
       → ((x : Place) → holds v x ≡ true → 32 ≤ length list → ListsAs s offset input list (v ∷ []))
       × (((x : Place) → holds v x ≡ false) → ListsAs s offset input list [])
@@ -276,17 +276,17 @@ module _ (s : Services) (two : Demand2 s) (three : Demand3 s) where
       → length (intervals x) ≤ 32 → stretches x ≡ ss → 32 * length ss ≤ length list → ListsAs s (pos 0) input list ss
   given input list e x ss c l w n z r = listed_as (pos 0) input list e x ss c l w n (subst (AreStretches (meant x)) z (stretches_are x)) r
 
-  within-set : (list : List ℕ) → 32 ≤ length list → ListsAs s (pos 0) (late_term "true") list (closed_at (pos 638500752000000) upto open_at (pos 638501184000000) ∷ [])
+  within_set : (list : List ℕ) → 32 ≤ length list → ListsAs s (pos 0) (late_term "true") list (closed_at (pos 638500752000000) upto open_at (pos 638501184000000) ∷ [])
   unfolding opened
-  within-set list r = given (late_term "true") list _ _ _ refl refl refl (omega arith) refl r
+  within_set list r = given (late_term "true") list _ _ _ refl refl refl (omega arith) refl r
 
-  rule_within-set : number_in (s.check-says (pos 0) (late_term "false")) ≡ number RULE
+  rule_within_set : number_in (s.check_says (pos 0) (late_term "false")) ≡ number RULE
   unfolding opened
-  rule_within-set = (two.refused (pos 0) (late_term "false") RULE).1 ((first_rule true).1 refl)
+  rule_within_set = (two.refused (pos 0) (late_term "false") RULE).1 ((first_rule true).1 refl)
 
-  listed-none : (list : List ℕ) → ListsAs s (pos 0) (pass "false" "2024" "true" "202406") list []
+  listed_none : (list : List ℕ) → ListsAs s (pos 0) (pass "false" "2024" "true" "202406") list []
   unfolding opened
-  listed-none list = given (pass "false" "2024" "true" "202406") list _ _ _ refl refl refl (omega arith) refl (omega arith)
+  listed_none list = given (pass "false" "2024" "true" "202406") list _ _ _ refl refl refl (omega arith) refl (omega arith)
 
   example : (list : List ℕ) → 64 ≤ length list → ListsAs s (pos 0) stay list stay_stretches
   unfolding opened
@@ -317,19 +317,19 @@ pub last_day_kept : (s : Services) → Demand2 s → Demand3 s → LastDayPromis
 unfolding flat_map
 last_day_kept s two three = record {
   ticks = ticks s two three;
-  next-spelled = next-spelled;
+  next_spelled = next_spelled;
   year_10000 = year_10000;
   flags = λ attrs. (is-closed (bytes "lowClosed") attrs, is-closed (bytes "highClosed") attrs);
   bounds = bounds-read;
   lists = lists s two three;
   crossed = λ offset p attrs kids l h last n x t. crossed offset attrs kids l h last n x t p;
   checks = checks s two three;
-  within-set = within-set s two three;
-  rule_within-set = rule_within-set s two three;
+  within_set = within_set s two three;
+  rule_within_set = rule_within_set s two three;
   pushed_past = pushed_past;
-  listed-none = listed-none s two three;
+  listed_none = listed_none s two three;
   example = example s two three;
-  example-numbers = refl;
+  example_numbers = refl;
   april = april s two three;
   compared = compared s two three;
 }

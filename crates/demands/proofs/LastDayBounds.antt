@@ -183,12 +183,12 @@ module _ (offset : ℤ) (attrs : List Attribute) (kids : Nodes) where
 
   high_is : (b : Bound) → bound_of (shift_by offset) high attrs kids ≡ answered b ↔ HighIs offset attrs kids b
   high_is b = (
-    side_is high "high" "PINF" refl refl (HighIs offset attrs kids) (λ w x. HighIs.written-high x (high-reads offset x.spelled x.possible (is_closed high attrs))) HighIs.no_high b,
+    side_is high "high" "PINF" refl refl (HighIs offset attrs kids) (λ w x. HighIs.written_high x (high-reads offset x.spelled x.possible (is_closed high attrs))) HighIs.no_high b,
     back,
   )
     where
       back : {d : Bound} → HighIs offset attrs kids d → bound_of (shift_by offset) high attrs kids ≡ answered d
-      back (HighIs.written-high x r) = rw (writes_valued (shift_by offset) high "high" refl kids x) (ap answered (high_one offset x.spelled x.possible r))
+      back (HighIs.written_high x r) = rw (writes_valued (shift_by offset) high "high" refl kids x) (ap answered (high_one offset x.spelled x.possible r))
       back (HighIs.no_high x) = rw (unbounds_infinite (shift_by offset) high "high" refl kids "PINF" refl x)
 
   pub bounds-read : (v : Interval) → interval_of (shift_by offset) attrs kids ≡ answered v ↔ LowIs offset attrs kids v.low × HighIs offset attrs kids v.high
@@ -206,13 +206,13 @@ module _ (offset : ℤ) (attrs : List Attribute) (kids : Nodes) where
       → breaks_interval (shift_by offset) attrs kids ≡ lt_z last (tick_on offset l)
   bounds-crossed l h last x t =
       rw (
-        writes_valued (shift_by offset) low "low" refl kids x.low-written,
-        writes_valued (shift_by offset) high "high" refl kids x.high-written,
+        writes_valued (shift_by offset) low "low" refl kids x.low_written,
+        writes_valued (shift_by offset) high "high" refl kids x.high_written,
         x.low_flagged,
         x.high_flagged,
-        x.low-written.stands,
-        x.high-written.stands,
-        no_flavor (bytes "PINF") x.low-written.attrs x.low-written.not_null,
-        no_flavor (bytes "NINF") x.high-written.attrs x.high-written.not_null,
+        x.low_written.stands,
+        x.high_written.stands,
+        no_flavor (bytes "PINF") x.low_written.attrs x.low_written.not_null,
+        no_flavor (bytes "NINF") x.high_written.attrs x.high_written.not_null,
       )
-      (ap (λ (z : ℤ). lt_z z (tick_on offset l)) (last_one offset x.high-written.spelled x.high-written.possible t))
+      (ap (λ (z : ℤ). lt_z z (tick_on offset l)) (last_one offset x.high_written.spelled x.high_written.possible t))

@@ -56,9 +56,9 @@ module _ (list record' : List ℕ) where
         unchanged = rw h (overwrite-rest record' text (length text) refl l);
       }
 
-  pub print-answers : PrintAnswers
+  pub print_answers : PrintAnswers
   unfolding exists
-  print-answers = elim (printing_case list (length record')) [
+  print_answers = elim (printing_case list (length record')) [
     | unwritable h ↦ by_refusal NOT_WRITABLE refl (printing_unwritable list (length record') h)
     | full w l ↦ by_refusal NO_ROOM refl (printing_no_room list (length record') w l)
     | fitting w l ↦ let p = prints w l in accepts p.accepted (rw p.length_given (let q = is_printable list w in record_short (listed list) q.few q.writable))
@@ -125,8 +125,8 @@ module _ (offset : ℤ) (record' list : List ℕ) where
         outside = λ lent. (λ e. elim ((not_writable n lent).0 e) [ inl f ↦ clash (cc) | inr f ↦ f ], λ f. (not_writable n lent).1 (inr f));
       })
 
-  listed-proper : number_in (list_answer offset record' list) ≡ 0 → IsProperList services (take (32 * result_in (list_answer offset record' list)) (list_after offset record' list))
-  listed-proper e = let (ss, h) = packed-accepted length (listing offset (room_of list) record') e in wrote ss h
+  listed_proper : number_in (list_answer offset record' list) ≡ 0 → IsProperList services (take (32 * result_in (list_answer offset record' list)) (list_after offset record' list))
+  listed_proper e = let (ss, h) = packed-accepted length (listing offset (room_of list) record') e in wrote ss h
 
 -- stretches from a tick on, each between it and the next, both bounds open
 between : (count tick : ℕ) → List Interval
@@ -150,16 +150,16 @@ no_stretch record' l =
     subst (λ text. Prints text (print_answer [] record') record' (print_after [] record')) empty.1 (prints [] record' empty.0 (rw empty.1 l))
 
 -- a tick as a full timestamp
-full-timestamp : (offset tick before : ℤ) → is_offset offset ≡ true → is_writable_tick tick ≡ true
+full_timestamp : (offset tick before : ℤ) → is_offset offset ≡ true → is_writable_tick tick ≡ true
     → (tick_answer offset (timestamp_text tick) ≡ 18 * 2 ^ 8) × (tick_after offset (timestamp_text tick) before ≡ tick)
     × (drop 19 (timestamp_text tick) ≡ bytes "+0000")
-full-timestamp offset (pos t) before o h =
+full_timestamp offset (pos t) before o h =
     let e = timing_of_tick offset t o (ltb-true t years_end h) in
     (rw e refl, rw e (tick-from-start t), ends (date_text (t / day)) (clock_text (t % day)) (date-length _) (clock-length _))
   where
     ends : (d c : List ℕ) → length d ≡ 8 → length c ≡ 11 → drop 19 (d ++ c ++ bytes "+0000") ≡ bytes "+0000"
     ends d c e f = drop_at (d ++ c) (bytes "+0000") 19 (length-append d c ∙ omega (arith, e, f))
-full-timestamp offset (negsuc t) before o h = clash (cc)
+full_timestamp offset (negsuc t) before o h = clash (cc)
 
 tick_in_years : (tick : ℤ) → is_writable_tick tick ≡ true ↔ (n : ℕ) × (tick ≡ pos n) × (n < 3_155_378_976_000_000)
 tick_in_years (pos t) = (
@@ -173,8 +173,8 @@ bound_in_years unbounded = (λ h. tt, λ h. refl)
 bound_in_years (open_at t) = tick_in_years t
 bound_in_years (closed_at t) = tick_in_years t
 
-outside-years : (v : Interval) → is_writable_stretch v ≡ true ↔ InYears v.low × InYears v.high
-outside-years v = (
+outside_years : (v : Interval) → is_writable_stretch v ≡ true ↔ InYears v.low × InYears v.high
+outside_years v = (
   λ h. let (l, r) = both_true (is_writable_bound v.low) (is_writable_bound v.high) h in ((bound_in_years v.low).0 l, (bound_in_years v.high).0 r),
   λ (l, r). rw ((bound_in_years v.low).1 l, (bound_in_years v.high).1 r) refl,
 )
@@ -186,11 +186,11 @@ layout v ss = refl
 
 pub print_promise : PrintPromise services
 print_promise = record {
-  listed-proper = listed-proper;
+  listed_proper = listed_proper;
   layout = layout;
   in_order = list-bytes;
-  full-timestamp = full-timestamp;
-  outside-years = outside-years;
+  full_timestamp = full_timestamp;
+  outside_years = outside_years;
   no_stretch = no_stretch;
   read_back = read_back;
   printed = prints;

@@ -18,7 +18,7 @@ use Rattle.rules.specs.Types.{Kind, name_of, member_types, all_types, type_among
 use Rattle.rules.specs.Judge.{Standing, top, is_top, type_columns, null_columns, attribute_faults, lacks, breaks_null, element_faults, kind_of, standing_of, next_child, child_faults, top_faults}
 use Rattle.rules.proofs.Tests.{same_true}
 use Rattle.rules.proofs.Children.{faults_as}
-use Rattle.demands.specs.WrongTimes.{IsWrongBy, wrong-form, wrong-date, wrong-clock, wrong-zone, retimed_attribute, retimed, retimed_element}
+use Rattle.demands.specs.WrongTimes.{IsWrongBy, wrong_form, wrong_date, wrong_clock, wrong_zone, retimed_attribute, retimed, retimed_element}
 use Rattle.demands.proofs.WrongTexts.{in_read, is-wrong_by}
 use Rattle.demands.proofs.TimesWithin.{in_when, kids_as}
 
@@ -51,10 +51,10 @@ alike_rule a b = alike_none _ _ (λ q. late_when q RULE a (omega arith)) (λ q. 
 
 late_wrong : {text : List ℕ} {q : Refusal} → IsWrongBy text q → rank VALUE ≤ rank q
 unfolding rank_in
-late_wrong (wrong-form n) = omega arith
-late_wrong (wrong-date f n) = omega arith
-late_wrong (wrong-clock f d n) = omega arith
-late_wrong (wrong-zone f d c n) = omega arith
+late_wrong (wrong_form n) = omega arith
+late_wrong (wrong_date f n) = omega arith
+late_wrong (wrong_clock f d n) = omega arith
+late_wrong (wrong_zone f d c n) = omega arith
 
 late_form : (shift : ℕ) (f : Form) (text : List ℕ) (q : Refusal) → Memᴰ q (form_faults shift f text) → rank VALUE ≤ rank q
 unfolding form_faults

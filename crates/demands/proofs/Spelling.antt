@@ -19,7 +19,7 @@ use Rattle.rules.proofs.Digits.{decimal-below, decimal_injective, digits_of-leng
 use Rattle.rules.proofs.Dates.{digits-read}
 use Rattle.rules.proofs.Ticks.{Form, form}
 use Rattle.demands.specs.Totals.{AreDigits, pointed}
-use Rattle.demands.specs.WrongTimes.{SpellsZone, no_offset, plus-hours, minus-hours, plus_minutes, minus_minutes, Spells}
+use Rattle.demands.specs.WrongTimes.{SpellsZone, no_offset, plus_hours, minus_hours, plus_minutes, minus_minutes, Spells}
 
 -- What is read is spelled.
 times-ok : (n : ℕ) (s : List ℕ) {ds r : List ℕ} → times n is_digit s ≡ ok ds r → (s ≡ ds ++ r) × (length ds ≡ n) × (every is_digit ds ≡ true)
@@ -105,11 +105,11 @@ IsTime sign t z = (h m : ℕ) × (h < 100) × (m < 100) × (z ≡ sign h m) × (
 
 plus-text : {s t : List ℕ} {z : Zone} → s ≡ 43 ∷ t → IsTime plus t z → SpellsZone s z
 plus-text f (h, m, i, j, y, inl k) = rw (f, k, y) (plus_minutes i j)
-plus-text f (h, m, i, j, y, inr (k, n)) = rw (f, k, y, n) (plus-hours i)
+plus-text f (h, m, i, j, y, inr (k, n)) = rw (f, k, y, n) (plus_hours i)
 
 minus-text : {s t : List ℕ} {z : Zone} → s ≡ 45 ∷ t → IsTime minus t z → SpellsZone s z
 minus-text f (h, m, i, j, y, inl k) = rw (f, k, y) (minus_minutes i j)
-minus-text f (h, m, i, j, y, inr (k, n)) = rw (f, k, y, n) (minus-hours i)
+minus-text f (h, m, i, j, y, inr (k, n)) = rw (f, k, y, n) (minus_hours i)
 
 zone-text : (s : List ℕ) {z : Zone} → zone s ≡ ok z [] → SpellsZone s z
 unfolding zone
@@ -147,40 +147,40 @@ read-spelled s {w} e =
       spelled =
           g ∙ ap (λ t. digits_of 4 y ++ t) (h ∙ ap (λ t. flat_map (digits_of 2) ps ++ t) n)
           ∙ sym (append_assoc (digits_of 4 y ++ flat_map (digits_of 2) ps) (pointed f) s₃ ∙ append_assoc (digits_of 4 y) (flat_map (digits_of 2) ps) (pointed f ++ s₃));
-      year-digits = omega (arith, l);
+      year_digits = omega (arith, l);
       part_digits = m;
-      parts-most = q.parts-most;
-      fraction-digits = record { digits = q.fraction-digits; enough = omega arith; few = q.fraction-most };
-      after_seconds = elim o [ inl e ↦ inl e | inr e ↦ inr (omega (arith, e, q.parts-most)) ];
-      zone-spelled = i;
-      after-hours = j;
+      parts_most = q.parts_most;
+      fraction_digits = record { digits = q.fraction_digits; enough = omega arith; few = q.fraction_most };
+      after_seconds = elim o [ inl e ↦ inl e | inr e ↦ inr (omega (arith, e, q.parts_most)) ];
+      zone_spelled = i;
+      after_hours = j;
     }
 
 -- What is spelled is read. A text that ends or goes on with a point or a sign has no digit there.
 data NoDigit : List ℕ → Type 0 where
-  at-end : NoDigit []
-  at-point : {s : List ℕ} → NoDigit (46 ∷ s)
-  at-plus : {s : List ℕ} → NoDigit (43 ∷ s)
-  at-minus : {s : List ℕ} → NoDigit (45 ∷ s)
+  at_end : NoDigit []
+  at_point : {s : List ℕ} → NoDigit (46 ∷ s)
+  at_plus : {s : List ℕ} → NoDigit (43 ∷ s)
+  at_minus : {s : List ℕ} → NoDigit (45 ∷ s)
 
 no_digits : {s : List ℕ} → NoDigit s → (digits 2 s ≡ bad) × (one is_digit s ≡ bad)
 unfolding digits times one
-no_digits at-end = (refl, refl)
-no_digits at-point = (refl, refl)
-no_digits at-plus = (refl, refl)
-no_digits at-minus = (refl, refl)
+no_digits at_end = (refl, refl)
+no_digits at_point = (refl, refl)
+no_digits at_plus = (refl, refl)
+no_digits at_minus = (refl, refl)
 
 zone-first : {s : List ℕ} {z : Zone} → SpellsZone s z → NoDigit s × (byte 46 s ≡ bad)
 unfolding one
-zone-first no_offset = (at-end, refl)
-zone-first (plus-hours i) = (at-plus, refl)
-zone-first (minus-hours i) = (at-minus, refl)
-zone-first (plus_minutes i j) = (at-plus, refl)
-zone-first (minus_minutes i j) = (at-minus, refl)
+zone-first no_offset = (at_end, refl)
+zone-first (plus_hours i) = (at_plus, refl)
+zone-first (minus_hours i) = (at_minus, refl)
+zone-first (plus_minutes i j) = (at_plus, refl)
+zone-first (minus_minutes i j) = (at_minus, refl)
 
 fraction-first : (f : List ℕ) {s : List ℕ} → NoDigit s → NoDigit (pointed f ++ s)
 fraction-first [] n = n
-fraction-first (d ∷ f) n = at-point
+fraction-first (d ∷ f) n = at_point
 
 parts-read : (n : ℕ) (ps : List ℕ) {r : List ℕ} → length ps ≤ n → every (λ n. ltb n 100) ps ≡ true → NoDigit r → two_digits n (flat_map (digits_of 2) ps ++ r) ≡ ok ps r
 unfolding two_digits flat_map
@@ -211,12 +211,12 @@ zone-read n no_offset o = go (leb 3 n)
     go : (b : Bool) → else (next (guard b []) (λ u. zone)) (ok no_zone []) ≡ ok no_zone []
     go true = refl
     go false = refl
-zone-read n (plus-hours i) (inl e) = clash (cc)
-zone-read n (minus-hours i) (inl e) = clash (cc)
+zone-read n (plus_hours i) (inl e) = clash (cc)
+zone-read n (minus_hours i) (inl e) = clash (cc)
 zone-read n (plus_minutes i j) (inl e) = clash (cc)
 zone-read n (minus_minutes i j) (inl e) = clash (cc)
-zone-read n (plus-hours {h = h} i) (inr l) = rw (le-leb 3 n l, ← append-nil (digits_of 2 h), digits-read 2 h [] i, (no_digits at-end).0) refl
-zone-read n (minus-hours {h = h} i) (inr l) = rw (le-leb 3 n l, ← append-nil (digits_of 2 h), digits-read 2 h [] i, (no_digits at-end).0) refl
+zone-read n (plus_hours {h = h} i) (inr l) = rw (le-leb 3 n l, ← append-nil (digits_of 2 h), digits-read 2 h [] i, (no_digits at_end).0) refl
+zone-read n (minus_hours {h = h} i) (inr l) = rw (le-leb 3 n l, ← append-nil (digits_of 2 h), digits-read 2 h [] i, (no_digits at_end).0) refl
 zone-read n (plus_minutes {h = h} {m = m} i j) (inr l) =
     rw (le-leb 3 n l, digits-read 2 h (digits_of 2 m) i, ← append-nil (digits_of 2 m), digits-read 2 m [] j) refl
 zone-read n (minus_minutes {h = h} {m = m} i j) (inr l) =
@@ -230,10 +230,10 @@ spelled-read s w h =
     let rest = pointed w.fraction ++ h.offset in
     rw (
       h.spelled ∙ append_assoc (year ++ parts) (pointed w.fraction) h.offset ∙ append_assoc year parts rest,
-      digits-read 4 w.year (parts ++ rest) (omega (arith, h.year-digits)),
-      parts-read 5 w.parts h.parts-most h.part_digits (fraction-first w.fraction (zone-first h.zone-spelled).0),
-      fraction-read (length w.parts) w.fraction h.fraction-digits h.after_seconds h.zone-spelled,
-      zone-read (length w.parts) h.zone-spelled h.after-hours,
+      digits-read 4 w.year (parts ++ rest) (omega (arith, h.year_digits)),
+      parts-read 5 w.parts h.parts_most h.part_digits (fraction-first w.fraction (zone-first h.zone_spelled).0),
+      fraction-read (length w.parts) w.fraction h.fraction_digits h.after_seconds h.zone_spelled,
+      zone-read (length w.parts) h.zone_spelled h.after_hours,
     )
     refl
 

@@ -64,10 +64,10 @@ abbrev pub is_timed : Kind → Bool
 is_timed k = exists (λ j. same (name_of j) (name_of k)) (TS ∷ member_types)
 
 pub data IsText : (name : List ℕ) → Form → Type 0 where
-  time-text : IsText (bytes "value") timestamp
-  flavor-text : IsText (bytes "nullFlavor") flavor
-  low-text : IsText (bytes "lowClosed") flag
-  high-text : IsText (bytes "highClosed") flag
+  time_text : IsText (bytes "value") timestamp
+  flavor_text : IsText (bytes "nullFlavor") flavor
+  low_text : IsText (bytes "lowClosed") flag
+  high_text : IsText (bytes "highClosed") flag
 
 abbrev is_text_named : List ℕ → Form → Bool
 is_text_named n timestamp = same (bytes "value") n
@@ -270,13 +270,13 @@ own_texts name = flat_map (λ a. cond (same a.name name) (a.value ∷ []) [])
 pub record HasFault (shift : ℕ) (q : Refusal) (texts : List ℕ → List (List ℕ)) : Type 0 where
   pub name : List ℕ
   pub form : Form
-  pub is-text : IsText name form
+  pub is_text : IsText name form
   pub text : List ℕ
   pub stands : Memᴰ text (texts name)
   pub fault : Memᴰ q (form_faults shift form text)
 
 pub among : {shift : ℕ} {q : Refusal} {s t : List ℕ → List (List ℕ)} → ((name : List ℕ) (text : List ℕ) → Memᴰ text (s name) → Memᴰ text (t name)) → HasFault shift q s → HasFault shift q t
-among f h = record { name = h.name; form = h.form; is-text = h.is-text; text = h.text; stands = f h.name h.text h.stands; fault = h.fault }
+among f h = record { name = h.name; form = h.form; is_text = h.is_text; text = h.text; stands = f h.name h.text h.stands; fault = h.fault }
 
 module _ (shift : ℕ) (q : Refusal) (of-text : IsOfText q) where
   attribute-text : (attrs : List Attribute) (a : Attribute) → Memᴰ a attrs → (n : List ℕ) (f : Form) → same n a.name ≡ true → is_text_named n f ≡ true
@@ -290,7 +290,7 @@ module _ (shift : ℕ) (q : Refusal) (of-text : IsOfText q) where
           record {
             name = name;
             form = form;
-            is-text = x;
+            is_text = x;
             text = a.value;
             stands = flat_map_in (λ a. cond (same a.name name) (a.value ∷ []) []) i (rw (z, same_refl name) (Memᴰ.head refl));
             fault = m;
@@ -298,12 +298,12 @@ module _ (shift : ℕ) (q : Refusal) (of-text : IsOfText q) where
 
       by_flag : (b : Bool) → same (bytes "lowClosed") n ≡ b → (b || same (bytes "highClosed") n) ≡ true → Memᴰ q (form_faults shift flag a.value)
           → HasFault shift q (λ name. own_texts name attrs)
-      by_flag true e t m = named low-text e m
-      by_flag false e t m = named high-text t m
+      by_flag true e t m = named low_text e m
+      by_flag false e t m = named high_text t m
 
       by_form : (f : Form) → is_text_named n f ≡ true → Memᴰ q (form_faults shift f a.value) → HasFault shift q (λ name. own_texts name attrs)
-      by_form timestamp t m = named time-text t m
-      by_form flavor t m = named flavor-text t m
+      by_form timestamp t m = named time_text t m
+      by_form flavor t m = named flavor_text t m
       by_form flag t m = by_flag (same (bytes "lowClosed") n) refl t m
       by_form any_text t m = absurd (Memᴰ.not-nil m)
       by_form non_empty t m = clash (cc)
@@ -364,26 +364,26 @@ data ColumnFor (name : List ℕ) (form : Form) (k : Kind) : Type 0 where
 
 column_for_lem : {name : List ℕ} {form : Form} → IsText name form → (k : Kind) → is_timed k ≡ true → ColumnFor name form k
 unfolding line_of find same exists
-column_for_lem time-text TS t = a_column _ refl refl
-column_for_lem flavor-text TS t = a_column _ refl refl
-column_for_lem low-text TS t = no_column refl
-column_for_lem high-text TS t = no_column refl
-column_for_lem time-text IVL_TS t = no_column refl
-column_for_lem flavor-text IVL_TS t = a_column _ refl refl
-column_for_lem low-text IVL_TS t = a_column _ refl refl
-column_for_lem high-text IVL_TS t = a_column _ refl refl
-column_for_lem time-text QSU_TS t = no_column refl
-column_for_lem flavor-text QSU_TS t = a_column _ refl refl
-column_for_lem low-text QSU_TS t = no_column refl
-column_for_lem high-text QSU_TS t = no_column refl
-column_for_lem time-text QSI_TS t = no_column refl
-column_for_lem flavor-text QSI_TS t = a_column _ refl refl
-column_for_lem low-text QSI_TS t = no_column refl
-column_for_lem high-text QSI_TS t = no_column refl
-column_for_lem time-text QSD_TS t = no_column refl
-column_for_lem flavor-text QSD_TS t = a_column _ refl refl
-column_for_lem low-text QSD_TS t = no_column refl
-column_for_lem high-text QSD_TS t = no_column refl
+column_for_lem time_text TS t = a_column _ refl refl
+column_for_lem flavor_text TS t = a_column _ refl refl
+column_for_lem low_text TS t = no_column refl
+column_for_lem high_text TS t = no_column refl
+column_for_lem time_text IVL_TS t = no_column refl
+column_for_lem flavor_text IVL_TS t = a_column _ refl refl
+column_for_lem low_text IVL_TS t = a_column _ refl refl
+column_for_lem high_text IVL_TS t = a_column _ refl refl
+column_for_lem time_text QSU_TS t = no_column refl
+column_for_lem flavor_text QSU_TS t = a_column _ refl refl
+column_for_lem low_text QSU_TS t = no_column refl
+column_for_lem high_text QSU_TS t = no_column refl
+column_for_lem time_text QSI_TS t = no_column refl
+column_for_lem flavor_text QSI_TS t = a_column _ refl refl
+column_for_lem low_text QSI_TS t = no_column refl
+column_for_lem high_text QSI_TS t = no_column refl
+column_for_lem time_text QSD_TS t = no_column refl
+column_for_lem flavor_text QSD_TS t = a_column _ refl refl
+column_for_lem low_text QSD_TS t = no_column refl
+column_for_lem high_text QSD_TS t = no_column refl
 column_for_lem x MO t = clash (cc)
 column_for_lem x II t = clash (cc)
 column_for_lem x CD t = clash (cc)
@@ -407,10 +407,10 @@ module _ (shift : ℕ) where
   text_faults : {name : List ℕ} {form : Form} → IsText name form → (p : Standing) (k : Kind) (a : Attribute) → a.name ≡ name
       → attribute_faults shift p k a ≡ if_some (column_for name k) (λ c. form_faults shift c.form a.value) (SHAPE ∷ [])
   unfolding same begins
-  text_faults time-text p k a e = column_faults p k a (bytes "value") refl refl e
-  text_faults flavor-text p k a e = column_faults p k a (bytes "nullFlavor") refl refl e
-  text_faults low-text p k a e = column_faults p k a (bytes "lowClosed") refl refl e
-  text_faults high-text p k a e = column_faults p k a (bytes "highClosed") refl refl e
+  text_faults time_text p k a e = column_faults p k a (bytes "value") refl refl e
+  text_faults flavor_text p k a e = column_faults p k a (bytes "nullFlavor") refl refl e
+  text_faults low_text p k a e = column_faults p k a (bytes "lowClosed") refl refl e
+  text_faults high_text p k a e = column_faults p k a (bytes "highClosed") refl refl e
 
   module _ (q : Refusal) where
     fault_in_attribute : {name : List ℕ} {form : Form} → IsText name form → (p : Standing) (k : Kind) → is_timed k ≡ true → (a : Attribute) → a.name ≡ name
@@ -433,13 +433,13 @@ module _ (shift : ℕ) where
         let (a, j, m) = in_flat_map (λ a. cond (same a.name h.name) (a.value ∷ []) []) attrs h.stands in
         let (e, f) = in_texts a m in
         flat_map_in (attribute_faults shift p k) j
-        (fault_in_attribute h.is-text p k t a e (λ n. d (flat_map_in (attribute_faults shift p k) j n)) (subst (λ v. Memᴰ q (form_faults shift h.form v)) f h.fault))
+        (fault_in_attribute h.is_text p k t a e (λ n. d (flat_map_in (attribute_faults shift p k) j n)) (subst (λ v. Memᴰ q (form_faults shift h.form v)) f h.fault))
 
     -- which texts of two have the fault
     either : {s t : List ℕ → List (List ℕ)} → HasFault shift q (λ name. s name ++ t name) → HasFault shift q s ⊎ HasFault shift q t
     either {s} h = elim (Memᴰ.append_cases (s h.name) h.stands) [
-      | inl i ↦ inl (record { name = h.name; form = h.form; is-text = h.is-text; text = h.text; stands = i; fault = h.fault })
-      | inr i ↦ inr (record { name = h.name; form = h.form; is-text = h.is-text; text = h.text; stands = i; fault = h.fault })
+      | inl i ↦ inl (record { name = h.name; form = h.form; is_text = h.is_text; text = h.text; stands = i; fault = h.fault })
+      | inr i ↦ inr (record { name = h.name; form = h.form; is_text = h.is_text; text = h.text; stands = i; fault = h.fault })
     ]
 
     pub fault_in_element : (p : Standing) (k : Kind) (attrs : List Attribute) (kids : Nodes) (within : Kind → List Refusal) → is_timed k ≡ true

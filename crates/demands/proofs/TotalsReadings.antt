@@ -49,7 +49,7 @@ reads k = go (check k.offset k.record') refl
 
     by_type : (e : Element) → check k.offset k.record' ≡ answered e → (b : Bool) → has_type e.attrs MO ≡ b
         → Reads k (answered (entry_of e.attrs) unless TYPE when not b)
-    by_type e c false t = Reads.other-type c t
+    by_type e c false t = Reads.other_type c t
     by_type e c true t = elim (entry_cases k.offset k.record' e c t) [
       | is-null n m ↦ rw m (Reads.a_null c t n)
       | is-money d z n l f a m ↦ let (text, v, w) = written e.attrs _ refl a in rw m (Reads.an_amount c t n l v w)

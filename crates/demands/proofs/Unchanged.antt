@@ -12,4 +12,4 @@ use Rattle.demands.proofs.Determined.{demands_agree}
 -- "No answer changes.": what meets all but this request, and what meets all, do the same
 pub no_answer-changes : (s t : Services) → Demand1 s → Demand2 s → Demand3 s → PrintPromise s → TotalsPromise → DesksPromise s → Demands t → Same s t
 no_answer-changes s t one two three print totals desks q =
-    demands_agree (record { one = one; two = two; three = three; print = print; years = years_kept s two; last_day = last_day_kept s two three; wrong-times = wrong-times_kept s two three; totals = totals; desks = desks }) q
+    demands_agree (record { one = one; two = two; three = three; print = print; years = years_kept s two; last_day = last_day_kept s two three; wrong_times = wrong-times_kept s two three; totals = totals; desks = desks }) q

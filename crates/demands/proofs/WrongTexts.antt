@@ -15,7 +15,7 @@ use Rattle.rules.specs.Parsers.{whole}
 use Rattle.rules.specs.Timestamp.{Zone, no_zone, plus, minus, Written, timestamp, month_of, hour_of, minute_of, second_of, is_date, is_clock, is_offset_time, is_zone, Moment, moment_of, read_timestamp}
 use Rattle.rules.proofs.Tests.{clash, both_true, is_from-true_lem}
 use Rattle.rules.proofs.Ticks.{read-wrong-form, read_right_form}
-use Rattle.demands.specs.WrongTimes.{Spells, Outside, ImpossibleDate, no_year, no_month, no_day, ImpossibleClock, no_hour, no_minute, no_second, OverOffset, ImpossibleOffset, no_plus, no_minus, IsWrongBy, wrong-form, wrong-date, wrong-clock, wrong-zone}
+use Rattle.demands.specs.WrongTimes.{Spells, Outside, ImpossibleDate, no_year, no_month, no_day, ImpossibleClock, no_hour, no_minute, no_second, OverOffset, ImpossibleOffset, no_plus, no_minus, IsWrongBy, wrong_form, wrong_date, wrong_clock, wrong_zone}
 use Rattle.demands.proofs.Spelling.{spells}
 
 one-false : (a b : Bool) → (a && b) ≡ false → (a ≡ false) ⊎ (b ≡ false)
@@ -92,26 +92,26 @@ module _ (shift : ℕ) (text : List ℕ) where
     where
       by_parts : (w : Written) → Spells text w → (a b c : Bool) → is_date w ≡ a → is_clock w ≡ b → is_zone w.zone ≡ c
           → cond a (cond b (cond c (answered (moment_of shift w)) (refused ZONE)) (refused CLOCK)) (refused DATE) ≡ refused r → IsWrongBy text r
-      by_parts w f false b c p q t h = let z : r ≡ DATE = cc in rw z (wrong-date f (is_no_date w p))
-      by_parts w f true false c p q t h = let z : r ≡ CLOCK = cc in rw z (wrong-clock f (is-date w p) (is_no_clock w q))
-      by_parts w f true true false p q t h = let z : r ≡ ZONE = cc in rw z (wrong-zone f (is-date w p) (is-clock w q) (is_no_zone w.zone t))
+      by_parts w f false b c p q t h = let z : r ≡ DATE = cc in rw z (wrong_date f (is_no_date w p))
+      by_parts w f true false c p q t h = let z : r ≡ CLOCK = cc in rw z (wrong_clock f (is-date w p) (is_no_clock w q))
+      by_parts w f true true false p q t h = let z : r ≡ ZONE = cc in rw z (wrong_zone f (is-date w p) (is-clock w q) (is_no_zone w.zone t))
       by_parts w f true true true p q t h = clash (cc)
 
       by_form : (o : Option Written) → whole timestamp text ≡ o → IsWrongBy text r
-      by_form none f = let z : r ≡ VALUE = cc (read-wrong-form shift text f) in rw z (wrong-form (λ w g. let h = (spells text w).1 g in clash (cc)))
+      by_form none f = let z : r ≡ VALUE = cc (read-wrong-form shift text f) in rw z (wrong_form (λ w g. let h = (spells text w).1 g in clash (cc)))
       by_form (some w) f = by_parts w ((spells text w).0 f) _ _ _ refl refl refl (sym (read_right_form shift text w f) ∙ e)
 
   wrong-refused : {r : Refusal} → IsWrongBy text r → read_timestamp shift text ≡ refused r
-  wrong-refused (wrong-form n) = by_form (whole timestamp text) refl
+  wrong-refused (wrong_form n) = by_form (whole timestamp text) refl
     where
       by_form : (o : Option Written) → whole timestamp text ≡ o → read_timestamp shift text ≡ refused VALUE
       by_form none f = read-wrong-form shift text f
       by_form (some w) f = absurd (n w ((spells text w).0 f))
-  wrong-refused (wrong-date {w = w} f n) = read_right_form shift text w ((spells text w).1 f) ∙ rw (else-false (is_date w) (λ e. is-date w e n)) refl
-  wrong-refused (wrong-clock {w = w} f d n) =
+  wrong-refused (wrong_date {w = w} f n) = read_right_form shift text w ((spells text w).1 f) ∙ rw (else-false (is_date w) (λ e. is-date w e n)) refl
+  wrong-refused (wrong_clock {w = w} f d n) =
       read_right_form shift text w ((spells text w).1 f)
       ∙ rw (else-true (is_date w) (λ e. d (is_no_date w e)), else-false (is_clock w) (λ e. is-clock w e n)) refl
-  wrong-refused (wrong-zone {w = w} f d c n) =
+  wrong-refused (wrong_zone {w = w} f d c n) =
       read_right_form shift text w ((spells text w).1 f)
       ∙ rw (else-true (is_date w) (λ e. d (is_no_date w e)), else-true (is_clock w) (λ e. c (is_no_clock w e)), else-false (is_zone w.zone) (λ e. is-zone w.zone e n)) refl
 

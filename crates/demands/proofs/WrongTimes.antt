@@ -28,20 +28,20 @@ use Rattle.rules.proofs.Tests.{clash, found}
 use Rattle.rules.proofs.Precedence.{rank_injective, number_injective, first-is, check-refused, check-answered}
 use Rattle.rules.proofs.Opened.{opened}
 use Rattle.rules.proofs.Members.{type-is}
-use Rattle.rules.proofs.ListingCases.{faulty, other-type, unclear, many, a_set, case}
+use Rattle.rules.proofs.ListingCases.{faulty, other_type, unclear, many, a_set, case}
 use Rattle.rules.proofs.ListingPromise.{small}
 use Rattle.rules.proofs.ComparisonPromise.{Pair, pair}
 use Rattle.rules.specs.Totals.{Entry}
 use Rattle.rules.specs.TotalDays.{Call, reading_of}
 use Rattle.demands.specs.Services.{Services}
 use Rattle.demands.specs.Totals.{Reads}
-use Rattle.demands.specs.WrongTimes.{IsWrongBy, texts_in, texts_of, IsOfTimes, HasWrongForm, wrong-flavor, wrong-flag, wrong-text, retimed_element, HasWrongTime, part_refusals, WrongTimesPromise}
+use Rattle.demands.specs.WrongTimes.{IsWrongBy, texts_in, texts_of, IsOfTimes, HasWrongForm, wrong_flavor, wrong_flag, wrong_text, retimed_element, HasWrongTime, part_refusals, WrongTimesPromise}
 use Rattle.demands.specs.Demands.{IsFirst, Demand2, Demand3}
 use Rattle.demands.proofs.Answers.{iff_trans}
 use Rattle.demands.proofs.TotalsReadings.{reads}
 use Rattle.demands.proofs.WrongTexts.{in_read, is-wrong_by}
 use Rattle.demands.proofs.Retimed.{type-same, alike_top}
-use Rattle.demands.proofs.TimesWithin.{IsOfText, IsPart, is_part_lem, in_when, not_of_text, not_part, is_timed, IsText, time-text, flavor-text, low-text, high-text, record_timed, own_texts, HasFault, among, element-fault, IsClean, fault_in_element, fault_in_children}
+use Rattle.demands.proofs.TimesWithin.{IsOfText, IsPart, is_part_lem, in_when, not_of_text, not_part, is_timed, IsText, time_text, flavor_text, low_text, high_text, record_timed, own_texts, HasFault, among, element-fault, IsClean, fault_in_element, fault_in_children}
 
 -- the faults that don't lie in the element
 abbrev outer_faults : (offset : ℤ) → List ℕ → List Refusal
@@ -190,7 +190,7 @@ money_timeless k r e m = go (reads k) e
         let (b, i, n) = record_fault r (of_part r (is_part_lem m)) k.offset k.record' ((first-is (record_faults k.offset k.record') r).0 ((check-refused k.offset k.record' r).0 d)).0 in
         let y : b ≡ a = cc in
         other-type_of b (part_of_times (shift_by k.offset) b r (is_part_lem m) n) (rw y h)
-    go (Reads.other-type c t) e = let z : r ≡ TYPE = cc in absurd (omega (arith, ap rank z, is_part_lem m))
+    go (Reads.other_type c t) e = let z : r ≡ TYPE = cc in absurd (omega (arith, ap rank z, is_part_lem m))
     go (Reads.a_null c t n) e = clash (cc)
     go (Reads.an_amount c t n l v w) e = clash (cc)
 
@@ -261,46 +261,46 @@ module _ (offset : ℤ) (input : List ℕ) (e : Element) where
   -- a text that is of the wrong form has VALUE, and what has VALUE is of the wrong form
   ill_formed : {name : List ℕ} {form : Form} (x : IsText name form) (text : List ℕ) → Memᴰ text (texts shift e name) → Memᴰ VALUE (form_faults shift form text) → HasWrongForm e
   unfolding form_faults
-  ill_formed time-text text i m = wrong-text text i ((time-fault shift text VALUE).0 m)
-  ill_formed flavor-text text i m = wrong-flavor (none_of is_flavor i (given_when (is_flavor text) m))
-  ill_formed low-text text i m = wrong-flag (none_of is_flag (mathlib.Core.List.Memᴰ.append_left (texts_of "highClosed" e) i) (given_when (is_flag text) m))
-  ill_formed high-text text i m = wrong-flag (none_of is_flag (mathlib.Core.List.Memᴰ.append_right (texts_of "lowClosed" e) i) (given_when (is_flag text) m))
+  ill_formed time_text text i m = wrong_text text i ((time-fault shift text VALUE).0 m)
+  ill_formed flavor_text text i m = wrong_flavor (none_of is_flavor i (given_when (is_flavor text) m))
+  ill_formed low_text text i m = wrong_flag (none_of is_flag (mathlib.Core.List.Memᴰ.append_left (texts_of "highClosed" e) i) (given_when (is_flag text) m))
+  ill_formed high_text text i m = wrong_flag (none_of is_flag (mathlib.Core.List.Memᴰ.append_right (texts_of "lowClosed" e) i) (given_when (is_flag text) m))
 
   form-fault : HasWrongForm e → HasFault shift VALUE (texts shift e)
   unfolding form_faults
-  form-fault (wrong-text text i w) =
-      record { name = bytes "value"; form = Form.timestamp; is-text = time-text; text = text; stands = i; fault = (time-fault shift text VALUE).1 w }
-  form-fault (wrong-flavor h) =
+  form-fault (wrong_text text i w) =
+      record { name = bytes "value"; form = Form.timestamp; is_text = time_text; text = text; stands = i; fault = (time-fault shift text VALUE).1 w }
+  form-fault (wrong_flavor h) =
       let (text, i, f) = one_of_lem is_flavor (texts_of "nullFlavor" e) h in
-      record { name = bytes "nullFlavor"; form = Form.flavor; is-text = flavor-text; text = text; stands = i; fault = rw f (mathlib.Core.List.Memᴰ.head refl) }
-  form-fault (wrong-flag h) =
+      record { name = bytes "nullFlavor"; form = Form.flavor; is_text = flavor_text; text = text; stands = i; fault = rw f (mathlib.Core.List.Memᴰ.head refl) }
+  form-fault (wrong_flag h) =
       let (text, i, f) = one_of_lem is_flag (texts_of "lowClosed" e ++ texts_of "highClosed" e) h in
       elim (mathlib.Core.List.Memᴰ.append_cases (texts_of "lowClosed" e) {t = texts_of "highClosed" e} i) [
-        | inl i ↦ record { name = bytes "lowClosed"; form = Form.flag; is-text = low-text; text = text; stands = i; fault = rw f (mathlib.Core.List.Memᴰ.head refl) }
-        | inr i ↦ record { name = bytes "highClosed"; form = Form.flag; is-text = high-text; text = text; stands = i; fault = rw f (mathlib.Core.List.Memᴰ.head refl) }
+        | inl i ↦ record { name = bytes "lowClosed"; form = Form.flag; is_text = low_text; text = text; stands = i; fault = rw f (mathlib.Core.List.Memᴰ.head refl) }
+        | inr i ↦ record { name = bytes "highClosed"; form = Form.flag; is_text = high_text; text = text; stands = i; fault = rw f (mathlib.Core.List.Memᴰ.head refl) }
       ]
 
   pub stays-value : IsOfTimes offset input e → IsFirst VALUE (record_faults offset input) ↔ HasWrongForm e
   unfolding rank_in
   stays-value t = (
-    λ (m, l). let h = given_text t VALUE (omega arith) m in ill_formed h.is-text h.text h.stands h.fault,
+    λ (m, l). let h = given_text t VALUE (omega arith) m in ill_formed h.is_text h.text h.stands h.fault,
     λ h. (text_given t VALUE (form-fault h), nothing-before t),
   )
 
   module _ (r : Refusal) (part : IsPart r) where
     wrong_first : IsOfTimes offset input e → HasWrongTime e r → IsFirst r (record_faults offset input)
     unfolding form_faults
-    wrong_first t w = (text_given t r (record { name = bytes "value"; form = Form.timestamp; is-text = time-text; text = w.text; stands = w.stands; fault = (time-fault shift w.text r).1 w.wrong }), least)
+    wrong_first t w = (text_given t r (record { name = bytes "value"; form = Form.timestamp; is_text = time_text; text = w.text; stands = w.stands; fault = (time-fault shift w.text r).1 w.wrong }), least)
       where
         by_text : (q : Refusal) → rank VALUE < rank q → {name : List ℕ} {form : Form} → IsText name form → (text : List ℕ) → Memᴰ text (texts shift e name)
             → Memᴰ q (form_faults shift form text) → rank r ≤ rank q
-        by_text q l time-text text i m = w.first text q i ((time-fault shift text q).0 m)
-        by_text q l flavor-text text i m = absurd (omega (arith, l, ap rank (in_when (not (is_flavor text)) m)))
-        by_text q l low-text text i m = absurd (omega (arith, l, ap rank (in_when (not (is_flag text)) m)))
-        by_text q l high-text text i m = absurd (omega (arith, l, ap rank (in_when (not (is_flag text)) m)))
+        by_text q l time_text text i m = w.first text q i ((time-fault shift text q).0 m)
+        by_text q l flavor_text text i m = absurd (omega (arith, l, ap rank (in_when (not (is_flavor text)) m)))
+        by_text q l low_text text i m = absurd (omega (arith, l, ap rank (in_when (not (is_flag text)) m)))
+        by_text q l high_text text i m = absurd (omega (arith, l, ap rank (in_when (not (is_flag text)) m)))
 
         by_fault : (q : Refusal) → rank VALUE < rank q → HasFault shift q (texts shift e) → rank r ≤ rank q
-        by_fault q l h = by_text q l h.is-text h.text h.stands h.fault
+        by_fault q l h = by_text q l h.is_text h.text h.stands h.fault
 
         -- VALUE is given by a wrong form alone
         not-value : (q : Refusal) → Memᴰ q (record_faults offset input) → rank VALUE < rank q
@@ -319,7 +319,7 @@ module _ (offset : ℤ) (input : List ℕ) (e : Element) where
 
     first-wrong : document input ≡ some e → Memᴰ r (top_faults shift e) → IsFirst r (record_faults offset input) → IsOfTimes offset input e × HasWrongTime e r
     unfolding form_faults
-    first-wrong d n (m, least) = (t, by_text h.is-text h.text h.stands h.fault)
+    first-wrong d n (m, least) = (t, by_text h.is_text h.text h.stands h.fault)
       where
         before : (q : Refusal) → Memᴰ q (record_faults offset input) → rank VALUE ≤ rank q
         before q m = omega (arith, part, least q m)
@@ -331,16 +331,16 @@ module _ (offset : ℤ) (input : List ℕ) (e : Element) where
         h = fault_of_text shift e (has-times t) r (of_part r part) n
 
         by_text : {name : List ℕ} {form : Form} → IsText name form → (text : List ℕ) → Memᴰ text (texts shift e name) → Memᴰ r (form_faults shift form text) → HasWrongTime e r
-        by_text time-text text i m = record {
+        by_text time_text text i m = record {
           formed = λ f. omega (arith, part, least VALUE ((stays-value t).1 f).0);
           text = text;
           stands = i;
           wrong = (time-fault shift text r).0 m;
-          first = λ text q i w. least q (text_given t q (record { name = bytes "value"; form = Form.timestamp; is-text = time-text; text = text; stands = i; fault = (time-fault shift text q).1 w }));
+          first = λ text q i w. least q (text_given t q (record { name = bytes "value"; form = Form.timestamp; is_text = time_text; text = text; stands = i; fault = (time-fault shift text q).1 w }));
         }
-        by_text flavor-text text i m = not_part r part VALUE (λ p. omega (arith, p)) (in_when (not (is_flavor text)) m)
-        by_text low-text text i m = not_part r part VALUE (λ p. omega (arith, p)) (in_when (not (is_flag text)) m)
-        by_text high-text text i m = not_part r part VALUE (λ p. omega (arith, p)) (in_when (not (is_flag text)) m)
+        by_text flavor_text text i m = not_part r part VALUE (λ p. omega (arith, p)) (in_when (not (is_flavor text)) m)
+        by_text low_text text i m = not_part r part VALUE (λ p. omega (arith, p)) (in_when (not (is_flag text)) m)
+        by_text high_text text i m = not_part r part VALUE (λ p. omega (arith, p)) (in_when (not (is_flag text)) m)
 
 -- a text has one fault, that of reading it
 first_of_read : (o : Outcome Moment) (r : Refusal) → IsFirst r (faults_of o ++ []) ↔ o ≡ refused r
@@ -358,21 +358,21 @@ data Comparing (offset : ℤ) (first second : List ℕ) (answer : ℕ) : Type 0 
   an_answer : (x : Answer) → Says x answer → Comparing offset first second answer
 
 module _ (s : Services) (two : Demand2 s) (three : Demand3 s) (offset : ℤ) where
-  ticks : (text : List ℕ) → is_offset offset ≡ true → length text ≤ 16_384 → (r : Refusal) → number_in (s.tick-says offset text) ≡ number r ↔ IsWrongBy text r
+  ticks : (text : List ℕ) → is_offset offset ≡ true → length text ≤ 16_384 → (r : Refusal) → number_in (s.tick_says offset text) ≡ number r ↔ IsWrongBy text r
   ticks text e l r =
-      iff_trans (rw (e, le-ltb 16_384 (length text) l) at (two.time-refused offset text r))
+      iff_trans (rw (e, le-ltb 16_384 (length text) l) at (two.time_refused offset text r))
       (iff_trans (first_of_read (read_timestamp (shift_by offset) text) r) (is-wrong_by (shift_by offset) text r))
 
   -- checking says what is refused, and what is accepted
-  checked : (input : List ℕ) (r : Refusal) → number_in (s.check-says offset input) ≡ number r ↔ check offset input ≡ refused r
+  checked : (input : List ℕ) (r : Refusal) → number_in (s.check_says offset input) ≡ number r ↔ check offset input ≡ refused r
   checked input r =
       let (f, g) = iff_trans (check-refused offset input r) (first-is (record_faults offset input) r) in
       iff_trans (two.refused offset input r) (g, f)
 
-  accepted : (input : List ℕ) → number_in (s.check-says offset input) ≡ 0 ↔ (e : Element) × (check offset input ≡ answered e)
+  accepted : (input : List ℕ) → number_in (s.check_says offset input) ≡ 0 ↔ (e : Element) × (check offset input ≡ answered e)
   accepted input = (λ z. go z (check offset input) refl, λ (e, c). (two.accepted offset input).1 ((check-answered offset input e).0 c).1)
     where
-      go : number_in (s.check-says offset input) ≡ 0 → (o : Outcome Element) → check offset input ≡ o → (e : Element) × (check offset input ≡ answered e)
+      go : number_in (s.check_says offset input) ≡ 0 → (o : Outcome Element) → check offset input ≡ o → (e : Element) × (check offset input ≡ answered e)
       go z (answered e) c = (e, c)
       go z (refused q) c = clash (omega (arith, small q, z, (checked input q).1 c))
 
@@ -383,15 +383,15 @@ module _ (s : Services) (two : Demand2 s) (three : Demand3 s) (offset : ℤ) whe
           → Comparing offset first second (s.compare_says offset first second)
       by_type a b (Pair.alike k f u v c) e d =
           let (x, h) = (two.comparison_promise offset).answer k first second a b (record { accepted = e; type = u }) (record { accepted = d; type = v }) in an_answer x h
-      by_type a b (Pair.unlike h) e d = of_types ((two.comparison_promise offset).type-refused first second a b e d (λ k x y. h k x.type y.type))
+      by_type a b (Pair.unlike h) e d = of_types ((two.comparison_promise offset).type_refused first second a b e d (λ k x y. h k x.type y.type))
 
       go : (o u : Outcome Element) → check offset first ≡ o → check offset second ≡ u → Comparing offset first second (s.compare_says offset first second)
-      go (refused q) u e d = of_first q e ((two.comparison_promise offset).first-refused first second q e)
-      go (answered a) (refused q) e d = of_second a q e d ((two.comparison_promise offset).second-refused first second a q e d)
+      go (refused q) u e d = of_first q e ((two.comparison_promise offset).first_refused first second q e)
+      go (answered a) (refused q) e d = of_second a q e d ((two.comparison_promise offset).second_refused first second a q e d)
       go (answered a) (answered b) e d = by_type a b (pair a b) e d
 
   module _ (r : Refusal) (part : IsPart r) where
-    checks : (input : List ℕ) → number_in (s.check-says offset input) ≡ number r ↔ (e : Element) × IsOfTimes offset input e × HasWrongTime e r
+    checks : (input : List ℕ) → number_in (s.check_says offset input) ≡ number r ↔ (e : Element) × IsOfTimes offset input e × HasWrongTime e r
     checks input = iff_trans (two.refused offset input r) (
       λ h. let (e, d, n) = record_fault r (of_part r part) offset input h.0 in let (t, w) = first-wrong offset input e r part d n h in (e, t, w),
       λ (e, t, w). wrong_first offset input e r part t w,
@@ -405,7 +405,7 @@ module _ (s : Services) (two : Demand2 s) (three : Demand3 s) (offset : ℤ) whe
       no_answer : {w : ℕ} {x : Answer} {answer : ℕ} {A : Type 0} → Says x answer → Names w r answer → A
       no_answer h n = clash (omega (arith, small r, h.no_refusal, n.number_given))
 
-      compares_first : Names 1 r (s.compare_says offset first second) ↔ (number_in (s.check-says offset first) ≡ number r)
+      compares_first : Names 1 r (s.compare_says offset first second) ↔ (number_in (s.check_says offset first) ≡ number r)
       compares_first = (
         λ n. elim (comparing first second) [
           | of_first q c m ↦ (checked first r).1 (c ∙ ap refused (same-named m n).0)
@@ -413,10 +413,10 @@ module _ (s : Services) (two : Demand2 s) (three : Demand3 s) (offset : ℤ) whe
           | of_types m ↦ clash (omega (arith, (same-named m n).1))
           | an_answer x h ↦ no_answer h n
         ],
-        λ e. (two.comparison_promise offset).first-refused first second r ((checked first r).0 e),
+        λ e. (two.comparison_promise offset).first_refused first second r ((checked first r).0 e),
       )
 
-      compares_second : Names 2 r (s.compare_says offset first second) ↔ (number_in (s.check-says offset first) ≡ 0) × (number_in (s.check-says offset second) ≡ number r)
+      compares_second : Names 2 r (s.compare_says offset first second) ↔ (number_in (s.check_says offset first) ≡ 0) × (number_in (s.check_says offset second) ≡ number r)
       unfolding rank_in
       compares_second = (
         λ n. elim (comparing first second) [
@@ -425,27 +425,27 @@ module _ (s : Services) (two : Demand2 s) (three : Demand3 s) (offset : ℤ) whe
           | of_types m ↦ not_part r part TYPE (λ p. omega (arith, p)) (sym (same-named m n).0)
           | an_answer x h ↦ no_answer h n
         ],
-        λ (z, e). let (a, c) = (accepted first).0 z in (two.comparison_promise offset).second-refused first second a r c ((checked second r).0 e),
+        λ (z, e). let (a, c) = (accepted first).0 z in (two.comparison_promise offset).second_refused first second a r c ((checked second r).0 e),
       )
 
     listed_same : (e : Element) → is_listed (retimed_element e) ≡ is_listed e
     listed_same e = ap is_some (type-same member_types e.attrs)
 
-    lists : (input list : List ℕ) → number_in (s.list-says offset input list) ≡ number r
-        ↔ (number_in (s.check-says offset input) ≡ number r) × ((e : Element) × (document input ≡ some e) × (is_listed (retimed_element e) ≡ true))
+    lists : (input list : List ℕ) → number_in (s.list_says offset input list) ≡ number r
+        ↔ (number_in (s.check_says offset input) ≡ number r) × ((e : Element) × (document input ≡ some e) × (is_listed (retimed_element e) ≡ true))
     unfolding rank_in first_of
     lists input list = (there, back)
       where
-        promise : ListingPromise offset input (s.list-says offset input list) list (s.list_leaves offset input list)
+        promise : ListingPromise offset input (s.list_says offset input list) list (s.list_leaves offset input list)
         promise = three.listing_promise offset input list
 
-        given : {q : Refusal} → number_in (s.list-says offset input list) ≡ number r → Refuses offset input (s.list-says offset input list) list (s.list_leaves offset input list) q → r ≡ q
+        given : {q : Refusal} → number_in (s.list_says offset input list) ≡ number r → Refuses offset input (s.list_says offset input list) list (s.list_leaves offset input list) q → r ≡ q
         given {q} n h = number_injective r q (sym n ∙ h.number_given)
 
-        there : number_in (s.list-says offset input list) ≡ number r → (number_in (s.check-says offset input) ≡ number r) × ((e : Element) × (document input ≡ some e) × (is_listed (retimed_element e) ≡ true))
+        there : number_in (s.list_says offset input list) ≡ number r → (number_in (s.check_says offset input) ≡ number r) × ((e : Element) × (document input ≡ some e) × (is_listed (retimed_element e) ≡ true))
         there n = elim (case offset input) [
           | faulty q t c f ↦ let (d, l) = first_allowed r part offset input is_listed q c (f ∙ ap some (sym (given n (promise.faulty q t c f)))) in ((checked input r).1 d, (l.0, l.1, listed_same l.0 ∙ l.2))
-          | other-type e c l ↦ not_part r part TYPE (λ p. omega (arith, p)) (given n (promise.other-type e c l))
+          | other_type e c l ↦ not_part r part TYPE (λ p. omega (arith, p)) (given n (promise.other_type e c l))
           | unclear e c l u ↦ not_part r part UNKNOWN_BOUND (λ p. omega (arith, p)) (given n (promise.unknown_bound.1 (e, c, l, u)))
           | many e c l u m ↦ not_part r part TOO_MANY (λ p. omega (arith, p)) (given n (promise.too_many.1 (e, c, l, u, m)))
           | a_set e h ↦
@@ -456,14 +456,14 @@ module _ (s : Services) (two : Demand2 s) (three : Demand3 s) (offset : ℤ) whe
               ]
         ]
 
-        back : (number_in (s.check-says offset input) ≡ number r) × ((e : Element) × (document input ≡ some e) × (is_listed (retimed_element e) ≡ true)) → number_in (s.list-says offset input list) ≡ number r
+        back : (number_in (s.check_says offset input) ≡ number r) × ((e : Element) × (document input ≡ some e) × (is_listed (retimed_element e) ≡ true)) → number_in (s.list_says offset input list) ≡ number r
         back (n, (e, d, l)) = (promise.faulty r r ((checked input r).0 n) (let l : is_listed e ≡ true = sym (listed_same e) ∙ l in rw (d, l))).number_given
 
 pub wrong-times_kept : (s : Services) → Demand2 s → Demand3 s → WrongTimesPromise s
 unfolding rank_in opened
 wrong-times_kept s two three = record {
   ticks = ticks s two three;
-  before-value = λ offset. alike_top (shift_by offset);
+  before_value = λ offset. alike_top (shift_by offset);
   checks = λ offset input r m. checks s two three offset r (is_part_lem m) input;
   stays = λ offset input e t. iff_trans (two.refused offset input VALUE) (stays-value offset input e t);
   compares_first = λ offset first second r m. compares_first s two three offset r (is_part_lem m) first second;

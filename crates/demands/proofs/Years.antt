@@ -57,9 +57,9 @@ next_of : (shift y : ℕ) → 1 ≤ y → (moment_of shift (alone y)).next ≡ d
 unfolding unit_length
 next_of shift y h = omega (arith, year-starts shift y, days_by_division_lem y, days_by_division_lem (suc y), one_by_one y h)
 
-year-ends : (shift y : ℕ) (m : Moment) → 1 ≤ y → y ≤ 9999 → read_timestamp shift (digits_of 4 y) ≡ answered m
+year_ends : (shift y : ℕ) (m : Moment) → 1 ≤ y → y ≤ 9999 → read_timestamp shift (digits_of 4 y) ≡ answered m
     → m.next ≡ days_by_division (suc y) * day + shift * minute
-year-ends shift y m l h e =
+year_ends shift y m l h e =
     let z : moment_of shift (alone y) ≡ m = cc (year_alone shift y l h, e) in
     ap (λ n. n.next) (sym z) ∙ next_of shift y l
 
@@ -72,26 +72,26 @@ year_of : (t y m d : ℕ) → IsDateOf (t / day) y m d → IsYearOf y t
 year_of t y m d q =
     let z : days_before_year (suc y) ≡ days_of_years y = ap days_of_years (omega arith) in
     let begun : days_by_division y ≤ t / day = omega (arith, q.days_are, days_by_division_lem y) in
-    let in_year = months_in_year y m q.year-low q.month_high in
-    let not_over : t / day < days_by_division (suc y) = omega (arith, q.days_are, q.day-low, q.day-high, month_ends y m q.month_low, in_year, days_by_division_lem (suc y)) in
+    let in_year = months_in_year y m q.year_low q.month_high in
+    let not_over : t / day < days_by_division (suc y) = omega (arith, q.days_are, q.day_low, q.day_high, month_ends y m q.month_low, in_year, days_by_division_lem (suc y)) in
     let (from, below) = within-days (days_by_division y) (days_by_division (suc y)) t begun not_over in
-    (q.year-low, q.year-high, from, below)
+    (q.year_low, q.year_high, from, below)
 
 -- a timestamp begins with its year
 year-first : (t : ℕ) → take 4 (timestamp_text (pos t)) ≡ digits_of 4 (year_at (t / day)).unit
 unfolding date_text
 year-first t = let y = (year_at (t / day)).unit in simp append_assoc (take_at (digits_of 4 y) _ 4 (digits_of-length_lem 4 y))
 
-printed-years : (t : ℕ) → t < days_by_division 10_000 * day → (y : ℕ) × IsYearOf y t × (take 4 (timestamp_text (pos t)) ≡ digits_of 4 y)
-printed-years t h = let q = date_of (t / day) (omega arith) in ((year_at (t / day)).unit, year_of t _ _ _ q, year-first t)
+printed_years : (t : ℕ) → t < days_by_division 10_000 * day → (y : ℕ) × IsYearOf y t × (take 4 (timestamp_text (pos t)) ≡ digits_of 4 y)
+printed_years t h = let q = date_of (t / day) (omega arith) in ((year_at (t / day)).unit, year_of t _ _ _ q, year-first t)
 
 -- it is read without fault, and its tick is that of its start
 module _ (s : Services) (p : Demand2 s) (y : ℕ) (l : 1 ≤ y) (h : y ≤ 9999) where
   faultless : time_faults (pos 0) (digits_of 4 y) ≡ []
   faultless = rw (year_alone 840 y l h, le-ltb 16_384 (length (digits_of 4 y)) (omega (arith, digits_of-length_lem 4 y)))
 
-  year-ticks : (before : ℤ) → (s.tick-says (pos 0) (digits_of 4 y) ≡ 4 * 2 ^ 8) × (s.tick_leaves (pos 0) (digits_of 4 y) before ≡ pos (days_by_division y * day))
-  year-ticks before =
+  year_ticks : (before : ℤ) → (s.tick_says (pos 0) (digits_of 4 y) ≡ 4 * 2 ^ 8) × (s.tick_leaves (pos 0) (digits_of 4 y) before ≡ pos (days_by_division y * day))
+  year_ticks before =
       let (n, r, t) = p.time (pos 0) (digits_of 4 y) before _ (year_alone 840 y l h) faultless in
       (omega (arith, n, r), t ∙ ap tick_at (omega (arith, year-starts 840 y)) ∙ tick-from-start (days_by_division y * day))
 
@@ -99,9 +99,9 @@ pub years_kept : (s : Services) → Demand2 s → YearsPromise s
 years_kept s p = record {
   divided = λ y. refl;
   starts = starts;
-  year-ends = year-ends;
-  printed-years = printed-years;
-  year-ticks = year-ticks s p;
+  year_ends = year_ends;
+  printed_years = printed_years;
+  year_ticks = year_ticks s p;
   none_before = none_before;
   one_by_one = λ y l h. one_by_one y l;
   added_up = λ y l h. days_by_division_lem y;

@@ -47,26 +47,26 @@ pub record Demand1 (s : Services) : Type 0 where
       ∷ NOT_WRITABLE ∷ NO_ROOM ∷ NO_ROW ∷ TOTAL ∷ []
   pub numbers : map number precedence ≡ 23 ∷ 21 ∷ 25 ∷ 1 ∷ 2 ∷ 3 ∷ 4 ∷ 5 ∷ 6 ∷ 7 ∷ 13 ∷ 14 ∷ 15 ∷ 8 ∷ 9 ∷ 10 ∷ 12 ∷ 11 ∷ 16 ∷ 17 ∷ []
   pub one_number : (r q : Refusal) → number r ≡ number q → r ≡ q
-  pub check-answers : (offset : ℤ) (record' : List ℕ) → Answers record_refusals (λ n. n ≡ 0) (Unit {0}) (s.check-says offset record')
+  pub check_answers : (offset : ℤ) (record' : List ℕ) → Answers record_refusals (λ n. n ≡ 0) (Unit {0}) (s.check_says offset record')
   pub compare_answers : (offset : ℤ) (first second : List ℕ) → Compares record_refusals (s.compare_says offset first second)
-  pub list-answers : (offset : ℤ) (record' list : List ℕ)
-      → Answers list_refusals (λ n. n ≤ 32) (s.list_leaves offset record' list ≡ list) (s.list-says offset record' list)
-  pub tick-answers : (offset : ℤ) (text : List ℕ) (tick : ℤ)
-      → Answers time_refusals (λ n. (4 ≤ n) × (n ≤ 18)) (s.tick_leaves offset text tick ≡ tick) (s.tick-says offset text)
-  pub cut-answers : (text : List ℕ) (room : ℕ) → Answers (TOO_LONG ∷ NOT_UTF_8 ∷ []) (λ n. n ≤ length text) (Unit {0}) (s.cut-says text room)
-  pub print-answers : (list record' : List ℕ)
-      → Answers (NOT_WRITABLE ∷ NO_ROOM ∷ []) (λ n. n ≤ 4_735) (s.print_leaves list record' ≡ record') (s.print-says list record')
+  pub list_answers : (offset : ℤ) (record' list : List ℕ)
+      → Answers list_refusals (λ n. n ≤ 32) (s.list_leaves offset record' list ≡ list) (s.list_says offset record' list)
+  pub tick_answers : (offset : ℤ) (text : List ℕ) (tick : ℤ)
+      → Answers time_refusals (λ n. (4 ≤ n) × (n ≤ 18)) (s.tick_leaves offset text tick ≡ tick) (s.tick_says offset text)
+  pub cut_answers : (text : List ℕ) (room : ℕ) → Answers (TOO_LONG ∷ NOT_UTF_8 ∷ []) (λ n. n ≤ length text) (Unit {0}) (s.cut_says text room)
+  pub print_answers : (list record' : List ℕ)
+      → Answers (NOT_WRITABLE ∷ NO_ROOM ∷ []) (λ n. n ≤ 4_735) (s.print_leaves list record' ≡ record') (s.print_says list record')
   pub open_answers : (numbers : List ℕ) → s.open_says numbers ≡ 0
   -- "report and start give only 23 and 21" (A7)
-  pub start-answers : (desk : ℕ) (numbers : List ℕ)
-      → Answers (NO_DESK ∷ DAMAGED ∷ []) (λ n. n ≡ 0) (s.start_leaves desk numbers ≡ numbers) (s.start-says desk numbers)
+  pub start_answers : (desk : ℕ) (numbers : List ℕ)
+      → Answers (NO_DESK ∷ DAMAGED ∷ []) (λ n. n ≡ 0) (s.start_leaves desk numbers ≡ numbers) (s.start_says desk numbers)
   -- 23, 21 and 25 keep a table; other refusals raise a count in it, "demand 1 .. notwithstanding" (A6)
-  pub add-answers : (desk : ℕ) (offset : ℤ) (record' numbers : List ℕ)
+  pub add_answers : (desk : ℕ) (offset : ℤ) (record' numbers : List ℕ)
       → Answers add_refusals (λ n. (n ≡ 1) ⊎ (n ≡ 2))
-      (Memᴰ (s.add-says desk offset record' numbers) (23 ∷ 21 ∷ 25 ∷ []) → s.add_leaves desk offset record' numbers ≡ numbers)
-      (s.add-says desk offset record' numbers)
-  pub report-answers : (desk : ℕ) (numbers report : List ℕ)
-      → Answers (NO_DESK ∷ DAMAGED ∷ []) (λ n. n ≤ 16) (s.report_leaves desk numbers report ≡ report) (s.report-says desk numbers)
+      (Memᴰ (s.add_says desk offset record' numbers) (23 ∷ 21 ∷ 25 ∷ []) → s.add_leaves desk offset record' numbers ≡ numbers)
+      (s.add_says desk offset record' numbers)
+  pub report_answers : (desk : ℕ) (numbers report : List ℕ)
+      → Answers (NO_DESK ∷ DAMAGED ∷ []) (λ n. n ≤ 16) (s.report_leaves desk numbers report ≡ report) (s.report_says desk numbers)
 
 -- r applies, and nothing that applies stands before it on the ladder
 abbrev pub IsFirst : Refusal → (faults : List Refusal) → Type 0
@@ -90,20 +90,20 @@ pub record IsCut (text : List ℕ) (room n : ℕ) : Type 0 where
 -- answer as that page defines, and a cut keeps the most whole characters that fit."
 pub record Demand2 (s : Services) : Type 0 where
   -- a record is accepted exactly if no fault applies anywhere in it, and refused by the first that applies
-  pub accepted : (offset : ℤ) (record' : List ℕ) → number_in (s.check-says offset record') ≡ 0 ↔ record_faults offset record' ≡ []
-  pub refused : (offset : ℤ) (record' : List ℕ) (r : Refusal) → number_in (s.check-says offset record') ≡ number r ↔ IsFirst r (record_faults offset record')
+  pub accepted : (offset : ℤ) (record' : List ℕ) → number_in (s.check_says offset record') ≡ 0 ↔ record_faults offset record' ≡ []
+  pub refused : (offset : ℤ) (record' : List ℕ) (r : Refusal) → number_in (s.check_says offset record') ≡ number r ↔ IsFirst r (record_faults offset record')
   -- a timestamp has its tick and precision exactly if it has no fault, and is refused by the first that applies
   pub time : (offset : ℤ) (text : List ℕ) (tick : ℤ) (m : Moment) → read_timestamp (shift_by offset) text ≡ answered m → time_faults offset text ≡ []
-      → (number_in (s.tick-says offset text) ≡ 0) × (result_in (s.tick-says offset text) ≡ m.precision) × (s.tick_leaves offset text tick ≡ tick_of m)
-  pub time-refused : (offset : ℤ) (text : List ℕ) (r : Refusal) → number_in (s.tick-says offset text) ≡ number r ↔ IsFirst r (time_faults offset text)
+      → (number_in (s.tick_says offset text) ≡ 0) × (result_in (s.tick_says offset text) ≡ m.precision) × (s.tick_leaves offset text tick ≡ tick_of m)
+  pub time_refused : (offset : ℤ) (text : List ℕ) (r : Refusal) → number_in (s.tick_says offset text) ≡ number r ↔ IsFirst r (time_faults offset text)
   -- two accepted records of one type that is compared get the answer of that type's comparer, unknown if either value is null
   pub comparison : (offset : ℤ) (first second : List ℕ) (a b : Element) (c : Comparer) → check offset first ≡ answered a → check offset second ≡ answered b
       → comparer_for a b ≡ some c → Says (or_unknown c (shift_by offset) a b) (s.compare_says offset first second)
   -- which record is refused, and what holds of the answers
   pub comparison_promise : (offset : ℤ) → ComparisonPromise offset (s.compare_says offset)
   -- a cut is the longest exactly if the text has no fault, and is refused by the first that applies
-  pub cut : (text : List ℕ) (room : ℕ) → cut_faults text ≡ [] → (number_in (s.cut-says text room) ≡ 0) × IsCut text room (result_in (s.cut-says text room))
-  pub cut-refused : (text : List ℕ) (room : ℕ) (r : Refusal) → number_in (s.cut-says text room) ≡ number r ↔ IsFirst r (cut_faults text)
+  pub cut : (text : List ℕ) (room : ℕ) → cut_faults text ≡ [] → (number_in (s.cut_says text room) ≡ 0) × IsCut text room (result_in (s.cut_says text room))
+  pub cut_refused : (text : List ℕ) (room : ℕ) (r : Refusal) → number_in (s.cut_says text room) ≡ number r ↔ IsFirst r (cut_faults text)
 
 -- 3. "Take any set of times that passes those rules under the offset agreed .. Whatever bytes it is written in, whichever allowed offset is
 -- agreed and whatever list is lent, the following holds .." In one piece: `ListingPromise`.
@@ -111,7 +111,7 @@ pub record Demand3 (s : Services) : Type 0 where
   -- the bytes of a number that fits, read back, are the number
   pub read_back : (z : ℤ) → fits z ≡ true → signed (unsigned (eight_bytes z)) ≡ z
   pub listing_promise : (offset : ℤ) (record' list : List ℕ)
-      → ListingPromise offset record' (s.list-says offset record' list) list (s.list_leaves offset record' list)
+      → ListingPromise offset record' (s.list_says offset record' list) list (s.list_leaves offset record' list)
 
 pub record Demands (s : Services) : Type 0 where
   pub one : Demand1 s
@@ -124,7 +124,7 @@ pub record Demands (s : Services) : Type 0 where
   -- request A4
   pub last_day : LastDayPromise s
   -- request A5
-  pub wrong-times : WrongTimesPromise s
+  pub wrong_times : WrongTimesPromise s
   -- requests A6 and A7
   pub totals : TotalsPromise
   pub desks : DesksPromise s

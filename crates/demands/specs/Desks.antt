@@ -58,7 +58,7 @@ pub data IsFaulty (numbers : List ℕ) : Type 0 where
   -- of either desk: "over 16 rows"
   over_16 : (n : ℕ) → IsDesk n → 16 < how_many_of n numbers (held_in numbers) → IsFaulty numbers
   -- "a currency of wrong form"
-  wrong-form : (i : ℕ) → i < held_in numbers → ((c : List ℕ) → AreLetters c (currency_at numbers i) → ⊥) → IsFaulty numbers
+  wrong_form : (i : ℕ) → i < held_in numbers → ((c : List ℕ) → AreLetters c (currency_at numbers i) → ⊥) → IsFaulty numbers
   -- "or held twice"
   held_twice : (i j : ℕ) → i < j → j < held_in numbers → desk_at numbers i ≡ desk_at numbers j → currency_at numbers i ≡ currency_at numbers j → IsFaulty numbers
   -- "a total out of range": in two's complement, above the most and below the least
@@ -68,7 +68,7 @@ pub data IsFaulty (numbers : List ℕ) : Type 0 where
 
 -- what a table that is not damaged says
 pub record IsRow (r : Owned Row) (desk currency total : ℕ) : Type 0 where
-  pub desk-is : r.desk ≡ desk
+  pub desk_is : r.desk ≡ desk
   pub letters : AreLetters r.row.currency currency
   pub amount : IsTotal r.row.total total
 
@@ -76,12 +76,12 @@ pub record Says (s : Shared) (numbers : List ℕ) : Type 0 where
   pub held : length s.rows ≡ held_in numbers
   pub rows : (i : ℕ) → i < held_in numbers
       → (r : Owned Row) × (take 1 (drop i s.rows) ≡ r ∷ []) × IsRow r (desk_at numbers i) (currency_at numbers i) (total_at numbers i)
-  pub first-added : s.first.added ≡ get_or numbers 1 0
-  pub first-null : s.first.null ≡ get_or numbers 2 0
-  pub first-refused : s.first.refused ≡ get_or numbers 3 0
-  pub second-added : s.second.added ≡ get_or numbers 4 0
-  pub second-null : s.second.null ≡ get_or numbers 5 0
-  pub second-refused : s.second.refused ≡ get_or numbers 6 0
+  pub first_added : s.first.added ≡ get_or numbers 1 0
+  pub first_null : s.first.null ≡ get_or numbers 2 0
+  pub first_refused : s.first.refused ≡ get_or numbers 3 0
+  pub second_added : s.second.added ≡ get_or numbers 4 0
+  pub second_null : s.second.null ≡ get_or numbers 5 0
+  pub second_refused : s.second.refused ≡ get_or numbers 6 0
 
 -- a desk, and a table that is not damaged; and its day is not full
 pub record Undamaged (numbers : List ℕ) (n : ℕ) : Type 0 where
@@ -122,7 +122,7 @@ pub record IsAt (numbers : List ℕ) (n : ℕ) (c : List ℕ) (i : ℕ) : Type 0
 pub data Adding (numbers : List ℕ) (n : ℕ) (k : Call) : (answer : ℕ) → (after : List ℕ) → Type 0 where
   refuses : {a : ℕ} → Refuses numbers n a → Adding numbers n k a numbers
   -- "then 25 DAY FULL exactly if 1,000,000 are counted", which changes nothing
-  full-day : Undamaged numbers n → counted_by n numbers ≡ 1_000_000 → Adding numbers n k (number DAY_FULL) numbers
+  full_day : Undamaged numbers n → counted_by n numbers ≡ 1_000_000 → Adding numbers n k (number DAY_FULL) numbers
   -- "A refused or null record, save those two, raises its count by one and changes nothing else, demand 1 and document 01 notwithstanding.": the ladder,
   faulty_record : {r : Refusal} → NotFull numbers n → reading_of k ≡ refused r → Adding numbers n k (number r) (raised (2 + counts_from n) numbers)
   null_record : NotFull numbers n → reading_of k ≡ answered null → Adding numbers n k (2 * 2 ^ 8) (raised (1 + counts_from n) numbers)
@@ -133,11 +133,11 @@ pub data Adding (numbers : List ℕ) (n : ℕ) (k : Call) : (answer : ℕ) → (
       → (i : ℕ) → IsAt numbers n c i → {x : ℤ} → IsTotal x (total_at numbers i) → ((total : ℕ) → IsTotal (x +ℤ z) total → ⊥)
       → Adding numbers n k (number TOTAL) (raised (2 + counts_from n) numbers)
   -- else it is added: onto the total of its desk and currency,
-  added-to-row : {c : List ℕ} {z : ℤ} → NotFull numbers n → reading_of k ≡ answered (money c z)
+  added_to_row : {c : List ℕ} {z : ℤ} → NotFull numbers n → reading_of k ≡ answered (money c z)
       → (i : ℕ) → IsAt numbers n c i → {x : ℤ} → IsTotal x (total_at numbers i) → {total : ℕ} → IsTotal (x +ℤ z) total
       → Adding numbers n k (1 * 2 ^ 8) (set (raised (counts_from n) numbers) (9 + 3 * i) total)
   -- or as a new row after all others
-  added-row : {c : List ℕ} {z : ℤ} → NotFull numbers n → reading_of k ≡ answered (money c z) → ((i : ℕ) → IsAt numbers n c i → ⊥)
+  added_row : {c : List ℕ} {z : ℤ} → NotFull numbers n → reading_of k ≡ answered (money c z) → ((i : ℕ) → IsAt numbers n c i → ⊥)
       → how_many_of n numbers (held_in numbers) < 16 → {currency total : ℕ} → AreLetters c currency → IsTotal z total
       → Adding numbers n k (1 * 2 ^ 8)
       (set (set (set (set (raised (counts_from n) numbers) 0 (suc (held_in numbers))) (7 + 3 * held_in numbers) n) (8 + 3 * held_in numbers) currency) (9 + 3 * held_in numbers) total)
@@ -153,7 +153,7 @@ pub data Reporting (numbers before : List ℕ) (n : ℕ) : (answer : ℕ) → (a
 pub record Exactly (numbers : List ℕ) (n : ℕ) (k : Call) (answer : ℕ) : Type 0 where
   pub no_desk : answer ≡ number NO_DESK ↔ (IsDesk n → ⊥)
   pub damaged : answer ≡ number DAMAGED ↔ IsDesk n × IsFaulty numbers
-  pub day-full : answer ≡ number DAY_FULL ↔ Undamaged numbers n × (counted_by n numbers ≡ 1_000_000)
+  pub day_full : answer ≡ number DAY_FULL ↔ Undamaged numbers n × (counted_by n numbers ≡ 1_000_000)
   pub no_row : answer ≡ number NO_ROW
       ↔ (c : List ℕ) × (z : ℤ) × NotFull numbers n × (reading_of k ≡ answered (money c z)) × ((i : ℕ) → IsAt numbers n c i → ⊥) × (how_many_of n numbers (held_in numbers) ≡ 16)
   pub total : answer ≡ number TOTAL
@@ -180,9 +180,9 @@ module _ (s : Services) where
 
   abbrev pub hears : (numbers : List ℕ) → DeskCall → Heard
   hears numbers k = elim k.ask [
-    | start ↦ hearing (s.start-says k.desk numbers) []
-    | add c ↦ hearing (s.add-says k.desk c.offset c.record' numbers) []
-    | report lent ↦ hearing (s.report-says k.desk numbers) (s.report_leaves k.desk numbers lent)
+    | start ↦ hearing (s.start_says k.desk numbers) []
+    | add c ↦ hearing (s.add_says k.desk c.offset c.record' numbers) []
+    | report lent ↦ hearing (s.report_says k.desk numbers) (s.report_leaves k.desk numbers lent)
   ]
 
   module _ (before : List ℕ) where
@@ -200,7 +200,7 @@ module _ (s : Services) where
     said_to n beginning = beginning
     said_to n (h then k) = cond (eqb k.desk n) (elim k.ask [
       | start ↦ beginning
-      | add c ↦ said_to n h then s.add-says k.desk c.offset c.record' (table_at h)
+      | add c ↦ said_to n h then s.add_says k.desk c.offset c.record' (table_at h)
       | report lent ↦ said_to n h
     ]) (said_to n h)
 
@@ -208,7 +208,7 @@ module _ (s : Services) where
     told_to n beginning = beginning
     told_to n (h then k) = cond (eqb k.desk n) (elim k.ask [
       | start ↦ beginning
-      | add c ↦ told_to n h then told c (s.add-says k.desk c.offset c.record' (table_at h))
+      | add c ↦ told_to n h then told c (s.add_says k.desk c.offset c.record' (table_at h))
       | report lent ↦ told_to n h
     ]) (told_to n h)
 
@@ -234,20 +234,20 @@ pub record DesksPromise (s : Services) : Type 0 where
       → IsDay (part_of n (shared_in (table_at s before h))) (said_to s before n h) (told_to s before n h)
   pub limits : (before : List ℕ) → Lent 103 before → (h : History DeskCall) (n : ℕ) → IsDesk n → (k : Call) (c : List ℕ) (z : ℤ) → reading_of k ≡ answered (money c z)
       → counted (part_of n (shared_in (table_at s before h))).counts < 1_000_000
-      → Limits (told_to s before n h) c z (s.add-says n k.offset k.record' (table_at s before h))
+      → Limits (told_to s before n h) c z (s.add_says n k.offset k.record' (table_at s before h))
   -- "then 25 DAY FULL exactly if 1,000,000 are counted": since that desk's last start, save those answered 21 or 25
-  pub full-days : (before : List ℕ) → Lent 103 before → (h : History DeskCall) (n : ℕ) → IsDesk n → (k : Call)
-      → s.add-says n k.offset k.record' (table_at s before h) ≡ number DAY_FULL ↔ how_many (λ a. not (eqb a 21 || eqb a 25)) (said_to s before n h) ≡ 1_000_000
+  pub full_days : (before : List ℕ) → Lent 103 before → (h : History DeskCall) (n : ℕ) → IsDesk n → (k : Call)
+      → s.add_says n k.offset k.record' (table_at s before h) ≡ number DAY_FULL ↔ how_many (λ a. not (eqb a 21 || eqb a 25)) (said_to s before n h) ≡ 1_000_000
   pub tables : (before : List ℕ) → Lent 103 before → (h : History DeskCall) → Lent 103 (table_at s before h) × (IsFaulty (table_at s before h) → ⊥)
   -- what an undamaged table says, by its numbers
   pub says : (numbers : List ℕ) → Lent 103 numbers → (IsFaulty numbers → ⊥) → Says (shared_in numbers) numbers
   -- and of any table handed in
-  pub starts : (numbers : List ℕ) → Lent 103 numbers → (n : ℕ) → Starting numbers n (s.start-says n numbers) (s.start_leaves n numbers)
+  pub starts : (numbers : List ℕ) → Lent 103 numbers → (n : ℕ) → Starting numbers n (s.start_says n numbers) (s.start_leaves n numbers)
   pub adds : (numbers : List ℕ) → Lent 103 numbers → (n : ℕ) (k : Call)
-      → Adding numbers n k (s.add-says n k.offset k.record' numbers) (s.add_leaves n k.offset k.record' numbers)
-  pub exactly : (numbers : List ℕ) → Lent 103 numbers → (n : ℕ) (k : Call) → Exactly numbers n k (s.add-says n k.offset k.record' numbers)
+      → Adding numbers n k (s.add_says n k.offset k.record' numbers) (s.add_leaves n k.offset k.record' numbers)
+  pub exactly : (numbers : List ℕ) → Lent 103 numbers → (n : ℕ) (k : Call) → Exactly numbers n k (s.add_says n k.offset k.record' numbers)
   pub reports : (numbers before : List ℕ) → Lent 103 numbers → Lent 35 before → (n : ℕ)
-      → Reporting numbers before n (s.report-says n numbers) (s.report_leaves n numbers before)
+      → Reporting numbers before n (s.report_says n numbers) (s.report_leaves n numbers before)
   -- a call under another number changes nothing of a desk's part
   pub others : (numbers : List ℕ) → Lent 103 numbers → (k : DeskCall) (m : ℕ) → IsDesk m → (k.desk ≡ m → ⊥)
       → part_of m (shared_in (leaves_after s numbers k)) ≡ part_of m (shared_in numbers)

@@ -62,8 +62,8 @@ pub record Unbounds (kids : Nodes) (child flavor : String) : Type 0 where
 
 -- an interval whose bounds are both written and flagged
 pub record IsBounded (attrs : List Attribute) (kids : Nodes) (l h : Written) : Type 0 where
-  pub low-written : Writes kids "low" l
-  pub high-written : Writes kids "high" h
+  pub low_written : Writes kids "low" l
+  pub high_written : Writes kids "high" h
   pub low_flagged : is_some (lookup (bytes "lowClosed") attrs) ≡ true
   pub high_flagged : is_some (lookup (bytes "highClosed") attrs) ≡ true
 
@@ -86,7 +86,7 @@ module _ (offset : ℤ) where
     no_low : Unbounds kids "low" "NINF" → LowIs attrs kids unbounded
 
   pub data HighIs (attrs : List Attribute) (kids : Nodes) : Bound → Type 0 where
-    written-high : {w : Written} {b : Bound} → Writes kids "high" w → HighReads w (is_closed high attrs) b → HighIs attrs kids b
+    written_high : {w : Written} {b : Bound} → Writes kids "high" w → HighReads w (is_closed high attrs) b → HighIs attrs kids b
     no_high : Unbounds kids "high" "PINF" → HighIs attrs kids unbounded
 
   -- "the last tick taken in by a closed coarse high, or .. the high's tick otherwise"
@@ -109,7 +109,7 @@ module _ (offset : ℤ) where
 
 -- a record is listed as these stretches
 abbrev pub ListsAs : Services → (offset : ℤ) → (record' list : List ℕ) → List Interval → Type 0
-ListsAs s offset record' list ss = Lists offset record' (s.list-says offset record' list) list (s.list_leaves offset record' list) ss
+ListsAs s offset record' list ss = Lists offset record' (s.list_says offset record' list) list (s.list_leaves offset record' list) ss
 
 -- document 01's whole example
 abbrev pub stay : List ℕ
@@ -142,7 +142,7 @@ pub record LastDayPromise (s : Services) : Type 0 where
   -- and the next after its last units starts with year 10000, a tick after the last of 9999
   pub ticks : (offset : ℤ) (text : List ℕ) (w : Written) (tick : ℤ) → is_offset offset ≡ true → length text ≤ 16_384 → Spells text w → IsPossible w
       → s.tick_leaves offset text tick ≡ tick_on offset w
-  pub next-spelled : (text : List ℕ) (w : Written) → Spells text w → IsPossible w → IsCoarse w → (written_after w).year ≤ 9999
+  pub next_spelled : (text : List ℕ) (w : Written) → Spells text w → IsPossible w → IsCoarse w → (written_after w).year ≤ 9999
       → (next : List ℕ) × Spells next (written_after w) × IsPossible (written_after w)
   pub year_10000 : (offset : ℤ) (zone : Zone) (parts : List ℕ) → Memᴰ parts last_units
       → next_tick offset (record { year = 9999; parts = parts; fraction = []; zone = zone }) ≡ suc_ℤ (tick_on offset (last_written zone))
@@ -154,7 +154,7 @@ pub record LastDayPromise (s : Services) : Type 0 where
   pub bounds : (offset : ℤ) (attrs : List Attribute) (kids : Nodes) (v : Interval)
       → interval_of (shift_by offset) attrs kids ≡ answered v ↔ LowIs offset attrs kids v.low × HighIs offset attrs kids v.high
   -- by itself it is listed so, if a place is between them
-  pub lists : (offset : ℤ) (record' list : List ℕ) (e : Element) (v : Interval) → number_in (s.check-says offset record') ≡ 0 → document record' ≡ some e
+  pub lists : (offset : ℤ) (record' list : List ℕ) (e : Element) (v : Interval) → number_in (s.check_says offset record') ≡ 0 → document record' ≡ some e
       → has_type e.attrs IVL_TS ≡ true → is_null e.attrs ≡ false → LowIs offset e.attrs e.kids v.low → HighIs offset e.attrs e.kids v.high
       → ((x : Place) → holds v x ≡ true → 32 ≤ length list → ListsAs s offset record' list (v ∷ []))
       × (((x : Place) → holds v x ≡ false) → ListsAs s offset record' list [])
@@ -165,17 +165,17 @@ pub record LastDayPromise (s : Services) : Type 0 where
       → Memᴰ RULE (element_faults (shift_by offset) p (some IVL_TS) attrs kids (λ k. [])) ↔ lt_z last (tick_on offset l) ≡ true
   -- a record of it is RULE then, and else accepted
   pub checks : (offset : ℤ) (record' : List ℕ) (e : Element) (l h : Written) (last : ℤ) → IsPass offset record' e l h → LastTick offset h (is_closed high e.attrs) last
-      → (number_in (s.check-says offset record') ≡ number RULE ↔ lt_z last (tick_on offset l) ≡ true)
-      × (number_in (s.check-says offset record') ≡ 0 ↔ lt_z last (tick_on offset l) ≡ false)
+      → (number_in (s.check_says offset record') ≡ number RULE ↔ lt_z last (tick_on offset l) ≡ true)
+      × (number_in (s.check_says offset record') ≡ 0 ↔ lt_z last (tick_on offset l) ≡ false)
   -- and so within a set: a term that begins within its last day is accepted if that is closed, and else RULE
-  pub within-set : (list : List ℕ) → 32 ≤ length list → ListsAs s (pos 0) (late_term "true") list (closed_at (pos 638500752000000) upto open_at (pos 638501184000000) ∷ [])
-  pub rule_within-set : number_in (s.check-says (pos 0) (late_term "false")) ≡ number RULE
+  pub within_set : (list : List ℕ) → 32 ≤ length list → ListsAs s (pos 0) (late_term "true") list (closed_at (pos 638500752000000) upto open_at (pos 638501184000000) ∷ [])
+  pub rule_within_set : number_in (s.check_says (pos 0) (late_term "false")) ≡ number RULE
   -- "a low pushed past its high means no place": the pass from after 2024 to all of June 2024 is accepted, and nothing is listed
   pub pushed_past : (c d : Bool) (l h : ℤ) → lt_z h l ≡ true → (x : Place) → holds (bound_at c l upto bound_at d h) x ≡ false
-  pub listed-none : (list : List ℕ) → ListsAs s (pos 0) (pass "false" "2024" "true" "202406") list []
+  pub listed_none : (list : List ℕ) → ListsAs s (pos 0) (pass "false" "2024" "true" "202406") list []
   -- "Document 01's whole example now lists `2, 638501184000000, 1, 638502480000000, 2, 638502516000000, 1, 638503776000000`"
   pub example : (list : List ℕ) → 64 ≤ length list → ListsAs s (pos 0) stay list stay_stretches
-  pub example-numbers : list_numbers stay_stretches
+  pub example_numbers : list_numbers stay_stretches
       ≡ pos 2 ∷ pos 638501184000000 ∷ pos 1 ∷ pos 638502480000000 ∷ pos 2 ∷ pos 638502516000000 ∷ pos 1 ∷ pos 638503776000000 ∷ []
   -- "The rules of comparison are unchanged": they go by values and flags as written. Two passes that are listed as all of April differ, and so does a third;
   -- and all of 30 April and its noon share a tick, so it is unknown

@@ -12,43 +12,43 @@ use Rattle.rules.specs.ComparisonPromise.{Names, Says}
 
 -- what ten functions do with each input: what they say, and what they leave in lent memory
 pub record Services : Type 0 where
-  pub check-says : (offset : ℤ) → (record' : List ℕ) → ℕ
+  pub check_says : (offset : ℤ) → (record' : List ℕ) → ℕ
   pub compare_says : (offset : ℤ) → (first second : List ℕ) → ℕ
-  pub list-says : (offset : ℤ) → (record' list : List ℕ) → ℕ
+  pub list_says : (offset : ℤ) → (record' list : List ℕ) → ℕ
   pub list_leaves : (offset : ℤ) → (record' list : List ℕ) → List ℕ
-  pub tick-says : (offset : ℤ) → (text : List ℕ) → ℕ
+  pub tick_says : (offset : ℤ) → (text : List ℕ) → ℕ
   pub tick_leaves : (offset : ℤ) → (text : List ℕ) → (tick : ℤ) → ℤ
-  pub cut-says : (text : List ℕ) → (room : ℕ) → ℕ
-  pub print-says : (list record' : List ℕ) → ℕ
+  pub cut_says : (text : List ℕ) → (room : ℕ) → ℕ
+  pub print_says : (list record' : List ℕ) → ℕ
   pub print_leaves : (list record' : List ℕ) → List ℕ
   pub open_says : (numbers : List ℕ) → ℕ
   pub open_leaves : (numbers : List ℕ) → List ℕ
-  pub start-says : (desk : ℕ) → (numbers : List ℕ) → ℕ
+  pub start_says : (desk : ℕ) → (numbers : List ℕ) → ℕ
   pub start_leaves : (desk : ℕ) → (numbers : List ℕ) → List ℕ
-  pub add-says : (desk : ℕ) → (offset : ℤ) → (record' numbers : List ℕ) → ℕ
+  pub add_says : (desk : ℕ) → (offset : ℤ) → (record' numbers : List ℕ) → ℕ
   pub add_leaves : (desk : ℕ) → (offset : ℤ) → (record' numbers : List ℕ) → List ℕ
-  pub report-says : (desk : ℕ) → (numbers : List ℕ) → ℕ
+  pub report_says : (desk : ℕ) → (numbers : List ℕ) → ℕ
   pub report_leaves : (desk : ℕ) → (numbers report : List ℕ) → List ℕ
 
 -- the exported functions, each by its contract
 abbrev pub services : Services
 services = record {
-  check-says = check_answer;
+  check_says = check_answer;
   compare_says = compare_answer;
-  list-says = list_answer;
+  list_says = list_answer;
   list_leaves = list_after;
-  tick-says = tick_answer;
+  tick_says = tick_answer;
   tick_leaves = tick_after;
-  cut-says = cut_answer;
-  print-says = print_answer;
+  cut_says = cut_answer;
+  print_says = print_answer;
   print_leaves = print_after;
   open_says = λ numbers. 0;
   open_leaves = λ numbers. opened_table;
-  start-says = start_answer;
+  start_says = start_answer;
   start_leaves = start_after;
-  add-says = add_answer;
+  add_says = add_answer;
   add_leaves = add_after;
-  report-says = report_answer;
+  report_says = report_answer;
   report_leaves = report_after;
 }
 
@@ -71,21 +71,21 @@ pub data Compares (may : List Refusal) (answer : ℕ) : Type 0 where
 
 -- two that do the same with every input; a table is 103 numbers of 64 bits, and a report 35
 pub record Same (s t : Services) : Type 0 where
-  pub same_check : (offset : ℤ) (record' : List ℕ) → s.check-says offset record' ≡ t.check-says offset record'
+  pub same_check : (offset : ℤ) (record' : List ℕ) → s.check_says offset record' ≡ t.check_says offset record'
   pub same_compare : (offset : ℤ) (first second : List ℕ) → s.compare_says offset first second ≡ t.compare_says offset first second
-  pub same-list : (offset : ℤ) (record' list : List ℕ) → s.list-says offset record' list ≡ t.list-says offset record' list
-  pub same-list_left : (offset : ℤ) (record' list : List ℕ) → s.list_leaves offset record' list ≡ t.list_leaves offset record' list
-  pub same-tick : (offset : ℤ) (text : List ℕ) → s.tick-says offset text ≡ t.tick-says offset text
-  pub same-tick_left : (offset : ℤ) (text : List ℕ) (tick : ℤ) → s.tick_leaves offset text tick ≡ t.tick_leaves offset text tick
-  pub same-cut : (text : List ℕ) (room : ℕ) → s.cut-says text room ≡ t.cut-says text room
-  pub same-print : (list record' : List ℕ) → s.print-says list record' ≡ t.print-says list record'
-  pub same-print_left : (list record' : List ℕ) → s.print_leaves list record' ≡ t.print_leaves list record'
+  pub same_list : (offset : ℤ) (record' list : List ℕ) → s.list_says offset record' list ≡ t.list_says offset record' list
+  pub same_list_left : (offset : ℤ) (record' list : List ℕ) → s.list_leaves offset record' list ≡ t.list_leaves offset record' list
+  pub same_tick : (offset : ℤ) (text : List ℕ) → s.tick_says offset text ≡ t.tick_says offset text
+  pub same_tick_left : (offset : ℤ) (text : List ℕ) (tick : ℤ) → s.tick_leaves offset text tick ≡ t.tick_leaves offset text tick
+  pub same_cut : (text : List ℕ) (room : ℕ) → s.cut_says text room ≡ t.cut_says text room
+  pub same_print : (list record' : List ℕ) → s.print_says list record' ≡ t.print_says list record'
+  pub same_print_left : (list record' : List ℕ) → s.print_leaves list record' ≡ t.print_leaves list record'
   pub same_open : (numbers : List ℕ) → Lent 103 numbers → s.open_says numbers ≡ t.open_says numbers
   pub same_open_left : (numbers : List ℕ) → Lent 103 numbers → s.open_leaves numbers ≡ t.open_leaves numbers
-  pub same_start : (desk : ℕ) (numbers : List ℕ) → Lent 103 numbers → s.start-says desk numbers ≡ t.start-says desk numbers
-  pub same-start_left : (desk : ℕ) (numbers : List ℕ) → Lent 103 numbers → s.start_leaves desk numbers ≡ t.start_leaves desk numbers
-  pub same_add : (desk : ℕ) (offset : ℤ) (record' numbers : List ℕ) → Lent 103 numbers → s.add-says desk offset record' numbers ≡ t.add-says desk offset record' numbers
-  pub same-add_left : (desk : ℕ) (offset : ℤ) (record' numbers : List ℕ) → Lent 103 numbers
+  pub same_start : (desk : ℕ) (numbers : List ℕ) → Lent 103 numbers → s.start_says desk numbers ≡ t.start_says desk numbers
+  pub same_start_left : (desk : ℕ) (numbers : List ℕ) → Lent 103 numbers → s.start_leaves desk numbers ≡ t.start_leaves desk numbers
+  pub same_add : (desk : ℕ) (offset : ℤ) (record' numbers : List ℕ) → Lent 103 numbers → s.add_says desk offset record' numbers ≡ t.add_says desk offset record' numbers
+  pub same_add_left : (desk : ℕ) (offset : ℤ) (record' numbers : List ℕ) → Lent 103 numbers
       → s.add_leaves desk offset record' numbers ≡ t.add_leaves desk offset record' numbers
-  pub same-report : (desk : ℕ) (numbers : List ℕ) → Lent 103 numbers → s.report-says desk numbers ≡ t.report-says desk numbers
-  pub same-report_left : (desk : ℕ) (numbers report : List ℕ) → Lent 103 numbers → Lent 35 report → s.report_leaves desk numbers report ≡ t.report_leaves desk numbers report
+  pub same_report : (desk : ℕ) (numbers : List ℕ) → Lent 103 numbers → s.report_says desk numbers ≡ t.report_says desk numbers
+  pub same_report_left : (desk : ℕ) (numbers report : List ℕ) → Lent 103 numbers → Lent 35 report → s.report_leaves desk numbers report ≡ t.report_leaves desk numbers report

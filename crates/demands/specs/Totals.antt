@@ -18,7 +18,7 @@ pub data Reads (k : Call) : Outcome Entry → Type 0 where
   -- the first of its faults, or TYPE if it is no MO and TYPE stands before that on the ladder
   faulty : {r q : Refusal} → check k.offset k.record' ≡ refused r → first_of (r ∷ faults_in (λ e. TYPE when not (has_type e.attrs MO)) (element_of k.record')) ≡ some q
       → Reads k (refused q)
-  other-type : {e : Element} → check k.offset k.record' ≡ answered e → has_type e.attrs MO ≡ false → Reads k (refused TYPE)
+  other_type : {e : Element} → check k.offset k.record' ≡ answered e → has_type e.attrs MO ≡ false → Reads k (refused TYPE)
   a_null : {e : Element} → check k.offset k.record' ≡ answered e → has_type e.attrs MO ≡ true → is_null e.attrs ≡ true → Reads k (answered null)
   an_amount : {e : Element} {c text : List ℕ} {z : ℤ} → check k.offset k.record' ≡ answered e → has_type e.attrs MO ≡ true → is_null e.attrs ≡ false
       → lookup (bytes "currency") e.attrs ≡ some c → lookup (bytes "value") e.attrs ≡ some text → whole amount_text text ≡ some z → Reads k (answered (money c z))

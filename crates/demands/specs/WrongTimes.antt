@@ -21,8 +21,8 @@ use Rattle.demands.specs.Totals.{AreDigits, pointed}
 -- A text of "the right form" and what it writes, in the page's words: an offset is "`+` or `-` with hh or hhmm", or none,
 pub data SpellsZone : List ℕ → Zone → Type 0 where
   no_offset : SpellsZone [] no_zone
-  plus-hours : {h : ℕ} → h < 100 → SpellsZone (bytes "+" ++ digits_of 2 h) (plus h 0)
-  minus-hours : {h : ℕ} → h < 100 → SpellsZone (bytes "-" ++ digits_of 2 h) (minus h 0)
+  plus_hours : {h : ℕ} → h < 100 → SpellsZone (bytes "+" ++ digits_of 2 h) (plus h 0)
+  minus_hours : {h : ℕ} → h < 100 → SpellsZone (bytes "-" ++ digits_of 2 h) (minus h 0)
   plus_minutes : {h m : ℕ} → h < 100 → m < 100 → SpellsZone (bytes "+" ++ digits_of 2 h ++ digits_of 2 m) (plus h m)
   minus_minutes : {h m : ℕ} → h < 100 → m < 100 → SpellsZone (bytes "-" ++ digits_of 2 h ++ digits_of 2 m) (minus h m)
 
@@ -30,15 +30,15 @@ pub record Spells (text : List ℕ) (w : Written) : Type 0 where
   pub offset : List ℕ
   pub spelled : text ≡ digits_of 4 w.year ++ flat_map (digits_of 2) w.parts ++ pointed w.fraction ++ offset
   -- "YYYY, then MM, DD, hh, mm, ss, each only after the one before"
-  pub year-digits : w.year < 10_000
+  pub year_digits : w.year < 10_000
   pub part_digits : every (λ n. ltb n 100) w.parts ≡ true
-  pub parts-most : length w.parts ≤ 5
+  pub parts_most : length w.parts ≤ 5
   -- "after ss optionally `.` and 1 to 4 digits"
-  pub fraction-digits : AreDigits 0 4 w.fraction
+  pub fraction_digits : AreDigits 0 4 w.fraction
   pub after_seconds : (w.fraction ≡ []) ⊎ (length w.parts ≡ 5)
   -- "after hh or finer optionally" the offset
-  pub zone-spelled : SpellsZone offset w.zone
-  pub after-hours : (w.zone ≡ no_zone) ⊎ (3 ≤ length w.parts)
+  pub zone_spelled : SpellsZone offset w.zone
+  pub after_hours : (w.zone ≡ no_zone) ⊎ (3 ≤ length w.parts)
 
 -- below the least, or above the most
 abbrev pub Outside : (least most : ℕ) → ℕ → Type 0
@@ -67,11 +67,11 @@ pub data ImpossibleOffset : Zone → Type 0 where
 -- what a text is refused by as a timestamp
 pub data IsWrongBy (text : List ℕ) : Refusal → Type 0 where
   -- "A text of the wrong form stays VALUE."
-  wrong-form : ((w : Written) → Spells text w → ⊥) → IsWrongBy text VALUE
+  wrong_form : ((w : Written) → Spells text w → ⊥) → IsWrongBy text VALUE
   -- "A right form with an impossible date (year included), clock or offset gets 13, 14 or 15, the first that applies."
-  wrong-date : {w : Written} → Spells text w → ImpossibleDate w → IsWrongBy text DATE
-  wrong-clock : {w : Written} → Spells text w → (ImpossibleDate w → ⊥) → ImpossibleClock w → IsWrongBy text CLOCK
-  wrong-zone : {w : Written} → Spells text w → (ImpossibleDate w → ⊥) → (ImpossibleClock w → ⊥) → ImpossibleOffset w.zone → IsWrongBy text ZONE
+  wrong_date : {w : Written} → Spells text w → ImpossibleDate w → IsWrongBy text DATE
+  wrong_clock : {w : Written} → Spells text w → (ImpossibleDate w → ⊥) → ImpossibleClock w → IsWrongBy text CLOCK
+  wrong_zone : {w : Written} → Spells text w → (ImpossibleDate w → ⊥) → (ImpossibleClock w → ⊥) → ImpossibleOffset w.zone → IsWrongBy text ZONE
 
 -- the texts of all attributes of a name: of these elements and of those inside them, and so of a record's element
 unfoldable pub texts_in : (name : List ℕ) → Nodes → List (List ℕ)
@@ -104,9 +104,9 @@ pub record IsOfTimes (offset : ℤ) (record' : List ℕ) (e : Element) : Type 0 
 
 -- something written in it is of the wrong form: a null flavor, a flag, or a time
 pub data HasWrongForm (e : Element) : Type 0 where
-  wrong-flavor : every is_flavor (texts_of "nullFlavor" e) ≡ false → HasWrongForm e
-  wrong-flag : every is_flag (texts_of "lowClosed" e ++ texts_of "highClosed" e) ≡ false → HasWrongForm e
-  wrong-text : (text : List ℕ) → Memᴰ text (texts_of "value" e) → IsWrongBy text VALUE → HasWrongForm e
+  wrong_flavor : every is_flavor (texts_of "nullFlavor" e) ≡ false → HasWrongForm e
+  wrong_flag : every is_flag (texts_of "lowClosed" e ++ texts_of "highClosed" e) ≡ false → HasWrongForm e
+  wrong_text : (text : List ℕ) → Memᴰ text (texts_of "value" e) → IsWrongBy text VALUE → HasWrongForm e
 
 -- all in it is of the right form, a time is wrong by r, and none by what stands before r on the ladder
 pub record HasWrongTime (e : Element) (r : Refusal) : Type 0 where
@@ -123,27 +123,27 @@ part_refusals = DATE ∷ CLOCK ∷ ZONE ∷ []
 pub record WrongTimesPromise (s : Services) : Type 0 where
   -- a text by itself, at an agreed offset in -840..840 and of at most 16,384 bytes; else OFFSET or TOO LONG comes first (demand 2)
   pub ticks : (offset : ℤ) (text : List ℕ) → is_offset offset ≡ true → length text ≤ 16_384 → (r : Refusal)
-      → number_in (s.tick-says offset text) ≡ number r ↔ IsWrongBy text r
+      → number_in (s.tick_says offset text) ≡ number r ↔ IsWrongBy text r
   -- what stands before VALUE does not depend on the texts of times: it applies exactly if it does with good ones
-  pub before-value : (offset : ℤ) (e : Element) (q : Refusal) → rank q < rank VALUE
+  pub before_value : (offset : ℤ) (e : Element) (q : Refusal) → rank q < rank VALUE
       → Memᴰ q (top_faults (shift_by offset) (retimed_element e)) ↔ Memᴰ q (top_faults (shift_by offset) e)
   -- "All services that read timestamps pass them on": checking, of records of times and of no others,
   pub checks : (offset : ℤ) (record' : List ℕ) (r : Refusal) → Memᴰ r part_refusals
-      → number_in (s.check-says offset record') ≡ number r ↔ (e : Element) × IsOfTimes offset record' e × HasWrongTime e r
+      → number_in (s.check_says offset record') ≡ number r ↔ (e : Element) × IsOfTimes offset record' e × HasWrongTime e r
   -- where a wrong form stays VALUE, whatever is impossible beside it,
-  pub stays : (offset : ℤ) (record' : List ℕ) (e : Element) → IsOfTimes offset record' e → number_in (s.check-says offset record') ≡ number VALUE ↔ HasWrongForm e
+  pub stays : (offset : ℤ) (record' : List ℕ) (e : Element) → IsOfTimes offset record' e → number_in (s.check_says offset record') ≡ number VALUE ↔ HasWrongForm e
   -- comparing, of either record,
   pub compares_first : (offset : ℤ) (first second : List ℕ) (r : Refusal) → Memᴰ r part_refusals
-      → Names 1 r (s.compare_says offset first second) ↔ (number_in (s.check-says offset first) ≡ number r)
+      → Names 1 r (s.compare_says offset first second) ↔ (number_in (s.check_says offset first) ≡ number r)
   pub compares_second : (offset : ℤ) (first second : List ℕ) (r : Refusal) → Memᴰ r part_refusals
-      → Names 2 r (s.compare_says offset first second) ↔ (number_in (s.check-says offset first) ≡ 0) × (number_in (s.check-says offset second) ≡ number r)
+      → Names 2 r (s.compare_says offset first second) ↔ (number_in (s.check_says offset first) ≡ 0) × (number_in (s.check_says offset second) ≡ number r)
   -- and listing, if the type is listed; another is TYPE, which stands before the three. Adding reads no timestamp: money has none, and another type is
   -- TYPE there too, so demand 1 has none of the three for it
   pub lists : (offset : ℤ) (record' list : List ℕ) (r : Refusal) → Memᴰ r part_refusals
-      → number_in (s.list-says offset record' list) ≡ number r
-      ↔ (number_in (s.check-says offset record') ≡ number r) × ((e : Element) × (document record' ≡ some e) × (is_listed (retimed_element e) ≡ true))
+      → number_in (s.list_says offset record' list) ≡ number r
+      ↔ (number_in (s.check_says offset record') ≡ number r) × ((e : Element) × (document record' ≡ some e) × (is_listed (retimed_element e) ≡ true))
   -- "and the desk table's 19000229 now answers DATE"
-  pub example : number_in (s.tick-says (pos 0) (bytes "19000229")) ≡ number DATE
+  pub example : number_in (s.tick_says (pos 0) (bytes "19000229")) ≡ number DATE
   -- "Refusals: 13 DATE, 14 CLOCK, 15 ZONE, in that order between VALUE and RULE" (demand 1 has the whole order)
   pub numbers : (number DATE ≡ 13) × (number CLOCK ≡ 14) × (number ZONE ≡ 15)
   pub order : (rank DATE ≡ suc (rank VALUE)) × (rank CLOCK ≡ suc (rank DATE)) × (rank ZONE ≡ suc (rank CLOCK)) × (rank RULE ≡ suc (rank ZONE))

@@ -27,12 +27,12 @@ pub record YearsPromise (s : Services) : Type 0 where
   pub starts : (shift : ℕ) (text : List ℕ) (m : Moment) → read_timestamp shift text ≡ answered m
       → (w : Written) × (whole timestamp text ≡ some w)
       × (m.start ≡ days_by_division w.year * day + ticks_in_year w + shift_of shift w.zone * minute)
-  pub year-ends : (shift y : ℕ) (m : Moment) → 1 ≤ y → y ≤ 9999 → read_timestamp shift (digits_of 4 y) ≡ answered m
+  pub year_ends : (shift y : ℕ) (m : Moment) → 1 ≤ y → y ≤ 9999 → read_timestamp shift (digits_of 4 y) ≡ answered m
       → m.next ≡ days_by_division (suc y) * day + shift * minute
-  pub printed-years : (tick : ℕ) → tick < days_by_division 10_000 * day → (y : ℕ) × IsYearOf y tick × (take 4 (timestamp_text (pos tick)) ≡ digits_of 4 y)
+  pub printed_years : (tick : ℕ) → tick < days_by_division 10_000 * day → (y : ℕ) × IsYearOf y tick × (take 4 (timestamp_text (pos tick)) ≡ digits_of 4 y)
   -- the service gives a year written alone, at offset zero, the tick after the days before it
-  pub year-ticks : (y : ℕ) → 1 ≤ y → y ≤ 9999 → (before : ℤ)
-      → (s.tick-says (pos 0) (digits_of 4 y) ≡ 4 * 2 ^ 8) × (s.tick_leaves (pos 0) (digits_of 4 y) before ≡ pos (days_by_division y * day))
+  pub year_ticks : (y : ℕ) → 1 ≤ y → y ≤ 9999 → (before : ℤ)
+      → (s.tick_says (pos 0) (digits_of 4 y) ≡ 4 * 2 ^ 8) × (s.tick_leaves (pos 0) (digits_of 4 y) before ≡ pos (days_by_division y * day))
   -- "adding up the years' lengths one by one": none before year 0001, and a year's length for each step
   pub none_before : days_before_year 1 ≡ 0
   pub one_by_one : (y : ℕ) → 1 ≤ y → y ≤ 9999 → days_before_year (suc y) ≡ days_before_year y + year_length y

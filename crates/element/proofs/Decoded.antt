@@ -18,7 +18,7 @@ use Rattle.text.proofs.Reading.{here, none_of}
 use Rattle.markup.specs.Values.{CharBy, char_is, no_char}
 use Rattle.markup.specs.declared.value.Char.{Char}
 use Rattle.markup.specs.declared.value.Char.TheVariants.{Is, Nothing}
-use Rattle.element.specs.Texts.{TextAt, Chars, no_chars, chars, CharOn, no_char-on, char-on, is_nothing}
+use Rattle.element.specs.Texts.{TextAt, Chars, no_chars, chars, CharOn, no_char_on, char_on, is_nothing}
 
 -- the characters stand after the quote
 pub text-start : {s : List ℕ} {at i : ℕ} → Good 1 (byte 34) s at i → (v after : List ℕ) → value (drop at s) ≡ ok v after → TextAt s i v
@@ -56,15 +56,15 @@ chars-next {s} {at} b (no_char p) v x = go x.fuel x.reads
     go (suc f) q = let r = rw (none_of (byte 34) b, p) at q in clash (cc)
 
 pub chars-on : {s : List ℕ} {at : ℕ} {r : Char} → CharBy char s at r → CharOn s at r
-chars-on (char_is c e l h p) = char-on c e l h
-chars-on (no_char p) = no_char-on
+chars-on (char_is c e l h p) = char_on c e l h
+chars-on (no_char p) = no_char_on
 
 -- what an answer says once its case is known
 pub on-bounds : {s : List ℕ} {at c e : ℕ} {r : Char} → r ≡ Is c e → CharOn s at r → (at < e) × (e ≤ length s)
 on-bounds {s} {at} z h = go (subst (λ (y : Char). CharOn s at y) z h)
   where
     go : {c e : ℕ} → CharOn s at (Is c e) → (at < e) × (e ≤ length s)
-    go (char-on c e l h) = (l, h)
+    go (char_on c e l h) = (l, h)
 
 pub chars-none : {s : List ℕ} {v : List ℕ} {r : Char} → r ≡ Nothing → Chars s v r → v ≡ []
 chars-none {s} {v} z h = go (subst (λ (y : Char). Chars s v y) z h)

@@ -16,7 +16,7 @@ use Rattle.rules.specs.Markup.{is_space, space, some_space, name, value, Attribu
 use Rattle.rules.proofs.Parsers.{next-ok, cons_ok, else-ok, one_ok}
 use Rattle.rules.proofs.Tests.{clash, passes, passed, same_true}
 use Rattle.text.specs.Reads.{Good}
-use Rattle.markup.proofs.Names.{name-is}
+use Rattle.markup.proofs.Names.{name_is}
 use Rattle.element.specs.Names.{known, name_at, number_of, is_known}
 use Rattle.element.specs.Tags.{Place, nowhere, stands, Tells, count, is_namespace, is_other}
 use Rattle.element.specs.Carried.{PastEquals, AttributesTo, CarriedIn, CarriedAs}
@@ -133,7 +133,7 @@ module _ {s : List ℕ} {i j k n q e : ℕ} (x : Turn s i j k n q e) where
       let (h, w, r) = x.equals.past g.value a t (rw g.reads at p) in
       let (k, l, z) = value-to s q r in
       let y : t ≡ drop e s = z ∙ ap (λ (i : ℕ). drop i s) (sym (x.ends a.value k l (r ∙ ap (ok a.value) z))) in
-      (w ∙ name-is s j n g.value g.low g.high g.reads, omega (arith, h), r ∙ ap (ok a.value) y, y)
+      (w ∙ name_is s j n g.value g.low g.high g.reads, omega (arith, h), r ∙ ap (ok a.value) y, y)
 
 -- what is carried so far, where all attributes are l: the others follow
 pub record Done (s : List ℕ) (c : Carried) (l : List Attribute) (left : List ℕ) : Type 0 where

@@ -16,7 +16,7 @@ use Rattle.text.specs.declared.Read.{Read}
 use Rattle.text.specs.declared.Read.TheVariants.{At, Bad}
 use Rattle.text.proofs.Reading.{none_of}
 use Rattle.markup.specs.Tags.{HeadTo}
-use Rattle.markup.proofs.Names.{name-is}
+use Rattle.markup.proofs.Names.{name_is}
 use Rattle.element.specs.Names.{known}
 use Rattle.element.specs.Tags.{ElementTo, RowTo, Tells, Inner, empty, full, TagOf, TagIn}
 use Rattle.element.specs.Carried.{AttributesTo, CarriedIn, CarriedAs, PastLiteral, Closes, at_once, with_content, Closed}
@@ -104,7 +104,7 @@ module _ {s : List ℕ} {at n m : ℕ} (h : HeadTo s at n m) (c : Carried) (t : 
           let r : (space >> body a (content f d)) (drop c.end s) ≡ ok j after = rw (← k.ends, g) z in
           subst (λ (v : Element). TagOf s (suc d) v after t) made-is (record {
             deep = omega arith;
-            named = rw (closed.name-is, closed.past_is) (name-is s n m a h.named.low h.named.high h.named.reads);
+            named = rw (closed.name_is, closed.past_is) (name_is s n m a h.named.low h.named.high h.named.reads);
             tells = subst (λ (p : List ℕ). Tells s as' p) (sym closed.places) k.tells;
             distinct = e;
             others = closed.others ∙ k.others;
@@ -116,7 +116,7 @@ module _ {s : List ℕ} {at n m : ℕ} (h : HeadTo s at n m) (c : Carried) (t : 
   tag_in = (
     record {
       placed = λ k. subst (λ (p : List ℕ). get_or p k 0 ≤ length s - 1) (sym closed.places) (i.placed k);
-      name = omega (arith, closed.name-is, closed.past_is, h.named.low);
+      name = omega (arith, closed.name_is, closed.past_is, h.named.low);
       past = omega (arith, closed.past_is, h.named.high);
       end = closed.high;
     },

@@ -52,7 +52,7 @@ pub record Closed (s : List ℕ) (name past : ℕ) (c : Carried) (r : Tag) : Typ
   pub places : r.places ≡ c.places
   pub others : r.others ≡ c.others
   pub namespaces : r.namespaces ≡ c.namespaces
-  pub name-is : r.name ≡ name
+  pub name_is : r.name ≡ name
   pub past_is : r.past ≡ past
   pub low : c.end ≤ r.end
   pub high : r.end ≤ length s

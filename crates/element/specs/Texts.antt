@@ -23,8 +23,8 @@ pub data Chars (s : List ℕ) : List ℕ → Char → Type 0 where
 
 -- the position that an answer names lies further on
 pub data CharOn (s : List ℕ) (at : ℕ) : Char → Type 0 where
-  no_char-on : CharOn s at Nothing
-  char-on : (c e : ℕ) → at < e → e ≤ length s → CharOn s at (Is c e)
+  no_char_on : CharOn s at Nothing
+  char_on : (c e : ℕ) → at < e → e ≤ length s → CharOn s at (Is c e)
 
 abbrev pub is_nothing : Char → Bool
 is_nothing (Is c e) = false

@@ -43,4 +43,4 @@ pub record Joins (s : Stretches) (v : Interval) (p : ℕ) (j : Joint) : Type 0 w
 -- v in place of the stretches from the p-th up to the one at q
 pub record Replaced (s : Stretches) (p q : ℕ) (v : Interval) (r : Stretches) : Type 0 where
   pub items_are : used r ≡ take p (used s) ++ v ∷ drop q (used s)
-  pub count-is : r.count + q ≡ s.count + p + 1
+  pub count_is : r.count + q ≡ s.count + p + 1

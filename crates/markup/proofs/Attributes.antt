@@ -21,7 +21,7 @@ use Rattle.markup.specs.declared.tag.Parts.{Parts}
 use Rattle.markup.specs.declared.tag.Parts.TheVariants.{Attribute, Nothing}
 use Rattle.markup.specs.declared.tag.Found.{Found}
 use Rattle.markup.specs.declared.tag.Found.TheVariants.{Quoted, Absent}
-use Rattle.markup.proofs.Names.{name-is}
+use Rattle.markup.proofs.Names.{name_is}
 
 -- what an answer says once its case is known
 pub parts_found : {s : List ℕ} {at n q e : ℕ} {r : Parts} → r ≡ Attribute n q e → PartsAt s at r → AttributeTo s at n q e
@@ -32,7 +32,7 @@ parts_found {s} {at} z h = go (subst (λ (y : Parts). PartsAt s at y) z h)
 
 -- its name has a byte
 pub name-some : {s : List ℕ} {at n q e : ℕ} → AttributeTo s at n q e → 1 ≤ length (take (n - at) (drop at s))
-name-some {s} {at} {n} a = rw (length-take, length-drop) (omega (arith, a.name-low, a.name-high, a.value_low, a.high))
+name-some {s} {at} {n} a = rw (length-take, length-drop) (omega (arith, a.name_low, a.name_high, a.value_low, a.high))
 
 pub parts_none : {s : List ℕ} {at : ℕ} {r : Parts} → r ≡ Nothing → PartsAt s at r → PartsAt s at Nothing
 parts_none {s} {at} z h = subst (λ (y : Parts). PartsAt s at y) z h
@@ -48,13 +48,13 @@ pub parts_good : (s : List ℕ) (at n i j q e : ℕ) → Good 1 name s at n → 
     → PartsAt s at (Attribute n q e)
 unfolding attribute
 parts_good s at n i j q e g₁ g₂ g₃ g₄ g₅ = parts n q e (record {
-  name-low = omega (arith, g₁.low);
-  name-high = omega (arith, g₂.low, g₃.low, g₄.low);
+  name_low = omega (arith, g₁.low);
+  name_high = omega (arith, g₂.low, g₃.low, g₄.low);
   value_low = omega (arith, g₅.low);
   high = g₅.high;
   text = g₅.value;
   quoted = g₅.reads;
-  reads = rw (g₁.reads, g₂.reads, g₃.reads, g₄.reads, g₅.reads) (ap put (name-is s at n g₁.value g₁.low g₁.high g₁.reads));
+  reads = rw (g₁.reads, g₂.reads, g₃.reads, g₄.reads, g₅.reads) (ap put (name_is s at n g₁.value g₁.low g₁.high g₁.reads));
 })
   where
     put : List ℕ → Parsed RulesAttribute
@@ -133,7 +133,7 @@ module _ {s : List ℕ} {i j n q e : ℕ} (g : Good 1 some_space s i j) (a : Att
   steps f l r h = rw (g.reads, a.reads, h)
 
   pub bounds : (i < e) × (e ≤ length s)
-  bounds = (omega (arith, g.low, a.name-low, a.name-high, a.value_low), a.high)
+  bounds = (omega (arith, g.low, a.name_low, a.name_high, a.value_low), a.high)
 
   -- what follows, with fuel enough
   pub others : (f : ℕ) → length s ≤ i + suc f → (l : List RulesAttribute) × AttributesAt s e l × (r : List ℕ) × (attributes f (drop e s) ≡ ok l r)

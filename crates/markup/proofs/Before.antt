@@ -20,7 +20,7 @@ same_place s {i} {j} h k e = omega (arith, ap length e, length-drop i s, length-
 
 names-high : {s : List ℕ} {i to : ℕ} {k : List (List ℕ)} → NamesFrom s i to k → i ≤ to
 names-high no_names = omega arith
-names-high (more_names g a h) = omega (arith, g.low, a.name-low, a.name-high, a.value_low, names-high h)
+names-high (more_names g a h) = omega (arith, g.low, a.name_low, a.name_high, a.value_low, names-high h)
 
 -- the answer of a search for a name
 abbrev pub Tells : List ℕ → (name : List ℕ) → (at to : ℕ) → Bool → Type 0
@@ -29,7 +29,7 @@ Tells s name at to r = (k : List (List ℕ)) → NamesFrom s at to k → r ≡ i
 pub tells-end : {s : List ℕ} (name : List ℕ) {i to : ℕ} → to ≤ i → Tells s name i to false
 unfolding is_among
 tells-end name l _ no_names = refl
-tells-end name l _ (more_names g a h) = absurd (omega (arith, g.low, a.name-low, a.name-high, a.value_low, names-high h))
+tells-end name l _ (more_names g a h) = absurd (omega (arith, g.low, a.name_low, a.name_high, a.value_low, names-high h))
 
 pub tells-stop : {s : List ℕ} (name : List ℕ) {i to : ℕ} → Stops s i → Tells s name i to false
 unfolding is_among attributes

@@ -9,10 +9,10 @@ use Rattle.text.specs.Reads.{Good, Reads, upto, none}
 use Rattle.text.specs.declared.Read.{Read}
 use Rattle.text.specs.declared.Read.TheVariants.{At, Bad}
 use Rattle.text.proofs.Reading.{good, any, then, then_not, last, first, second, stay}
-use Rattle.markup.specs.Tags.{TagAt, empty-tag, open_tag, no_tag}
+use Rattle.markup.specs.Tags.{TagAt, empty_tag, open_tag, no_tag}
 use Rattle.markup.specs.Elements.{ReadsElement, ReadsContent}
 use Rattle.markup.specs.declared.tag.Tag.TheVariants.{Empty, Open, Bad as Tag-as-Bad}
-use Rattle.markup.proofs.Names.{name-is}
+use Rattle.markup.proofs.Names.{name_is}
 
 module _ {s : List ℕ} {at : ℕ} where
   pub too_deep : (depth : ℕ) → depth ≡ 0 → ReadsElement s at depth Bad
@@ -26,9 +26,9 @@ module _ {s : List ℕ} {at : ℕ} where
 
   pub empty-element : (depth : ℕ) → (depth ≡ 0 → ⊥) → {n m e : ℕ} → TagAt s at (Empty n m e) → ReadsElement s at depth (At e)
   unfolding element
-  empty-element depth z (empty-tag n m i e t g) zero h = absurd (omega (arith, t.begins.less.low, t.begins.less.high))
-  empty-element zero z (empty-tag n m i e t g) (suc f) h = absurd (z refl)
-  empty-element (suc d) z (empty-tag n m i e t g) (suc f) h =
+  empty-element depth z (empty_tag n m i e t g) zero h = absurd (omega (arith, t.begins.less.low, t.begins.less.high))
+  empty-element zero z (empty_tag n m i e t g) (suc f) h = absurd (z refl)
+  empty-element (suc d) z (empty_tag n m i e t g) (suc f) h =
       then _ _ t.begins.less (λ x p. then _ _ t.begins.named (λ x p. then _ _ t.attrs (λ x p. then _ _ t.gap (λ x p. last _ _ (first _ _ (last _ _ (upto e g)))))))
 
   pub full-element : (depth : ℕ) → (depth ≡ 0 → ⊥) → {n m e k : ℕ} {r : Read} → TagAt s at (Open n m e) → ReadsContent s e (depth - 1) k
@@ -40,7 +40,7 @@ module _ {s : List ℕ} {at : ℕ} where
       let inner : Reads 0 (content f d) s e (At k) = subst (λ (y : ℕ). Reads 0 (content f y) s e (At k)) (omega arith)
       (c f (omega (arith, t.begins.less.low, t.begins.named.low, t.attrs.low, t.gap.low, g.low))) in
       then _ _ t.begins.less (λ y p. then _ _ t.begins.named (λ v p. then _ _ t.attrs (λ y p₁. then _ _ t.gap (λ y p₂. last _ _ (second _ _ (last _ _ b)
-      (then _ _ g (λ y p₃. then _ _ (good inner) (λ y p₄. last _ _ (subst (λ (y : List ℕ). Reads 1 (end_tag y) s k r) (sym (name-is s n m v t.begins.named.low t.begins.named.high p)) x)))))))))
+      (then _ _ g (λ y p₃. then _ _ (good inner) (λ y p₄. last _ _ (subst (λ (y : List ℕ). Reads 1 (end_tag y) s k r) (sym (name_is s n m v t.begins.named.low t.begins.named.high p)) x)))))))))
 
 -- elements side by side: no more of them, or one and those after it
 module _ {s : List ℕ} {at i : ℕ} (depth : ℕ) (g : Good 0 space s at i) where

@@ -32,8 +32,8 @@ name-append (c ∷ s) a r e = go (is_name_start c) e
         rw (← d, ← f) (ap (λ (l : List ℕ). c ∷ l) (sym h))
     go false e = clash (cc)
 
-pub name-is : (s : List ℕ) (i j : ℕ) (a : List ℕ) → i + 1 ≤ j → j ≤ length s → name (drop i s) ≡ ok a (drop j s) → a ≡ take (j - i) (drop i s)
-name-is s i j a l h q =
+pub name_is : (s : List ℕ) (i j : ℕ) (a : List ℕ) → i + 1 ≤ j → j ≤ length s → name (drop i s) ≡ ok a (drop j s) → a ≡ take (j - i) (drop i s)
+name_is s i j a l h q =
     let e : drop i s ≡ a ++ drop j s = name-append (drop i s) a (drop j s) q in
     let n : length (drop i s) ≡ length (a ++ drop j s) = ap length e in
     rw e (sym (take_at a (drop j s) (j - i) (omega (arith, n, length-drop i s, length-drop j s, length-append a (drop j s)))))

@@ -14,8 +14,8 @@ use Rattle.markup.specs.declared.tag.Found.TheVariants.{Quoted, Absent}
 
 -- an attribute at a position: its name ends at n, its value stands at q, with the quotes, and ends at e
 pub record AttributeTo (s : List ℕ) (at n q e : ℕ) : Type 0 where
-  pub name-low : at < n
-  pub name-high : n ≤ q
+  pub name_low : at < n
+  pub name_high : n ≤ q
   pub value_low : q < e
   pub high : e ≤ length s
   pub text : List ℕ

@@ -29,6 +29,6 @@ pub record TagTo (s : List ℕ) (at n m e : ℕ) : Type 0 where
 
 -- the tag of an element without content, that of one with content, or none with which an element begins
 pub data TagAt (s : List ℕ) (at : ℕ) : Tag → Type 0 where
-  empty-tag : (n m i e : ℕ) → TagTo s at n m i → Good 2 (literal (bytes "/>")) s i e → TagAt s at (Empty n m e)
+  empty_tag : (n m i e : ℕ) → TagTo s at n m i → Good 2 (literal (bytes "/>")) s i e → TagAt s at (Empty n m e)
   open_tag : (n m i e : ℕ) → TagTo s at n m i → Reads 2 (literal (bytes "/>")) s i Bad → Good 1 (byte 62) s i e → TagAt s at (Open n m e)
   no_tag : ((f d : ℕ) → element f d (drop at s) ≡ bad) → TagAt s at Tag-as-Bad

@@ -83,12 +83,12 @@ module _ (days y : ℕ) (i : InYear days y) where
   date_found m j =
       let d = days - days_before_year y - days_of_months y (m - 1) + 1 in
       let found : IsDateOf days y m d = record {
-        year-low = i.least;
-        year-high = i.most;
+        year_low = i.least;
+        year_high = i.most;
         month_low = j.least;
         month_high = j.most;
-        day-low = omega arith;
-        day-high = omega (arith, j.from, j.until, month_ends y m j.least);
+        day_low = omega arith;
+        day_high = omega (arith, j.from, j.until, month_ends y m j.least);
         days_are = omega (arith, i.from, j.from);
       } in
       let (a, b, c) = date_unique days y m d (date_at days).year (date_at days).month (date_at days).day found (date_of days small) in

@@ -29,7 +29,7 @@ date_pieces days d e = rw e (ap (λ l. l ++ digits_of 2 (date_at days).month ++ 
 pub date-small : (days : ℕ) → days < 3_652_059 → let d = date_at days in (d.year < 10_000) × (d.month < 100) × (d.day < 100)
 date-small days h =
     let q = date_of days h in
-    (omega (arith, q.year-high), omega (arith, q.month_high), omega (arith, q.day-high, month_most (date_at days).year (date_at days).month))
+    (omega (arith, q.year_high), omega (arith, q.month_high), omega (arith, q.day_high, month_most (date_at days).year (date_at days).month))
 
 pub clock_pieces : (t : ℕ) → clock_text t
     ≡ digits_of 2 (t / hour) ++ digits_of 2 (t / minute % 60) ++ digits_of 2 (t / second % 60) ++ (46 ∷ []) ++ digits_of 2 (t % second / 100) ++ digits_of 2 (t % 100)

@@ -38,7 +38,7 @@ const MOST: usize = 16_384;
 // the other bits are the length of its longest beginning that is whole characters and at most the room.
 #[unsafe(no_mangle)]
 pub extern "C" fn rigcactus_cut(text: &[u8], room: u64) -> u64
-    ensures { result ≡ services.cut-says text.now room }
+    ensures { result ≡ services.cut_says text.now room }
 {
     if MOST < text.len() {
         return refusal::number(Refusal::TooLong);
@@ -77,7 +77,7 @@ fn verdict_number(v: Verdict) -> u64
 // Checks a record. Bits 0 to 7 of the answer are the refusal's number, 0 if the record is accepted; the other bits are 0.
 #[unsafe(no_mangle)]
 pub extern "C" fn rigcactus_check(record: &[u8], offset: i64) -> u64
-    ensures { result ≡ services.check-says offset «record».now }
+    ensures { result ≡ services.check_says offset «record».now }
 {
     if !is_offset(offset) {
         return refusal::number(Refusal::Offset);
@@ -113,7 +113,7 @@ fn listed_number(listed: Listed) -> u64
 // its stretches, which the list then begins with: four numbers each, eight bytes a number, lowest first. A refusal leaves the list as it was.
 #[unsafe(no_mangle)]
 pub extern "C" fn rigcactus_list(record: &[u8], offset: i64, list: &mut [u8]) -> u64
-    ensures value { result ≡ services.list-says offset «record».now list.old }
+    ensures value { result ≡ services.list_says offset «record».now list.old }
     ensures list_after { list.new ≡ services.list_leaves offset «record».now list.old }
 {
     if !is_offset(offset) {
@@ -134,7 +134,7 @@ pub extern "C" fn rigcactus_list(record: &[u8], offset: i64, list: &mut [u8]) ->
 // the record's length in bytes, which the lent record then begins with. A refusal leaves the lent record as it was.
 #[unsafe(no_mangle)]
 pub extern "C" fn rigcactus_print(list: &[u8], record: &mut [u8]) -> u64
-    ensures value { result ≡ services.print-says list.now «record».old }
+    ensures value { result ≡ services.print_says list.now «record».old }
     ensures record_after { «record».new ≡ services.print_leaves list.now «record».old }
 {
     if !printing::is_writable(list) {
@@ -230,7 +230,7 @@ fn refusal_number(t: Timestamp) -> u64
 // its precision. The tick is written only then.
 #[unsafe(no_mangle)]
 pub extern "C" fn rigcactus_tick(text: &[u8], offset: i64, tick: &mut i64) -> u64
-    ensures value { result ≡ services.tick-says offset text.now }
+    ensures value { result ≡ services.tick_says offset text.now }
     ensures tick_after { tick.new ≡ services.tick_leaves offset text.now tick.old }
 {
     if !is_offset(offset) {
@@ -277,7 +277,7 @@ pub extern "C" fn rigcactus_totals_open(table: &mut [u64; 103]) -> u64
 // there is such a desk and the table is not damaged; the other bits are 0.
 #[unsafe(no_mangle)]
 pub extern "C" fn rigcactus_totals_start(table: &mut [u64; 103], desk: u64) -> u64
-    ensures value { result ≡ services.start-says desk table.old }
+    ensures value { result ≡ services.start_says desk table.old }
     ensures table_after { table.new ≡ services.start_leaves desk table.old }
 {
     if !is_desk(desk) {
@@ -301,7 +301,7 @@ pub extern "C" fn rigcactus_totals_add(
     record: &[u8],
     offset: i64,
 ) -> u64
-    ensures value { result ≡ services.add-says desk offset «record».now table.old }
+    ensures value { result ≡ services.add_says desk offset «record».now table.old }
     ensures table_after { table.new ≡ services.add_leaves desk offset «record».now table.old }
 {
     if !is_desk(desk) {
@@ -328,7 +328,7 @@ pub extern "C" fn rigcactus_totals_report(
     desk: u64,
     report: &mut [u64; 35],
 ) -> u64
-    ensures value { result ≡ services.report-says desk table.now }
+    ensures value { result ≡ services.report_says desk table.now }
     ensures report_after { report.new ≡ services.report_leaves desk table.now report.old }
 {
     if !is_desk(desk) {

@@ -172,12 +172,12 @@ module _ (offset : ℤ) where
 
   pub comparison_promise : ComparisonPromise offset (compare_answer offset)
   comparison_promise = record {
-    first-refused = λ a b r e. rw (comparison_of offset a b e refl) (names-first r);
-    second-refused = λ a b e r h i. rw (comparison_of offset a b h i) (names-second r);
-    type-refused = λ a b e f h i u. rw (comparison_of offset a b h i, outcome_type shift e f (λ k t v. u k (record { accepted = h; type = t }) (record { accepted = i; type = v }))) (names-second TYPE);
+    first_refused = λ a b r e. rw (comparison_of offset a b e refl) (names-first r);
+    second_refused = λ a b e r h i. rw (comparison_of offset a b h i) (names-second r);
+    type_refused = λ a b e f h i u. rw (comparison_of offset a b h i, outcome_type shift e f (λ k t v. u k (record { accepted = h; type = t }) (record { accepted = i; type = v }))) (names-second TYPE);
     answer = λ k a b e f h i. let (x, d, n) = outcome_answer shift k e f h.type i.type in
         (x, rw (comparison_of offset a b h.accepted i.accepted, d) (says x));
-    null-unknown = λ k a b e f h i n. let (x, d, u) = outcome_answer shift k e f h.type i.type in
+    null_unknown = λ k a b e f h i n. let (x, d, u) = outcome_answer shift k e f h.type i.type in
         rw (comparison_of offset a b h.accepted i.accepted, d, u n) (says Unknown);
     symmetric = λ a b e f h i. comparison_of offset a b h i ∙ ap compared_number (outcome_sym shift e f) ∙ sym (comparison_of offset b a i h);
     itself = λ k a e h. rw (comparison_of offset a a h.accepted h.accepted, outcome_itself shift k e h.type (check_faultless offset a h.accepted)) (says _);

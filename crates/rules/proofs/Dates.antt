@@ -27,7 +27,7 @@ use Rattle.rules.proofs.Ticks.{read-answered}
 -- where the days given lie in the units counted
 record IsReached (length_of sum : ℕ → ℕ) (k f days : ℕ) (r : Reached) : Type 0 where
   before : ℕ
-  unit-is : r.unit ≡ suc before
+  unit_is : r.unit ≡ suc before
   first : k ≤ before
   last : before ≤ k + f
   days_are : sum before + r.passed ≡ sum k + days
@@ -38,7 +38,7 @@ module _ (length_of sum : ℕ → ℕ) (step : (k : ℕ) → sum (suc k) ≡ sum
   unfolding reached
   is-reached zero k days = record {
     before = k;
-    unit-is = refl;
+    unit_is = refl;
     first = omega arith;
     last = omega arith;
     days_are = refl;
@@ -50,7 +50,7 @@ module _ (length_of sum : ℕ → ℕ) (step : (k : ℕ) → sum (suc k) ≡ sum
           → IsReached length_of sum k (suc f) days (cond b (record { unit = suc k; passed = days }) (reached length_of f (suc (suc k)) (days - length_of (suc k))))
       go true e r = record {
         before = k;
-        unit-is = refl;
+        unit_is = refl;
         first = omega arith;
         last = omega arith;
         days_are = refl;
@@ -58,7 +58,7 @@ module _ (length_of sum : ℕ → ℕ) (step : (k : ℕ) → sum (suc k) ≡ sum
       }
       go false e r = record {
         before = r.before;
-        unit-is = r.unit-is;
+        unit_is = r.unit_is;
         first = omega (arith, r.first);
         last = omega (arith, r.last);
         days_are = omega (arith, r.days_are, step k, ltb-false days (length_of (suc k)) e);
@@ -87,12 +87,12 @@ years-end = omega (arith, days_of_years_lem 9999)
 
 -- what holds of the date found
 pub record IsDateOf (days y m d : ℕ) : Type 0 where
-  pub year-low : 1 ≤ y
-  pub year-high : y ≤ 9999
+  pub year_low : 1 ≤ y
+  pub year_high : y ≤ 9999
   pub month_low : 1 ≤ m
   pub month_high : m ≤ 12
-  pub day-low : 1 ≤ d
-  pub day-high : d ≤ month_length y m
+  pub day_low : 1 ≤ d
+  pub day_high : d ≤ month_length y m
   pub days_are : days_before y m d ≡ days
 
 pub date_of : (days : ℕ) → days < 3_652_059 → IsDateOf days (year_at days).unit (month_at days).unit (suc (month_at days).passed)
@@ -101,17 +101,17 @@ date_of days h = go (year_at days) (month_at days) (is-year days) (is_month days
   where
     go : (y m : Reached) → IsYear days y → IsReached (month_length y.unit) (days_of_months y.unit) 0 11 y.passed m → IsDateOf days y.unit m.unit (suc m.passed)
     go y m a b =
-        let z : y.unit - 1 ≡ a.before = omega (arith, a.unit-is) in
-        let w : m.unit - 1 ≡ b.before = omega (arith, b.unit-is) in
-        let in_year : y.passed < year_length y.unit = rw a.unit-is (a.within (omega (arith, days_of_years_lem 9999))) in
-        let in_month : m.passed < month_length y.unit m.unit = rw b.unit-is (b.within (omega (arith, months_make_year y.unit))) in
+        let z : y.unit - 1 ≡ a.before = omega (arith, a.unit_is) in
+        let w : m.unit - 1 ≡ b.before = omega (arith, b.unit_is) in
+        let in_year : y.passed < year_length y.unit = rw a.unit_is (a.within (omega (arith, days_of_years_lem 9999))) in
+        let in_month : m.passed < month_length y.unit m.unit = rw b.unit_is (b.within (omega (arith, months_make_year y.unit))) in
         record {
-          year-low = omega (arith, a.unit-is);
-          year-high = omega (arith, a.unit-is, a.last);
-          month_low = omega (arith, b.unit-is);
-          month_high = omega (arith, b.unit-is, b.last);
-          day-low = omega arith;
-          day-high = omega arith;
+          year_low = omega (arith, a.unit_is);
+          year_high = omega (arith, a.unit_is, a.last);
+          month_low = omega (arith, b.unit_is);
+          month_high = omega (arith, b.unit_is, b.last);
+          day_low = omega arith;
+          day_high = omega arith;
           days_are = rw (z, w) (omega (arith, a.days_are, b.days_are));
         }
 
@@ -151,7 +151,7 @@ module _ (y m d h i s f : ℕ) where
   full-possible : {days : ℕ} → IsDateOf days y m d → h ≤ 23 → i ≤ 59 → s ≤ 59 → written_faults fully ≡ []
   unfolding written_faults
   full-possible q lh li ls =
-      rw (le-leb 1 y q.year-low, le-leb y 9999 q.year-high, le-leb 1 m q.month_low, le-leb m 12 q.month_high, le-leb 1 d q.day-low, le-leb d (month_length y m) q.day-high, le-leb h 23 lh, le-leb i 59 li, le-leb s 59 ls)
+      rw (le-leb 1 y q.year_low, le-leb y 9999 q.year_high, le-leb 1 m q.month_low, le-leb m 12 q.month_high, le-leb 1 d q.day_low, le-leb d (month_length y m) q.day_high, le-leb h 23 lh, le-leb i 59 li, le-leb s 59 ls)
 
 get_d_most : (b : ℕ) (l : List ℕ) (n : ℕ) → every (λ x. leb x b) l ≡ true → get_or l n 0 ≤ b
 get_d_most b [] n h = omega arith
@@ -198,7 +198,7 @@ timestamp_of_tick shift t l =
     let e : days * day + h * hour + i * minute + s * second + f ≡ t = omega (arith, clock-sum (t % day)) in
     rw (text-full t) ((read-answered shift (full_text y m d h i s f) _).1 (
       fully y m d h i s f,
-      full-read y m d h i s f q.year-high (omega (arith, q.month_high)) (omega (arith, q.day-high, month_most y m)) (omega arith) (omega arith) (omega arith),
+      full-read y m d h i s f q.year_high (omega (arith, q.month_high)) (omega (arith, q.day_high, month_most y m)) (omega arith) (omega arith) (omega arith),
       full-possible y m d h i s f q (omega arith) (omega arith) (omega arith),
       full_moment shift days y m d h i s f q (omega arith) ∙ rw e refl,
     ))
@@ -245,13 +245,13 @@ module _ (length_of sum : ℕ → ℕ) (step : (k : ℕ) → sum (suc k) ≡ sum
       (z, omega (arith, ap sum z))
 
 year-holds : (days y m d : ℕ) → IsDateOf days y m d → days_of_months y (m - 1) + (d - 1) < year_length y
-year-holds days y m d q = omega (arith, q.day-low, q.day-high, month_ends y m q.month_low, days_of_months_rise y m 12 q.month_high, months_make_year y)
+year-holds days y m d q = omega (arith, q.day_low, q.day_high, month_ends y m q.month_low, days_of_months_rise y m 12 q.month_high, months_make_year y)
 
 pub date_unique : (days y m d z n c : ℕ) → IsDateOf days y m d → IsDateOf days z n c → (y ≡ z) × (m ≡ n) × (d ≡ c)
 unfolding days_of_years days_of_months
 date_unique days y m d z n c a b =
-    let s : suc (y - 1) ≡ y = omega (arith, a.year-low) in
-    let t : suc (z - 1) ≡ z = omega (arith, b.year-low) in
+    let s : suc (y - 1) ≡ y = omega (arith, a.year_low) in
+    let t : suc (z - 1) ≡ z = omega (arith, b.year_low) in
     let (e, f) = unit_unique year_length days_of_years (λ k. refl) (y - 1) (z - 1) (days_of_months y (m - 1) + (d - 1)) (days_of_months z (n - 1) + (c - 1))
     (rw s (year-holds days y m d a)) (rw t (year-holds days z n c b)) (omega (arith, a.days_are, b.days_are)) in
     let same : z ≡ y = omega arith in
@@ -259,5 +259,5 @@ date_unique days y m d z n c a b =
     let u : suc (m - 1) ≡ m = omega (arith, a.month_low) in
     let v : suc (n - 1) ≡ n = omega (arith, k.month_low) in
     let (g, h) = unit_unique (month_length y) (days_of_months y) (λ k. refl) (m - 1) (n - 1) (d - 1) (c - 1)
-    (rw u (omega (arith, a.day-low, a.day-high))) (rw v (omega (arith, k.day-low, k.day-high))) (omega (arith, a.days_are, k.days_are)) in
-    (omega arith, omega arith, omega (arith, a.day-low, k.day-low))
+    (rw u (omega (arith, a.day_low, a.day_high))) (rw v (omega (arith, k.day_low, k.day_high))) (omega (arith, a.days_are, k.days_are)) in
+    (omega arith, omega arith, omega (arith, a.day_low, k.day_low))

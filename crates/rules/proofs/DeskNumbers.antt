@@ -18,7 +18,7 @@ use Rattle.rules.specs.Desks.{Owned, Shared, shared, rows_for}
 use Rattle.rules.specs.DeskNumbers.{rows_in, shared_in, count_numbers, owned_numbers, shared_numbers}
 use Rattle.rules.proofs.Tests.{clash, neither, both_true}
 use Rattle.rules.proofs.TotalNumbers.{total-read, total-written, total-small, currency-read, currency-written, currency_64, every_append, every_drop}
-use Rattle.rules.proofs.Desks.{desk-is, is_stray, Sound}
+use Rattle.rules.proofs.Desks.{desk_is, is_stray, Sound}
 
 -- the rows of both desks are all rows
 module _ {A : Type 0} where
@@ -139,7 +139,7 @@ rows-small (r ∷ rows) d f w =
     let (a, b) = neither _ _ d in
     let (i, j) = neither _ _ f in
     let (k, l) = neither _ _ w in
-    rw (desk (desk-is r.desk (not-false _ a)), lt-ltb _ (2 ^ 64) (currency_64 r.row.currency (not-false _ i)), lt-ltb _ (2 ^ 64) (total-small r.row.total (not-false _ k)))
+    rw (desk (desk_is r.desk (not-false _ a)), lt-ltb _ (2 ^ 64) (currency_64 r.row.currency (not-false _ i)), lt-ltb _ (2 ^ 64) (total-small r.row.total (not-false _ k)))
     (rows-small rows b j l)
   where
     desk : (r.desk ≡ 1) ⊎ (r.desk ≡ 2) → is64 r.desk ≡ true

@@ -16,8 +16,8 @@ use Rattle.rules.specs.DeskDays.{Ask, start, add, report, DeskCall}
 use Rattle.rules.proofs.Tests.{clash, neither, eqb_refl}
 use Rattle.rules.proofs.Totals.{Proper, undamaged, reached-proper}
 
-pub desk-is : (n : ℕ) → is_desk n ≡ true → (n ≡ 1) ⊎ (n ≡ 2)
-desk-is n h = go (eqb n 1) (eqb n 2) refl refl h
+pub desk_is : (n : ℕ) → is_desk n ≡ true → (n ≡ 1) ⊎ (n ≡ 2)
+desk_is n h = go (eqb n 1) (eqb n 2) refl refl h
   where
     go : (a b : Bool) → eqb n 1 ≡ a → eqb n 2 ≡ b → (a || b) ≡ true → (n ≡ 1) ⊎ (n ≡ 2)
     go true b e f h = inl (eqb-true n 1 e)
@@ -107,7 +107,7 @@ module _ (n : ℕ) (t : Table) (s : Shared) where
       go false = refl
 
   pub part_other : is_desk n ≡ true → (m : ℕ) → is_desk m ≡ true → eqb n m ≡ false → part_of m (with_part n t s) ≡ part_of m s
-  part_other h m i e = part_is (rows_other n m e t.rows s.rows) (go (desk-is n h) (desk-is m i))
+  part_other h m i e = part_is (rows_other n m e t.rows s.rows) (go (desk_is n h) (desk_is m i))
     where
       go : (n ≡ 1) ⊎ (n ≡ 2) → (m ≡ 1) ⊎ (m ≡ 2) → counts_for m (with_part n t s) ≡ counts_for m s
       go (inl f) (inl g) = absurd (eqb-false n m e (omega arith))
@@ -132,7 +132,7 @@ faultless s = (
 )
 
 pub sound_part : (s : Shared) → Sound s → (n : ℕ) → is_desk n ≡ true → Proper (part_of n s)
-sound_part s p n h = go (desk-is n h)
+sound_part s p n h = go (desk_is n h)
   where
     go : (n ≡ 1) ⊎ (n ≡ 2) → Proper (part_of n s)
     go (inl e) = rw e p.first

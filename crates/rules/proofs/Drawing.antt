@@ -157,8 +157,8 @@ stretches_are e =
 pub is-stretches : (e : Expression) {ss : List Interval} → AreStretches (meant e) ss → ss ≡ stretches e
 is-stretches e l = stretches_unique l (stretches_are e)
 
-pub same-list : (a b : Expression) → ((y : Place) → meant a y ≡ meant b y) → stretches a ≡ stretches b
-same-list a b h = is-stretches b (rw (fun_ext h) at (stretches_are a))
+pub same_list : (a b : Expression) → ((y : Place) → meant a y ≡ meant b y) → stretches a ≡ stretches b
+same_list a b h = is-stretches b (rw (fun_ext h) at (stretches_are a))
 
 pub same-times : (a b : Expression) → stretches a ≡ stretches b → (y : Place) → meant a y ≡ meant b y
 same-times a b e y = sym ((stretches_are a).all y) ∙ ap (λ ss. is_in ss y) e ∙ (stretches_are b).all y

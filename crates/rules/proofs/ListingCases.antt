@@ -179,7 +179,7 @@ module _ (offset : ℤ) (input : List ℕ) where
   -- every record is of one of five cases
   pub data Case : Type 0 where
     faulty : (r q : Refusal) → check offset input ≡ refused r → first_of (r ∷ faults_in unlisted (element_of input)) ≡ some q → Case
-    other-type : (e : Element) → check offset input ≡ answered e → is_listed e ≡ false → Case
+    other_type : (e : Element) → check offset input ≡ answered e → is_listed e ≡ false → Case
     unclear : (e : Element) → check offset input ≡ answered e → is_listed e ≡ true → is_clear (shift_by offset) e ≡ false → Case
     many : (e : Element) → check offset input ≡ answered e → is_listed e ≡ true → is_clear (shift_by offset) e ≡ true → 32 < intervals_written e → Case
     a_set : (e : Element) → IsSetOfTimes offset input e → Case
@@ -200,7 +200,7 @@ module _ (offset : ℤ) (input : List ℕ) where
 
       accepted : (e : Element) (b : Bool) → check offset input ≡ answered e → is_listed e ≡ b → Case
       accepted e true h l = listed e _ h l refl
-      accepted e false h l = other-type e h l
+      accepted e false h l = other_type e h l
 
       go : (o : Outcome Element) → check offset input ≡ o → Case
       go (answered e) h = accepted e _ h refl

@@ -28,7 +28,7 @@ use Rattle.rules.proofs.Drawing.{stretches_are, is-stretches}
 use Rattle.rules.proofs.Counting.{stretches-within}
 use Rattle.rules.proofs.Members.{set-intervals, clear-set}
 use Rattle.rules.proofs.CheckRefusals.{of_record}
-use Rattle.rules.proofs.ListingCases.{check_faultless, check-offset, listing-unlisted, listing_unclear, listing_too_many, listing_no_room, listing-answered, listing-faulty, faulty_early, faulty, other-type, unclear, many, a_set, case}
+use Rattle.rules.proofs.ListingCases.{check_faultless, check-offset, listing-unlisted, listing_unclear, listing_too_many, listing_no_room, listing-answered, listing-faulty, faulty_early, faulty, other_type, unclear, many, a_set, case}
 
 -- refusals are told from one another, and from an answer, by the lowest eight bits
 pub small : (r : Refusal) → (1 ≤ number r) × (number r ≤ 255)
@@ -184,17 +184,17 @@ module _ (offset : ℤ) (record' list : List ℕ) where
     sets = promise_of_set;
     others = λ h. elim (case offset record') [
       | faulty r q c f ↦ (q, gives_faulty r q c f, omega (arith, of_record q (faulty_early offset (room_of list) record' r c f)))
-      | other-type e c l ↦ (TYPE, gives_type e c l, omega arith)
+      | other_type e c l ↦ (TYPE, gives_type e c l, omega arith)
       | unclear e c l u ↦ (UNKNOWN_BOUND, gives_unknown e c l u, omega arith)
       | many e c l u m ↦ (TOO_MANY, gives_many e c l u m, omega arith)
       | a_set e s ↦ absurd (h e s)
     ];
     faulty = gives_faulty;
-    other-type = gives_type;
+    other_type = gives_type;
     unknown_bound = (
       λ a. elim (case offset record') [
         | faulty r q c f ↦ absurd (not-faulty r c f (omega arith) a)
-        | other-type e c l ↦ clash (cc (one_refusal a (gives_type e c l)))
+        | other_type e c l ↦ clash (cc (one_refusal a (gives_type e c l)))
         | unclear e c l u ↦ (e, c, l, u)
         | many e c l u m ↦ clash (cc (one_refusal a (gives_many e c l u m)))
         | a_set e s ↦ clash (cc (set_refusal e s a))
@@ -204,7 +204,7 @@ module _ (offset : ℤ) (record' list : List ℕ) where
     too_many = (
       λ a. elim (case offset record') [
         | faulty r q c f ↦ absurd (not-faulty r c f (omega arith) a)
-        | other-type e c l ↦ clash (cc (one_refusal a (gives_type e c l)))
+        | other_type e c l ↦ clash (cc (one_refusal a (gives_type e c l)))
         | unclear e c l u ↦ clash (cc (one_refusal a (gives_unknown e c l u)))
         | many e c l u m ↦ (e, c, l, u, m)
         | a_set e s ↦ clash (cc (set_refusal e s a))

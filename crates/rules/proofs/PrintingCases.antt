@@ -31,7 +31,7 @@ use Rattle.rules.proofs.Drawing.{stretches-canonical}
 use Rattle.rules.proofs.Counting.{stretches-at-most}
 use Rattle.rules.proofs.Members.{set-intervals, clear-set}
 use Rattle.rules.proofs.Fitting.{list-fits}
-use Rattle.rules.proofs.ListingCases.{check_faultless, check-offset, listing-unlisted, listing_unclear, listing_too_many, listing_no_room, listing-answered, listing-faulty, faulty, other-type, unclear, many, a_set, case}
+use Rattle.rules.proofs.ListingCases.{check_faultless, check-offset, listing-unlisted, listing_unclear, listing_too_many, listing_no_room, listing-answered, listing-faulty, faulty, other_type, unclear, many, a_set, case}
 use Rattle.rules.proofs.ListingPromise.{numbers-length, bytes-length}
 use Rattle.rules.proofs.LentLists.{numbers-written, numbers-read, numbers_from-length_lem}
 use Rattle.rules.proofs.ProperLists.{IsProper, proper, stretches_back, not_improper}
@@ -80,7 +80,7 @@ pub listing_gives : (offset : ℤ) (room : ℕ) (input : List ℕ) (ss : List In
     → (e : Element) × (s : Expression) × IsSetOfTimes offset input e × (set_of (shift_by offset) e ≡ answered s) × (stretches s ≡ ss)
 listing_gives offset room input ss h = elim (case offset input) [
   | faulty r q c f ↦ clash (cc (listing-faulty offset room input r c f))
-  | other-type e c l ↦ clash (cc (listing-unlisted offset room input e c l))
+  | other_type e c l ↦ clash (cc (listing-unlisted offset room input e c l))
   | unclear e c l u ↦ clash (cc (listing_unclear offset room input e c l u))
   | many e c l u m ↦
       let (s, known) = clear-set (shift_by offset) e (check_faultless offset input c) l u in

@@ -37,19 +37,19 @@ years_rise m (suc n) h = go (dec_le m n) (years_rise m n)
 -- the days before a later date are more
 days_rise : (w v : Written) → Possible w → Less (w.year ∷ month_of w ∷ day_of w ∷ []) (v.year ∷ month_of v ∷ day_of v ∷ [])
     → days_before w.year (month_of w) (day_of w) < days_before v.year (month_of v) (day_of v)
-days_rise w v p (inl y) = omega (arith, month_in_years w p, p.day-high, p.day-low, years_rise w.year (v.year - 1) (omega arith))
+days_rise w v p (inl y) = omega (arith, month_in_years w p, p.day_high, p.day_low, years_rise w.year (v.year - 1) (omega arith))
 days_rise w v p (inr h) = by_month h
   where
     by_day : (w.year ≡ v.year) → (month_of w ≡ month_of v) → Less (day_of w ∷ []) (day_of v ∷ [])
         → days_before w.year (month_of w) (day_of w) < days_before v.year (month_of v) (day_of v)
-    by_day y m (inl d) = rw (y, m) (omega (arith, p.day-low))
+    by_day y m (inl d) = rw (y, m) (omega (arith, p.day_low))
     by_day y m (inr k) = absurd k.1
 
     by_month : (w.year ≡ v.year) × Less (month_of w ∷ day_of w ∷ []) (month_of v ∷ day_of v ∷ [])
         → days_before w.year (month_of w) (day_of w) < days_before v.year (month_of v) (day_of v)
     by_month k = elim k.1 [
       | inl m ↦ rw (← k.0)
-          (omega (arith, p.day-high, p.day-low, month_ends w.year (month_of w) p.month_low, days_of_months_rise w.year (month_of w) (month_of v - 1) (omega arith)))
+          (omega (arith, p.day_high, p.day_low, month_ends w.year (month_of w) p.month_low, days_of_months_rise w.year (month_of w) (month_of v - 1) (omega arith)))
       | inr m ↦ by_day k.0 m.0 m.1
     ]
 
@@ -59,14 +59,14 @@ clock w = hour_of w * hour + minute_of w * minute + second_of w * second + ten_t
 abbrev clock_numbers : Written → List ℕ
 clock_numbers w = hour_of w ∷ minute_of w ∷ second_of w ∷ ten_thousandths w.fraction ∷ []
 
-fraction-most : (w : Written) → Form w → ten_thousandths w.fraction < second
-fraction-most w c = omega (arith, fraction_in_second w.fraction c.fraction-most c.fraction-digits, one-le-pow (4 - length w.fraction) 10 (omega arith))
+fraction_most : (w : Written) → Form w → ten_thousandths w.fraction < second
+fraction_most w c = omega (arith, fraction_in_second w.fraction c.fraction_most c.fraction_digits, one-le-pow (4 - length w.fraction) 10 (omega arith))
 
 -- a later time of the day is more
 clock_rise : (w v : Written) → Possible w → ten_thousandths w.fraction < second → Less (clock_numbers w) (clock_numbers v) → clock w < clock v
-clock_rise w v p f (inl h) = omega (arith, p.minute-high, p.second-high)
+clock_rise w v p f (inl h) = omega (arith, p.minute_high, p.second_high)
 clock_rise w v p f (inr h) = elim h.1 [
-  | inl m ↦ omega (arith, h.0, m, p.second-high)
+  | inl m ↦ omega (arith, h.0, m, p.second_high)
   | inr m ↦ elim m.1 [
     | inl s ↦ omega (arith, h.0, m.0, s)
     | inr s ↦ elim s.1 [
@@ -92,8 +92,8 @@ date-or-clock w v (inr h) = elim h.1 [
 rise : (shift : ℕ) (w v : Written) → Form w → Possible w → w.zone ≡ v.zone → Less (numbers_of w) (numbers_of v) → start_of shift w < start_of shift v
 unfolding start_of
 rise shift w v c p z h = elim (date-or-clock w v h) [
-  | inl d ↦ omega (arith, days_rise w v p d, p.hour-high, p.minute-high, p.second-high, fraction-most w c, ap (shift_of shift) z)
-  | inr k ↦ rw (k.0, k.1, k.2) (omega (arith, clock_rise w v p (fraction-most w c) k.3, ap (shift_of shift) z))
+  | inl d ↦ omega (arith, days_rise w v p d, p.hour_high, p.minute_high, p.second_high, fraction_most w c, ap (shift_of shift) z)
+  | inr k ↦ rw (k.0, k.1, k.2) (omega (arith, clock_rise w v p (fraction_most w c) k.3, ap (shift_of shift) z))
 ]
 
 -- of two texts with one offset, written or agreed, the one whose digits come first has the earlier tick

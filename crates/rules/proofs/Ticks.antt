@@ -59,9 +59,9 @@ read_right_form shift text w f = rw f (go (is_date w) (is_clock w) (is_zone w.zo
 
 -- what the form of a timestamp gives
 pub record Form (w : Written) : Type 0 where
-  pub parts-most : length w.parts ≤ 5
-  pub fraction-most : length w.fraction ≤ 4
-  pub fraction-digits : every is_digit w.fraction ≡ true
+  pub parts_most : length w.parts ≤ 5
+  pub fraction_most : length w.fraction ≤ 4
+  pub fraction_digits : every is_digit w.fraction ≡ true
   pub fraction_last : length w.parts < 5 → w.fraction ≡ []
 
 pub point-ok : (s : List ℕ) {ds r : List ℕ} → point s ≡ ok ds r → (length ds ≤ 4) × (every is_digit ds ≡ true)
@@ -98,7 +98,7 @@ form s {w} e =
     next-ok (else (next (guard (leb 5 (length ps)) s₂) (λ u. point)) (ok [] s₂)) _ e₂ λ f s₃ c e₃.
     let (z, d, q) = map-ok (else (next (guard (leb 3 (length ps)) s₃) (λ u. zone)) (ok no_zone s₃)) _ e₃ in
     let (g, h, k) = fraction-ok (length ps) s₂ c in
-    rw (← q) (record { parts-most = two_digits-ok_lem 5 s₁ b; fraction-most = g; fraction-digits = h; fraction_last = k })
+    rw (← q) (record { parts_most = two_digits-ok_lem 5 s₁ b; fraction_most = g; fraction_digits = h; fraction_last = k })
 
 -- coarser than a second exactly if it stops before ss
 pub coarse_parts : (shift : ℕ) (text : List ℕ) (w : Written) → whole timestamp text ≡ some w → is_coarse (moment_of shift w) ≡ ltb (length w.parts) 5
@@ -111,15 +111,15 @@ coarse_parts shift text w e =
 
 -- what the checks give
 pub record Possible (w : Written) : Type 0 where
-  pub year-low : 1 ≤ w.year
-  pub year-high : w.year ≤ 9999
+  pub year_low : 1 ≤ w.year
+  pub year_high : w.year ≤ 9999
   pub month_low : 1 ≤ month_of w
   pub month_high : month_of w ≤ 12
-  pub day-low : 1 ≤ day_of w
-  pub day-high : day_of w ≤ month_length w.year (month_of w)
-  pub hour-high : hour_of w ≤ 23
-  pub minute-high : minute_of w ≤ 59
-  pub second-high : second_of w ≤ 59
+  pub day_low : 1 ≤ day_of w
+  pub day_high : day_of w ≤ month_length w.year (month_of w)
+  pub hour_high : hour_of w ≤ 23
+  pub minute_high : minute_of w ≤ 59
+  pub second_high : second_of w ≤ 59
   pub zone_right : is_zone w.zone ≡ true
 
 unless_not : (r : Refusal) (b : Bool) → (r when not b) ≡ [] → b ≡ true
@@ -135,15 +135,15 @@ possible w e =
     let (hm, s) = both_true _ _ (unless_not CLOCK (is_clock w) clock) in
     let (h, i) = both_true _ _ hm in
     record {
-      year-low = (is_from-true_lem 1 9999 w.year y).0;
-      year-high = (is_from-true_lem 1 9999 w.year y).1;
+      year_low = (is_from-true_lem 1 9999 w.year y).0;
+      year_high = (is_from-true_lem 1 9999 w.year y).1;
       month_low = (is_from-true_lem 1 12 (month_of w) m).0;
       month_high = (is_from-true_lem 1 12 (month_of w) m).1;
-      day-low = (is_from-true_lem 1 (month_length w.year (month_of w)) (day_of w) d).0;
-      day-high = (is_from-true_lem 1 (month_length w.year (month_of w)) (day_of w) d).1;
-      hour-high = leb-true (hour_of w) 23 h;
-      minute-high = leb-true (minute_of w) 59 i;
-      second-high = leb-true (second_of w) 59 s;
+      day_low = (is_from-true_lem 1 (month_length w.year (month_of w)) (day_of w) d).0;
+      day_high = (is_from-true_lem 1 (month_length w.year (month_of w)) (day_of w) d).1;
+      hour_high = leb-true (hour_of w) 23 h;
+      minute_high = leb-true (minute_of w) 59 i;
+      second_high = leb-true (second_of w) 59 s;
       zone_right = unless_not ZONE (is_zone w.zone) zone;
     }
 
@@ -161,7 +161,7 @@ shift_most shift (plus h m) l e = omega arith
 shift_most shift (minus h m) l e = let (f, g) = both_true (leb m 59) _ e in omega (arith, leb-true (60 * h + m) 840 g)
 
 pub month_in_years : (w : Written) → Possible w → days_before_year w.year + days_of_months w.year (month_of w - 1) + month_length w.year (month_of w) ≤ days_of_years w.year
-month_in_years w p = omega (arith, month_ends w.year (month_of w) p.month_low, months_in_year w.year (month_of w) p.year-low p.month_high)
+month_in_years w p = omega (arith, month_ends w.year (month_of w) p.month_low, months_in_year w.year (month_of w) p.year_low p.month_high)
 
 no_fraction : (w : Written) → Form w → length w.parts < 5 → ten_thousandths w.fraction ≡ 0
 unfolding decimal_from
@@ -171,13 +171,13 @@ no_fraction w c l = rw (c.fraction_last l)
 span : (shift y : ℕ) (ps f : List ℕ) (z : Zone) → let w : Written = record { year = y; parts = ps; fraction = f; zone = z } in
     Form w → Possible w → (1 ≤ unit_length y ps f) × (start_of shift w + unit_length y ps f ≤ days_of_years y * day + shift_of shift z * minute)
 unfolding start_of unit_length days_of_months
-span shift y [] f z c p = omega (arith, no_fraction _ c (omega arith), year-least y, months_make_year y, months_in_year y 12 p.year-low (omega arith))
+span shift y [] f z c p = omega (arith, no_fraction _ c (omega arith), year-least y, months_make_year y, months_in_year y 12 p.year_low (omega arith))
 span shift y (m ∷ []) f z c p = omega (arith, no_fraction _ c (omega arith), month_in_years _ p)
 span shift y (m ∷ d ∷ []) f z c p = omega (arith, no_fraction _ c (omega arith), month_in_years _ p)
 span shift y (m ∷ d ∷ h ∷ []) f z c p = omega (arith, no_fraction _ c (omega arith), month_in_years _ p)
 span shift y (m ∷ d ∷ h ∷ i ∷ []) f z c p = omega (arith, no_fraction _ c (omega arith), month_in_years _ p)
 span shift y (m ∷ d ∷ h ∷ i ∷ s ∷ l) f z c p =
-    omega (arith, one-le-pow (4 - length f) 10 (omega arith), fraction_in_second f c.fraction-most c.fraction-digits, month_in_years _ p)
+    omega (arith, one-le-pow (4 - length f) 10 (omega arith), fraction_in_second f c.fraction_most c.fraction_digits, month_in_years _ p)
 
 -- an offset within -840..840 is taken into account by 1680 minutes at most
 pub shift_by-most_lem : (offset : ℤ) → is_offset offset ≡ true → shift_by offset ≤ 1680
@@ -196,10 +196,10 @@ module _ (shift : ℕ) (text : List ℕ) (m : Moment) (read : read_timestamp shi
   pub next-most : shift ≤ 1680 → m.next ≤ 3_155_379_984_000_000
   next-most l =
       let (w, c, p, e) = known in
-      rw (← e) (omega (arith, (span shift w.year w.parts w.fraction w.zone c p).1, days_of_years-most w.year p.year-high, shift_most shift w.zone l p.zone_right))
+      rw (← e) (omega (arith, (span shift w.year w.parts w.fraction w.zone c p).1, days_of_years-most w.year p.year_high, shift_most shift w.zone l p.zone_right))
 
   pub ticks_in_60_bits : shift ≤ 1680 → (m.start < 2 ^ 60) × (m.next < 2 ^ 60)
   ticks_in_60_bits l = omega (arith, next-most l, span_not-empty)
 
   pub precision-range : (4 ≤ m.precision) × (m.precision ≤ 18)
-  precision-range = let (w, c, p, e) = known in rw (← e) (omega (arith, c.parts-most, c.fraction-most))
+  precision-range = let (w, c, p, e) = known in rw (← e) (omega (arith, c.parts_most, c.fraction_most))

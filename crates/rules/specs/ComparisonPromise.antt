@@ -66,14 +66,14 @@ module _ (offset : ℤ) where
   -- the promise, of a service that compares two records
   pub record ComparisonPromise (compare : (first second : List ℕ) → ℕ) : Type 0 where
     -- the first record is checked fully, then the second; the one refused is named
-    pub first-refused : (a b : List ℕ) (r : Refusal) → check offset a ≡ refused r → Names 1 r (compare a b)
-    pub second-refused : (a b : List ℕ) (e : Element) (r : Refusal) → check offset a ≡ answered e → check offset b ≡ refused r → Names 2 r (compare a b)
+    pub first_refused : (a b : List ℕ) (r : Refusal) → check offset a ≡ refused r → Names 1 r (compare a b)
+    pub second_refused : (a b : List ℕ) (e : Element) (r : Refusal) → check offset a ≡ answered e → check offset b ≡ refused r → Names 2 r (compare a b)
     -- if the types differ, or are set types, it is TYPE against the second, also where either value is null
-    pub type-refused : (a b : List ℕ) (e f : Element) → check offset a ≡ answered e → check offset b ≡ answered f
+    pub type_refused : (a b : List ℕ) (e f : Element) → check offset a ≡ answered e → check offset b ≡ answered f
         → ((k : Kind) → IsOf k a e → IsOf k b f → ⊥) → Names 2 TYPE (compare a b)
     -- otherwise there is an answer, and it is unknown if either value is null
     pub answer : (k : Kind) (a b : List ℕ) (e f : Element) → IsOf k a e → IsOf k b f → (x : Answer) × Says x (compare a b)
-    pub null-unknown : (k : Kind) (a b : List ℕ) (e f : Element) → IsOf k a e → IsOf k b f → (is_null e.attrs || is_null f.attrs) ≡ true → Says Unknown (compare a b)
+    pub null_unknown : (k : Kind) (a b : List ℕ) (e f : Element) → IsOf k a e → IsOf k b f → (is_null e.attrs || is_null f.attrs) ≡ true → Says Unknown (compare a b)
     -- where both records are accepted, their order changes nothing
     pub symmetric : (a b : List ℕ) (e f : Element) → check offset a ≡ answered e → check offset b ≡ answered f → compare a b ≡ compare b a
     -- a value compared with itself is never no: yes where nothing that comparison asks about is null or missing, else unknown

@@ -130,7 +130,7 @@ module _ (offset : ℤ) (record' : List ℕ) (answer : ℕ) (before after : List
     -- a record that fails the check is refused by the same fault, or by TYPE if that is earlier and its type is not listed
     pub faulty : (r q : Refusal) → check offset record' ≡ refused r → first_of (r ∷ faults_in unlisted (element_of record')) ≡ some q → Refuses q
     -- an accepted record of a type that is not listed is TYPE
-    pub other-type : (e : Element) → check offset record' ≡ answered e → is_listed e ≡ false → Refuses TYPE
+    pub other_type : (e : Element) → check offset record' ≡ answered e → is_listed e ≡ false → Refuses TYPE
     -- UNKNOWN BOUND is given exactly if a set or interval is null, or a bound is missing or null without being unbounded
     pub unknown_bound : Refuses UNKNOWN_BOUND ↔ (e : Element) × (check offset record' ≡ answered e) × (is_listed e ≡ true) × (is_clear (shift_by offset) e ≡ false)
     -- TOO MANY is given exactly if, without that, there are over 32 intervals

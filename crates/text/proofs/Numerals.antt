@@ -210,8 +210,8 @@ pub fraction-none : (s : List ℕ) (at : ℕ) → at ≤ length s → (point or 
 unfolding decimal_from
 fraction-none s at h e = record { list = []; reads = e; value = refl; count = refl; few = omega arith; small = omega arith; high = h }
 
-pub fraction-digits : (s : List ℕ) (at n v : ℕ) → byte 46 (drop at s) ≡ ok 46 (drop (at + 1) s) → Counted s (at + 1) 4 n → 1 ≤ n
+pub fraction_digits : (s : List ℕ) (at n v : ℕ) → byte 46 (drop at s) ≡ ok 46 (drop (at + 1) s) → Counted s (at + 1) 4 n → 1 ≤ n
     → v ≡ decimal (take n (drop (at + 1) s)) * 10 ^ (4 - n) → v < 10_000 → FractionAt s at (record { value = v; count = n; end = at + 1 + n })
-fraction-digits s at n v e c h q l =
+fraction_digits s at n v e c h q l =
     let k : length (take n (drop (at + 1) s)) ≡ n = length-take-le n (drop (at + 1) s) (fits s (at + 1) 4 n c) in
     record { list = take n (drop (at + 1) s); reads = point-digits s at n e c h; value = rw k q; count = sym k; few = c.few; small = l; high = c.high }

@@ -15,7 +15,7 @@ use Rattle.timestamp.specs.declared.fourteen.Fourteen.TheVariants.{Are}
 use Rattle.timestamp.specs.declared.form.Form.{Form}
 use Rattle.timestamp.specs.declared.form.Form.TheVariants.{Is, Bad}
 use Rattle.timestamp.specs.declared.form.Written.{Written}
-use Rattle.timestamp.proofs.Ranges.{unit-is}
+use Rattle.timestamp.proofs.Ranges.{unit_is}
 
 pub found_form : (s : List ℕ) (r : Form) (c : Written) → FormOf s r → r ≡ Is c → FormOf s (Is c)
 found_form s r c h e = subst (FormOf s) e h
@@ -24,8 +24,8 @@ pub found_fourteen : (s : List ℕ) (r : Fourteen) (n : Numbers) → FourteenOf 
 found_fourteen s r n h e = subst (FourteenOf s) e h
 
 -- a text of the wrong form
-pub wrong-form : (shift : ℕ) (s : List ℕ) (r : Form) → FormOf s r → r ≡ Bad → refused VALUE ≡ read_timestamp shift s
-wrong-form shift s r h e = sym (read-wrong-form shift s (subst (FormOf s) e h))
+pub wrong_form : (shift : ℕ) (s : List ℕ) (r : Form) → FormOf s r → r ≡ Bad → refused VALUE ≡ read_timestamp shift s
+wrong_form shift s r h e = sym (read-wrong-form shift s (subst (FormOf s) e h))
 
 -- what is wrong, by whether the date is possible, and the clock
 abbrev pub wrong_part : (date clock : Bool) → Refusal
@@ -53,7 +53,7 @@ module _ (s : List ℕ) (c : Written) (f : FormOf s (Is c)) where
   precision-is shift = rw (field (λ p. p.count), f.2.count) refl
 
   unit-same : unit_ticks c.year c.parts.month c.parts.count c.fraction.count ≡ unit_length f.0.year f.0.parts f.0.fraction
-  unit-same = rw (f.2.year, field (λ p. p.month), field (λ p. p.count), f.2.count) (sym (unit-is f.0.year f.0.parts f.0.fraction))
+  unit-same = rw (f.2.year, field (λ p. p.month), field (λ p. p.count), f.2.count) (sym (unit_is f.0.year f.0.parts f.0.fraction))
 
   same_moment : (shift : ℕ) → moment_of (moment_written shift c) ≡ rules_moment shift f.0
   same_moment shift = λ i. record { start = start_is shift i; precision = precision-is shift i; next = start_is shift i + unit-same i }

@@ -76,15 +76,15 @@ march_years (suc y) m h = go (leb m 2)
 
 pub days-from_march : (y m d : ℕ) → InRange y m d
     → days_by_division (cond (leb m 2) (y - 1) y + 1) + (153 * cond (leb m 2) (m + 12) m - 457) / 5 + d ≡ days_before y m d + 307
-days-from_march y m d r = omega (arith, march_years y m r.from-year, from_march y m r.from_month r.to_month, r.from-day)
+days-from_march y m d r = omega (arith, march_years y m r.from_year, from_march y m r.from_month r.to_month, r.from_day)
 
 pub march_range : (y m d : ℕ) → InRange y m d
     → (cond (leb m 2) (y - 1) y ≤ 9999) × (3 ≤ cond (leb m 2) (m + 12) m) × (cond (leb m 2) (m + 12) m ≤ 14)
 march_range y m d r = go (leb m 2) refl
   where
     go : (early : Bool) → leb m 2 ≡ early → (cond early (y - 1) y ≤ 9999) × (3 ≤ cond early (m + 12) m) × (cond early (m + 12) m ≤ 14)
-    go true e = let h = leb-true m 2 e in (omega (arith, r.to-year), omega arith, omega arith)
-    go false e = let h = leb-false m 2 e in (r.to-year, omega arith, omega (arith, r.to_month))
+    go true e = let h = leb-true m 2 e in (omega (arith, r.to_year), omega arith, omega arith)
+    go false e = let h = leb-false m 2 e in (r.to_year, omega arith, omega (arith, r.to_month))
 
 -- as the code has it
 pub march_sum : (y m d years months before : ℕ) → InRange y m d → years ≡ cond (leb m 2) (y - 1) y → months ≡ cond (leb m 2) (m + 12) m

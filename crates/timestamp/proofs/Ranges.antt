@@ -40,7 +40,7 @@ date-range y m d e =
     let a = is_from-true_lem 1 9999 y yy in
     let b = is_from-true_lem 1 12 m mm in
     let c = is_from-true_lem 1 (month_length y m) d dd in
-    record { from-year = a.0; to-year = a.1; from_month = b.0; to_month = b.1; from-day = c.0; to-day = omega (arith, month_most y m) }
+    record { from_year = a.0; to_year = a.1; from_month = b.0; to_month = b.1; from_day = c.0; to_day = omega (arith, month_most y m) }
 
 pub clock-range : (h m s : ℕ) → is_clock_of h m s ≡ true → (h ≤ 23) × (m ≤ 59) × (s ≤ 59)
 clock-range h m s e =
@@ -67,8 +67,8 @@ minus-most z {h} {m} k e = offset-most h m (subst (λ (x : Zone). is_zone (zone_
 -- the days before a date in range
 pub days-most : (y m d : ℕ) → InRange y m d → days_before y m d ≤ 3_652_089
 days-most y m d r =
-    let k = months_in_year y (m - 1) r.from-year (omega (arith, r.to_month)) in
-    omega (arith, days_of_years-most y r.to-year, r.to-day)
+    let k = months_in_year y (m - 1) r.from_year (omega (arith, r.to_month)) in
+    omega (arith, days_of_years-most y r.to_year, r.to_day)
 
 pub year-most : (y : ℕ) → year_length y ≤ 366
 year-most y = go (is_leap y)
@@ -78,14 +78,14 @@ year-most y = go (is_leap y)
     go false = omega arith
 
 -- units, by the parts written
-pub unit-is : (y : ℕ) (l f : List ℕ) → unit_length y l f ≡ unit_ticks y (get_or l 0 1) (length l) (length f)
+pub unit_is : (y : ℕ) (l f : List ℕ) → unit_length y l f ≡ unit_ticks y (get_or l 0 1) (length l) (length f)
 unfolding unit_length unit_ticks
-unit-is y [] f = refl
-unit-is y (m ∷ []) f = refl
-unit-is y (m ∷ d ∷ []) f = refl
-unit-is y (m ∷ d ∷ h ∷ []) f = refl
-unit-is y (m ∷ d ∷ h ∷ i ∷ []) f = refl
-unit-is y (m ∷ d ∷ h ∷ i ∷ s ∷ more) f = refl
+unit_is y [] f = refl
+unit_is y (m ∷ []) f = refl
+unit_is y (m ∷ d ∷ []) f = refl
+unit_is y (m ∷ d ∷ h ∷ []) f = refl
+unit_is y (m ∷ d ∷ h ∷ i ∷ []) f = refl
+unit_is y (m ∷ d ∷ h ∷ i ∷ s ∷ more) f = refl
 
 pub digit_most : (d : ℕ) → 10 ^ (4 - d) ≤ 10_000
 digit_most d = pow-le-pow_right {n = 10} (omega arith) {i = 4 - d} {j = 4} (omega arith)

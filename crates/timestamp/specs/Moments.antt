@@ -13,12 +13,12 @@ use Rattle.timestamp.specs.declared.Timestamp.TheVariants.{At, Refused}
 
 -- numbers small enough to be a date's
 pub record InRange (year month day : ℕ) : Type 0 where
-  pub from-year : 1 ≤ year
-  pub to-year : year ≤ 9999
+  pub from_year : 1 ≤ year
+  pub to_year : year ≤ 9999
   pub from_month : 1 ≤ month
   pub to_month : month ≤ 12
-  pub from-day : 1 ≤ day
-  pub to-day : day ≤ 31
+  pub from_day : 1 ≤ day
+  pub to_day : day ≤ 31
 
 -- a date of the calendar, in years 0001 to 9999
 abbrev pub is_date_of : (year month day : ℕ) → Bool

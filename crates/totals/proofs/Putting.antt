@@ -32,12 +32,12 @@ module _ (before : List ℕ) (t : Table) (room : 35 ≤ length before) where
 -- the first k rows are written, and the others are to come
 pub record SoFar (before : List ℕ) (t : Table) (out : List ℕ) (k : ℕ) : Type 0 where
   pub high : k ≤ t.held
-  pub same-room : length out ≡ length before
+  pub same_room : length out ≡ length before
   pub rest : placed (3 + 2 * k) (flat_map numbers_of (drop k (held_rows t))) out ≡ placed 3 (flat_map numbers_of (held_rows t)) before
 
 module _ (before : List ℕ) (t : Table) (room : 35 ≤ length before) where
   pub begin : SoFar before t before 0
-  begin = record { high = omega arith; same-room = refl; rest = refl }
+  begin = record { high = omega arith; same_room = refl; rest = refl }
 
   module _ (out : List ℕ) (k : ℕ) (long : length t.rows ≡ 16) (few : t.held ≤ 16) (s : SoFar before t out k) where
     pub more : k < t.held → SoFar before t (set (set out (3 + 2 * k) (get_or t.rows k blank).currency) (4 + 2 * k) (get_or t.rows k blank).total) (k + 1)
@@ -54,11 +54,11 @@ module _ (before : List ℕ) (t : Table) (room : 35 ≤ length before) where
         let j : 4 + 2 * k + 1 ≡ 3 + 2 * (k + 1) = omega arith in
         record {
           high = omega arith;
-          same-room = length-set x (4 + 2 * k) r.total ∙ l ∙ s.same-room;
+          same_room = length-set x (4 + 2 * k) r.total ∙ l ∙ s.same_room;
           rest = sym (sym s.rest ∙ ap (λ q. placed (3 + 2 * k) (flat_map numbers_of q) out) e
-              ∙ placed-cons (3 + 2 * k) r.currency (r.total ∷ rows) out (omega (arith, s.same-room))
+              ∙ placed-cons (3 + 2 * k) r.currency (r.total ∷ rows) out (omega (arith, s.same_room))
               ∙ ap (λ q. placed q (r.total ∷ rows) x) i
-              ∙ placed-cons (4 + 2 * k) r.total rows x (omega (arith, s.same-room, l))
+              ∙ placed-cons (4 + 2 * k) r.total rows x (omega (arith, s.same_room, l))
               ∙ ap (λ q. placed q rows (set x (4 + 2 * k) r.total)) j);
         }
 

@@ -41,11 +41,11 @@ overwrite-placed old new = let e : 0 + length new ≡ length new = omega arith i
 
 -- nothing is put
 pub put-none : (at : ℕ) (x : List ℕ) → at ≤ length x → Put at [] x at x
-put-none at x h = record { room = omega arith; next-is = omega arith; bytes_are = sym (placed-none at x) }
+put-none at x h = record { room = omega arith; next_is = omega arith; bytes_are = sym (placed-none at x) }
 
 -- after one piece, what is left to place
 pub put_rest : {at r : ℕ} {a x y : List ℕ} (b : List ℕ) → Put at a x r y → placed r b y ≡ placed at (a ++ b) x
-put_rest {at} {r} {a} {x} {y} b p = rw (p.bytes_are, p.next-is) (sym (placed-append at a b x p.room))
+put_rest {at} {r} {a} {x} {y} b p = rw (p.bytes_are, p.next_is) (sym (placed-append at a b x p.room))
 
 -- one piece and then another are put as one
 pub put_both : {at r q : ℕ} {a b x y z : List ℕ} → Put at a x r y → Put r b y q z → Put at (a ++ b) x q z
@@ -53,8 +53,8 @@ put_both {at} {r} {q} {a} {b} {x} {y} {z} p s =
     let n : length y ≡ length x = ap length p.bytes_are ∙ placed-length at a x p.room in
     let l = length-append a b in
     record {
-      room = omega (arith, p.next-is, s.room);
-      next-is = omega (arith, p.next-is, s.next-is);
+      room = omega (arith, p.next_is, s.room);
+      next_is = omega (arith, p.next_is, s.next_is);
       bytes_are = s.bytes_are ∙ put_rest b p;
     }
 

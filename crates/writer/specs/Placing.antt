@@ -8,5 +8,5 @@ placed at new old = take at old ++ new ++ drop (at + length new) old
 -- memory `after` is memory `before` with these bytes at a position; what is written next stands at `next`
 pub record Put (at : ℕ) (new before : List ℕ) (next : ℕ) (after : List ℕ) : Type 0 where
   pub room : at + length new ≤ length before
-  pub next-is : next ≡ at + length new
+  pub next_is : next ≡ at + length new
   pub bytes_are : after ≡ placed at new before

@@ -42,7 +42,7 @@ loop-k-preserved c =
       omega (arith, t),
       c.put_term-next.auto.out ∙ l.invariant.1,
       (writable_here c.args.list.now l.k c.term_count-n.result t l.invariant.2).1,
-      omega (arith, p.next-is, l.invariant.3, left_length c.args.list.now l.k c.term_count-n.result t),
+      omega (arith, p.next_is, l.invariant.3, left_length c.args.list.now l.k c.term_count-n.result t),
       put_rest _ p ∙ ap (λ s. placed l.next s l.out) (sym (left_more c.args.list.now l.k c.term_count-n.result t)) ∙ l.invariant.4,
     )
 
@@ -56,6 +56,6 @@ returns c =
     let none = left_none c.args.list.now l.k c.term_count-n.result (omega arith) in
     record {
       room = c.requires.fact_2;
-      next-is = omega (arith, l.invariant.3, ap length none, ap length all);
+      next_is = omega (arith, l.invariant.3, ap length none, ap length all);
       bytes_are = sym (placed-none l.next l.out) ∙ ap (λ s. placed l.next s l.out) (sym none) ∙ l.invariant.4 ∙ ap (λ s. placed c.args.at s c.args.out.now) all;
     }

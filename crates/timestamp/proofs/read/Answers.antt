@@ -1,5 +1,5 @@
 -- `timestamp::read` meets its contract, by a law for each way through it: of fourteen digits, and of any other text.
-use Rattle.timestamp.proofs.Answers.{found_form, found_fourteen, wrong-form, impossible, moment_is, possible}
+use Rattle.timestamp.proofs.Answers.{found_form, found_fourteen, wrong_form, impossible, moment_is, possible}
 use Rattle.timestamp.specs.Moments.{moment_of}
 use Rattle.rules.specs.Refusal.{answered}
 use borrow.Author.Tests.{not-true, not-false}
@@ -21,7 +21,7 @@ pub returns-in-Are : goal.returns-in-Are
 returns-in-Are c = ap (λ m. answered (moment_of m)) c.fourteen_moment.ensures ∙ moment_is _ _ (found_fourteen _ _ _ c.read.ensures c.in-Are.is) c.args.shift (possible _ _ (found_fourteen _ _ _ c.read.ensures c.in-Are.is) c.args.shift c.requires (sym c.is_date.ensures ∙ c.if-not-is_date.false) (sym c.is_clock.ensures ∙ c.if-not-is_clock.false) refl)
 
 pub returns-in_default-read_form : goal.returns-in_default-read_form
-returns-in_default-read_form c = wrong-form _ _ _ c.read_form.ensures c.in_default-read_form.is
+returns-in_default-read_form c = wrong_form _ _ _ c.read_form.ensures c.in_default-read_form.is
 
 pub returns-then-not-is_date-2 : goal.returns-then-not-is_date-2
 returns-then-not-is_date-2 c = impossible _ _ (found_form _ _ _ c.read_form.ensures c.in-Is.is) c.args.shift false _ _ (sym c.is_date-2.ensures ∙ c.if-not-is_date-2.true) refl refl refl

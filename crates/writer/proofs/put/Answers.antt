@@ -43,6 +43,6 @@ returns c =
     let l = c.loop-k in
     record {
       room = c.requires;
-      next-is = refl;
+      next_is = refl;
       bytes_are = sym (bytes-put a.at l.k a.piece.now l.out (omega arith)) ∙ l.invariant.2;
     }

@@ -13,6 +13,6 @@ bounds-out-at-2 c = rw length-set (omega arith)
 pub returns : goal.returns
 returns c = record { value = refl; put = record {
     room = omega (arith, digits_of-length_lem 2 c.args.n);
-    next-is = omega (arith, digits_of-length_lem 2 c.args.n);
+    next_is = omega (arith, digits_of-length_lem 2 c.args.n);
     bytes_are = pair_put c.args.at c.args.n c.args.out.now c.requires.fact_1 c.requires.fact_2;
   } }

@@ -1,7 +1,7 @@
 use mathlib.Core.Path.{sym, ◌∙◌}
 use Rattle.markup.proofs.Characters.{not_quote, simple_char}
 use Rattle.element.proofs.Decoded.{chars-end, chars-next, chars-on}
-use Rattle.element.specs.Texts.{no_char-on}
+use Rattle.element.specs.Texts.{no_char_on}
 use Rattle.text.proofs.Reading.{answer}
 use borrow.Author.Rules.{rules}
 use Rattle.element.proofs.value.next.Goals as goal
@@ -13,7 +13,7 @@ returns-then-is_simple c =
     record { on = chars-on g; tells = chars-next (not_quote c.args.s.now c.args.at c.if-at-s.true e) g }
 
 pub returns-in-At : goal.returns-in-At
-returns-in-At c = record { on = no_char-on; tells = chars-end (answer c.in-At.is c.read_byte-closing.ensures) }
+returns-in-At c = record { on = no_char_on; tells = chars-end (answer c.in-At.is c.read_byte-closing.ensures) }
 
 pub returns : goal.returns
 returns c = record { on = chars-on c.read_char.ensures; tells = chars-next (answer c.in_default.is c.read_byte-closing.ensures) c.read_char.ensures }

@@ -56,5 +56,5 @@ returns c =
     let l = c.loop-k in
     record {
       items_are = replace_end c.args.s g (omega (arith, c.requires.fact_1)) l.k (take l.n l.r.items) _ c.loop-k-test.false (l.invariant.4 ∙ replace_start c.args.s g (omega (arith, c.requires.fact_1)) c.args.p c.args.q c.args.v c.requires.fact_2.0 c.requires.fact_2.1 c.requires.fact_1);
-      count-is = omega (arith, l.invariant.1, l.invariant.2, c.loop-k-test.false);
+      count_is = omega (arith, l.invariant.1, l.invariant.2, c.loop-k-test.false);
     }

@@ -45,13 +45,13 @@ put-requires : tie.Need-put-requires invariant-loop decreases-loop
 put-requires c κs = search rules
 
 sub-put : tie.Need-overflow-sub-put invariant-loop decreases-loop
-sub-put c = omega (arith, (parts_found c.before.before.before.parts.given.1 c.before.before.before.before.before.read-attribute.ensures).name-low)
+sub-put c = omega (arith, (parts_found c.before.before.before.parts.given.1 c.before.before.before.before.before.read-attribute.ensures).name_low)
 
 part-put-start : tie.Need-slice-bounds-put-start invariant-loop decreases-loop
-part-put-start c = omega (arith, (parts_found c.before.before.before.parts.given.1 c.before.before.before.before.before.read-attribute.ensures).name-low)
+part-put-start c = omega (arith, (parts_found c.before.before.before.parts.given.1 c.before.before.before.before.before.read-attribute.ensures).name_low)
 
 part-put-end : tie.Need-slice-bounds-put-end invariant-loop decreases-loop
-part-put-end c = let a = parts_found c.before.before.before.parts.given.1 c.before.before.before.before.before.read-attribute.ensures in omega (arith, a.name-high, a.value_low, a.high)
+part-put-end c = let a = parts_found c.before.before.before.parts.given.1 c.before.before.before.before.before.read-attribute.ensures in omega (arith, a.name_high, a.value_low, a.high)
 
 put-requires-2 : tie.Need-put-requires-2 invariant-loop decreases-loop
 put-requires-2 c κs = search rules
@@ -68,7 +68,7 @@ write-value-requires c κs = let a = parts_found c.before.before.before.before.b
 loop-less : tie.Need-loop-smaller invariant-loop decreases-loop
 loop-less c =
     let a = parts_found c.before.before.before.before.before.before.before.before.parts.given.1 c.before.before.before.before.before.before.before.before.before.before.read-attribute.ensures in
-    omega (arith, (found c.before.before.before.before.before.before.before.before.before.before.before.before.gap.given.1 c.before.before.before.before.before.before.before.before.before.before.before.before.before.before.read-some-space.ensures).low, a.name-low, a.name-high, a.value_low, a.high)
+    omega (arith, (found c.before.before.before.before.before.before.before.before.before.before.before.before.gap.given.1 c.before.before.before.before.before.before.before.before.before.before.before.before.before.before.read-some-space.ensures).low, a.name_low, a.name_high, a.value_low, a.high)
 
 loop-again : tie.Need-loop-preserved invariant-loop decreases-loop
 loop-again c = (parts_found c.before.before.before.before.before.before.before.before.parts.given.1 c.before.before.before.before.before.before.before.before.before.before.read-attribute.ensures).high

@@ -25,12 +25,12 @@ returns-in_default-parts c =
     d.loop-i.invariant.1 _ (tells-stop _ (stops_attribute g (parts_none c.in_default-parts.is c.read_attribute-parts.ensures)))
 
 pub slice_bounds-is_same-start : goal.slice_bounds-is_same-start
-slice_bounds-is_same-start c = omega (arith, (parts_found c.in-Attribute.is c.read_attribute-parts.ensures).name-low)
+slice_bounds-is_same-start c = omega (arith, (parts_found c.in-Attribute.is c.read_attribute-parts.ensures).name_low)
 
 pub slice_bounds-is_same-end : goal.slice_bounds-is_same-end
 slice_bounds-is_same-end c =
     let a = parts_found c.in-Attribute.is c.read_attribute-parts.ensures in
-    omega (arith, a.name-high, a.value_low, a.high)
+    omega (arith, a.name_high, a.value_low, a.high)
 
 pub returns-then-is_same : goal.returns-then-is_same
 returns-then-is_same c =
@@ -45,7 +45,7 @@ loop-i-smaller c =
     let d = c in
     let g = found d.in-At.is d.read_some_space-gap.ensures in
     let a = parts_found d.in-Attribute.is d.read_attribute-parts.ensures in
-    omega (arith, g.low, a.name-low, a.name-high, a.value_low, a.high)
+    omega (arith, g.low, a.name_low, a.name_high, a.value_low, a.high)
 
 pub loop-i-preserved : goal.loop-i-preserved
 loop-i-preserved c =

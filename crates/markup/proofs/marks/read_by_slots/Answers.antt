@@ -27,12 +27,12 @@ returns-in_default-parts c =
     sure _ (begun-end d.loop-j.invariant.1 (stops_attribute g (parts_none c.in_default-parts.is c.read_attribute-parts.ensures)))
 
 pub slice_bounds-slot-start : goal.slice_bounds-slot-start
-slice_bounds-slot-start c = omega (arith, (parts_found c.in-Attribute.is c.read_attribute-parts.ensures).name-low)
+slice_bounds-slot-start c = omega (arith, (parts_found c.in-Attribute.is c.read_attribute-parts.ensures).name_low)
 
 pub slice_bounds-slot-end : goal.slice_bounds-slot-end
 slice_bounds-slot-end c =
     let a = parts_found c.in-Attribute.is c.read_attribute-parts.ensures in
-    omega (arith, a.name-high, a.value_low, a.high)
+    omega (arith, a.name_high, a.value_low, a.high)
 
 pub slot-k-requires : goal.slot-k-requires
 slot-k-requires c = name-some (parts_found c.in-Attribute.is c.read_attribute-parts.ensures)
@@ -45,7 +45,7 @@ loop-j-smaller c =
     let d = c in
     let g = found d.in-At.is d.read_some_space-gap.ensures in
     let a = parts_found d.in-Attribute.is d.read_attribute-parts.ensures in
-    omega (arith, g.low, a.name-low, a.name-high, a.value_low, a.high)
+    omega (arith, g.low, a.name_low, a.name_high, a.value_low, a.high)
 
 pub loop-j-preserved : goal.loop-j-preserved
 loop-j-preserved c =

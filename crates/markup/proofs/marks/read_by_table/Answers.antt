@@ -27,12 +27,12 @@ returns-in_default-parts c =
     sure _ (begun-end d.loop-j.invariant.1 (stops_attribute g (parts_none c.in_default-parts.is c.read_attribute-parts.ensures)))
 
 pub slice_bounds-mix-start : goal.slice_bounds-mix-start
-slice_bounds-mix-start c = omega (arith, (parts_found c.in-Attribute.is c.read_attribute-parts.ensures).name-low)
+slice_bounds-mix-start c = omega (arith, (parts_found c.in-Attribute.is c.read_attribute-parts.ensures).name_low)
 
 pub slice_bounds-mix-end : goal.slice_bounds-mix-end
 slice_bounds-mix-end c =
     let a = parts_found c.in-Attribute.is c.read_attribute-parts.ensures in
-    omega (arith, a.name-high, a.value_low, a.high)
+    omega (arith, a.name_high, a.value_low, a.high)
 
 pub bounds-table-k : goal.bounds-table-k
 bounds-table-k c = (spot_free (spot_is c.in-Free.is c.find_spot-spot.ensures)).0
@@ -40,13 +40,13 @@ bounds-table-k c = (spot_free (spot_is c.in-Free.is c.find_spot-spot.ensures)).0
 pub slice_bounds-is_before-start : goal.slice_bounds-is_before-start
 slice_bounds-is_before-start c =
     let d = c in
-    omega (arith, (parts_found d.in-Attribute.is d.read_attribute-parts.ensures).name-low)
+    omega (arith, (parts_found d.in-Attribute.is d.read_attribute-parts.ensures).name_low)
 
 pub slice_bounds-is_before-end : goal.slice_bounds-is_before-end
 slice_bounds-is_before-end c =
     let d = c in
     let a = parts_found d.in-Attribute.is d.read_attribute-parts.ensures in
-    omega (arith, a.name-high, a.value_low, a.high)
+    omega (arith, a.name_high, a.value_low, a.high)
 
 pub returns-then-is_before : goal.returns-then-is_before
 returns-then-is_before c =
@@ -64,7 +64,7 @@ loop-j-smaller-in-Free c =
     let d = c in
     let g = found d.in-At.is d.read_some_space-gap.ensures in
     let a = parts_found d.in-Attribute.is d.read_attribute-parts.ensures in
-    omega (arith, g.low, a.name-low, a.name-high, a.value_low, a.high)
+    omega (arith, g.low, a.name_low, a.name_high, a.value_low, a.high)
 
 pub loop-j-preserved-in-Free : goal.loop-j-preserved-in-Free
 loop-j-preserved-in-Free c =
@@ -85,7 +85,7 @@ loop-j-smaller c =
     let d = c in
     let g = found d.in-At.is d.read_some_space-gap.ensures in
     let a = parts_found d.in-Attribute.is d.read_attribute-parts.ensures in
-    omega (arith, g.low, a.name-low, a.name-high, a.value_low, a.high)
+    omega (arith, g.low, a.name_low, a.name_high, a.value_low, a.high)
 
 pub loop-j-preserved : goal.loop-j-preserved
 loop-j-preserved c =

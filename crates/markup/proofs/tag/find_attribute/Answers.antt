@@ -23,11 +23,11 @@ returns-in_default-parts c =
     c.loop-j.invariant.1 _ (find-end _ (stops_attribute (found c.in-At.is c.read_some_space-gap.ensures) (parts_none c.in_default-parts.is c.read_attribute-parts.ensures)))
 
 pub slice_bounds-is_same-start : goal.slice_bounds-is_same-start
-slice_bounds-is_same-start c = omega (arith, (parts_found c.in-Attribute.is c.read_attribute-parts.ensures).name-low)
+slice_bounds-is_same-start c = omega (arith, (parts_found c.in-Attribute.is c.read_attribute-parts.ensures).name_low)
 
 pub slice_bounds-is_same-end : goal.slice_bounds-is_same-end
 slice_bounds-is_same-end c =
-    omega (arith, (parts_found c.in-Attribute.is c.read_attribute-parts.ensures).name-high, (parts_found c.in-Attribute.is c.read_attribute-parts.ensures).value_low, (parts_found c.in-Attribute.is c.read_attribute-parts.ensures).high)
+    omega (arith, (parts_found c.in-Attribute.is c.read_attribute-parts.ensures).name_high, (parts_found c.in-Attribute.is c.read_attribute-parts.ensures).value_low, (parts_found c.in-Attribute.is c.read_attribute-parts.ensures).high)
 
 pub returns-then-is_same : goal.returns-then-is_same
 returns-then-is_same c =
@@ -35,7 +35,7 @@ returns-then-is_same c =
 
 pub loop-j-smaller : goal.loop-j-smaller
 loop-j-smaller c =
-    omega (arith, (found c.in-At.is c.read_some_space-gap.ensures).low, (parts_found c.in-Attribute.is c.read_attribute-parts.ensures).name-low, (parts_found c.in-Attribute.is c.read_attribute-parts.ensures).name-high, (parts_found c.in-Attribute.is c.read_attribute-parts.ensures).value_low, (parts_found c.in-Attribute.is c.read_attribute-parts.ensures).high)
+    omega (arith, (found c.in-At.is c.read_some_space-gap.ensures).low, (parts_found c.in-Attribute.is c.read_attribute-parts.ensures).name_low, (parts_found c.in-Attribute.is c.read_attribute-parts.ensures).name_high, (parts_found c.in-Attribute.is c.read_attribute-parts.ensures).value_low, (parts_found c.in-Attribute.is c.read_attribute-parts.ensures).high)
 
 pub loop-j-preserved : goal.loop-j-preserved
 loop-j-preserved c =

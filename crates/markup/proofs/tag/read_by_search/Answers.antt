@@ -29,12 +29,12 @@ returns-in_default-parts c =
     enough distinct_attributes (on _ (distinct-end l (stops_attribute g (parts_none c.in_default-parts.is c.read_attribute-parts.ensures))))
 
 pub slice_bounds-find_attribute-start : goal.slice_bounds-find_attribute-start
-slice_bounds-find_attribute-start c = omega (arith, (parts_found c.in-Attribute.is c.read_attribute-parts.ensures).name-low)
+slice_bounds-find_attribute-start c = omega (arith, (parts_found c.in-Attribute.is c.read_attribute-parts.ensures).name_low)
 
 pub slice_bounds-find_attribute-end : goal.slice_bounds-find_attribute-end
 slice_bounds-find_attribute-end c =
     let a = parts_found c.in-Attribute.is c.read_attribute-parts.ensures in
-    omega (arith, a.name-high, a.value_low, a.high)
+    omega (arith, a.name_high, a.value_low, a.high)
 
 pub find_attribute-again-requires : goal.find_attribute-again-requires
 find_attribute-again-requires c = (parts_found c.in-Attribute.is c.read_attribute-parts.ensures).high
@@ -65,7 +65,7 @@ loop-j-smaller c =
     let d = c in
     let g = found d.in-At.is d.read_some_space-gap.ensures in
     let a = parts_found d.in-Attribute.is d.read_attribute-parts.ensures in
-    omega (arith, g.low, a.name-low, a.name-high, a.value_low, a.high)
+    omega (arith, g.low, a.name_low, a.name_high, a.value_low, a.high)
 
 pub loop-j-preserved : goal.loop-j-preserved
 loop-j-preserved c =

@@ -1,6 +1,6 @@
 -- `markup::tag::read_tag` meets its contract.
 use Rattle.text.proofs.Reading.{answer, found}
-use Rattle.markup.specs.Tags.{empty-tag, open_tag, no_tag}
+use Rattle.markup.specs.Tags.{empty_tag, open_tag, no_tag}
 use Rattle.markup.proofs.Tags.{head_found, head-none, no_attributes, no_end}
 use borrow.Author.Rules.{rules}
 use Rattle.markup.proofs.tag.read_tag.Goals as goal
@@ -20,7 +20,7 @@ skip_space-j-requires c = (found c.in-At.is c.read_attributes-attributes.ensures
 
 pub returns-in-At-empty : goal.returns-in-At-empty
 returns-in-At-empty c =
-    empty-tag _ _ _ _ (record { begins = (head_found c.in-Named.is c.read_head-head.ensures); stop = _; attrs = (found c.in-At.is c.read_attributes-attributes.ensures); gap = c.skip_space-j.ensures }) (found c.in-At-empty.is c.read_literal-empty.ensures)
+    empty_tag _ _ _ _ (record { begins = (head_found c.in-Named.is c.read_head-head.ensures); stop = _; attrs = (found c.in-At.is c.read_attributes-attributes.ensures); gap = c.skip_space-j.ensures }) (found c.in-At-empty.is c.read_literal-empty.ensures)
 
 pub returns-in_default-greater : goal.returns-in_default-greater
 returns-in_default-greater c =

@@ -11,13 +11,13 @@ pub put-a-requires : goal.put-a-requires
 put-a-requires c = omega (arith, c.requires.fact_3, tag-length c.args.row.low_kind c.args.row.low_tick c.args.row.high_kind c.args.row.high_tick)
 
 pub put_flag-b-requires : goal.put_flag-b-requires
-put_flag-b-requires c = record { fact_1 = c.requires.fact_1; fact_2 = omega (arith, c.requires.fact_3, tag-length c.args.row.low_kind c.args.row.low_tick c.args.row.high_kind c.args.row.high_tick, c.put-a.ensures.next-is, c.put-a.auto.out) }
+put_flag-b-requires c = record { fact_1 = c.requires.fact_1; fact_2 = omega (arith, c.requires.fact_3, tag-length c.args.row.low_kind c.args.row.low_tick c.args.row.high_kind c.args.row.high_tick, c.put-a.ensures.next_is, c.put-a.auto.out) }
 
 pub put_flag-c-requires : goal.put_flag-c-requires
-put_flag-c-requires c = record { fact_1 = c.requires.fact_2; fact_2 = omega (arith, c.requires.fact_3, tag-length c.args.row.low_kind c.args.row.low_tick c.args.row.high_kind c.args.row.high_tick, c.put-a.ensures.next-is, c.put-a.auto.out, c.put_flag-b.ensures.next-is, c.put_flag-b.auto.out) }
+put_flag-c-requires c = record { fact_1 = c.requires.fact_2; fact_2 = omega (arith, c.requires.fact_3, tag-length c.args.row.low_kind c.args.row.low_tick c.args.row.high_kind c.args.row.high_tick, c.put-a.ensures.next_is, c.put-a.auto.out, c.put_flag-b.ensures.next_is, c.put_flag-b.auto.out) }
 
 pub put-requires : goal.put-requires
-put-requires c = omega (arith, c.requires.fact_3, tag-length c.args.row.low_kind c.args.row.low_tick c.args.row.high_kind c.args.row.high_tick, c.put-a.ensures.next-is, c.put-a.auto.out, c.put_flag-b.ensures.next-is, c.put_flag-b.auto.out, c.put_flag-c.ensures.next-is, c.put_flag-c.auto.out)
+put-requires c = omega (arith, c.requires.fact_3, tag-length c.args.row.low_kind c.args.row.low_tick c.args.row.high_kind c.args.row.high_tick, c.put-a.ensures.next_is, c.put-a.auto.out, c.put_flag-b.ensures.next_is, c.put_flag-b.auto.out, c.put_flag-c.ensures.next_is, c.put_flag-c.auto.out)
 
 pub returns : goal.returns
 unfolding tag_text

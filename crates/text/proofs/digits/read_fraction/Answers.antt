@@ -2,7 +2,7 @@
 use Prim.Native.Nat.{◌+◌, ◌-◌, ◌*◌, ◌^◌}
 use mathlib.Core.Path.{◌∙◌, ap}
 use native.Mathlib.Omega.{arith}
-use Rattle.text.proofs.Numerals.{none-at-end, no_byte, byte_at, no_point, no_digit, no_digit_counted, fraction-none, fraction-digits, decimal-first}
+use Rattle.text.proofs.Numerals.{none-at-end, no_byte, byte_at, no_point, no_digit, no_digit_counted, fraction-none, fraction_digits, decimal-first}
 use borrow.Author.Rules.{rules}
 use Rattle.text.proofs.digits.read_fraction.Goals as goal
 
@@ -23,5 +23,5 @@ ten_thousandths-requires c = record { fact_1 = omega (arith, c.if-n-eq0.false); 
 
 pub returns : goal.returns
 returns c =
-    fraction-digits c.args.s.now c.args.at c.count-n.result _ (byte_at 46 c.args.s.now c.args.at c.if-s-at.false c.if-s-at-ne46.false) c.count-n.ensures (omega (arith, c.if-n-eq0.false))
+    fraction_digits c.args.s.now c.args.at c.count-n.result _ (byte_at 46 c.args.s.now c.args.at c.if-s-at.false c.if-s-at-ne46.false) c.count-n.ensures (omega (arith, c.if-n-eq0.false))
     (c.ten_thousandths.ensures.0 ∙ ap (λ v. v * 10 ^ (4 - c.count-n.result)) c.value.ensures) c.ten_thousandths.ensures.1

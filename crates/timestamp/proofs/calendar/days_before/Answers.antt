@@ -5,7 +5,7 @@ use native.Mathlib.Omega.{arith}
 use Rattle.timestamp.proofs.calendar.days_before.Goals as goal
 
 pub march_year-requires : goal.march_year-requires
-march_year-requires c = c.requires.from-year
+march_year-requires c = c.requires.from_year
 
 pub overflow_add-march_year : goal.overflow_add-march_year
 overflow_add-march_year c = omega (arith, c.march_year.ensures, (march_range c.args.year c.args.month c.args.day c.requires).0)

@@ -22,7 +22,7 @@ pub offset_bounds-out-k : goal.offset_bounds-out-k
 offset_bounds-out-k c = omega (arith, c.loop-k-test.true, c.requires.fact_1)
 
 pub bounds-out-k : goal.bounds-out-k
-bounds-out-k c = omega (arith, c.loop-k-test.true, c.requires, c.loop-k.invariant.same-room)
+bounds-out-k c = omega (arith, c.loop-k-test.true, c.requires, c.loop-k.invariant.same_room)
 
 pub overflow_mul-out-in-loop-k : goal.overflow_mul-out-in-loop-k
 overflow_mul-out-in-loop-k c = omega (arith, c.loop-k-test.true, c.requires.fact_1)
@@ -34,7 +34,7 @@ pub offset_bounds-out-k-in-loop-k : goal.offset_bounds-out-k-in-loop-k
 offset_bounds-out-k-in-loop-k c = omega (arith, c.loop-k-test.true, c.requires.fact_1)
 
 pub bounds-out-k-in-loop-k : goal.bounds-out-k-in-loop-k
-bounds-out-k-in-loop-k c = rw length-set (omega (arith, c.loop-k-test.true, c.requires, c.loop-k.invariant.same-room))
+bounds-out-k-in-loop-k c = rw length-set (omega (arith, c.loop-k-test.true, c.requires, c.loop-k.invariant.same_room))
 
 pub overflow_add-k : goal.overflow_add-k
 overflow_add-k c = omega (arith, c.loop-k-test.true, c.requires.fact_1)
@@ -48,7 +48,7 @@ loop-k-preserved c =
     more c.args.out.now c.args.t c.requires.fact_2 c.loop-k.out c.loop-k.k g c.requires.fact_1 c.loop-k.invariant c.loop-k-test.true
 
 pub shape_of-out : goal.shape_of-out
-shape_of-out c = omega (arith, c.loop-k.invariant.same-room)
+shape_of-out c = omega (arith, c.loop-k.invariant.same_room)
 
 pub returns : goal.returns
 returns c =
