@@ -1,5 +1,6 @@
 // Loops over set operations, exported for bench/interval to time.
 #![tactic(auto)]
+
 ghost use Rattle.std.specs.Prelude.{◌≡◌, ◌+◌, ◌%◌, ◌<◌, ◌≤◌, length};
 ghost use Rattle.rules.specs.Sets.{meant};
 ghost use Rattle.interval.specs.Meaning.{op_of, Holds};

@@ -1,6 +1,7 @@
 // What the services do not show of the libraries below them: places and sets asked about, stretches at ticks that no timestamp has, the outline
 // of documents, and the membership of places in the set that a record writes. What is printed is held to the file `stdout`, which is written by hand.
 #![tactic(auto)]
+
 mod lists;
 mod membership;
 mod outline;

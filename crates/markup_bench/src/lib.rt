@@ -1,5 +1,6 @@
 // The first pass over a text, exported for bench/markup to time and for tests/markup to try.
 #![tactic(auto)]
+
 ghost use Rattle.std.specs.Prelude.{◌≡◌};
 ghost use Rattle.rules.specs.Basics.{is_some};
 ghost use Rattle.rules.specs.Markup.{document};

@@ -1,6 +1,7 @@
 // The services on a table, whose head says how it is written: for each heading a line with the count of its rows that gave what is due, after
 // each row that did not.
 #![tactic(auto)]
+
 ghost use Rattle.std.specs.Prelude.{◌≡◌, length};
 
 mod escapes;

@@ -1,0 +1,17 @@
+-- `interval_bench::interval_bench_joins` meets its contract. The loop's invariant: `count` is that of the last time, if there was one.
+use Prim.Native.Nat.{◌-◌, ◌≤◌}
+use mathlib.Core.Path.{◌≡◌, refl}
+use native.Mathlib.Omega.{arith}
+use native.Mathlib.Numerals.{add-one}
+use borrow.Author.Tests.{lt-ltb, le-ltb}
+use lib.ListN.{length}
+use Rattle.interval.proofs.Items.{length_mapped}
+use Rattle.interval_bench.specs.Counts.{joined_to, last_join}
+use Rattle.interval_bench.proofs.Joining.{count-meant}
+use Rattle.interval_bench.proofs.interval_bench_joins.Given as goal
+
+abbrev pub invariant-loop-k : goal.invariant-loop-k
+invariant-loop-k l = (l.k ≤ l.times) × (l.count ≡ last_join l.ticks l.k)
+
+abbrev pub decreases-loop-k : goal.decreases-loop-k
+decreases-loop-k l = l.times - l.k
