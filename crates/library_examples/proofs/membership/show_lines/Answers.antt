@@ -8,7 +8,7 @@ pub line_end-e-requires : goal.line_end-e-requires
 line_end-e-requires c = omega (arith, c.loop-i-test.true)
 
 pub overflow_add-i : goal.overflow_add-i
-overflow_add-i c = omega (arith, c.line_end-e.ensures.1, c.well-formed.0.0)
+overflow_add-i c = omega (arith, c.line_end-e.ensures.1)
 
 pub loop-i-smaller : goal.loop-i-smaller
 loop-i-smaller c = omega (arith, c.line_end-e.ensures.0, c.loop-i-test.true)

@@ -4,10 +4,10 @@ use borrow.Author.Tests.{not-false}
 use Rattle.library_examples.proofs.outline.+outline_outline_all.Given as goal
 
 abbrev pub decreases-outline_all : goal.decreases-outline_all
-decreases-outline_all l = MEASURE
+decreases-outline_all l = 2 * l.depth + 1
 
 abbrev pub decreases-outline : goal.decreases-outline
-decreases-outline l = MEASURE
+decreases-outline l = 2 * l.depth
 
 abbrev pub invariant-outline_all-loop-at : goal.invariant-outline_all-loop-at
 invariant-outline_all-loop-at l = l.i ≤ length l.s
