@@ -1,5 +1,5 @@
 -- Flags are compared where both sides are valued.
-use mathlib.Core.Path.{◌≡◌, refl, sym, ◌∙◌}
+use mathlib.Core.Path.{◌≡◌, refl}
 use mathlib.Core.Bool.{Bool, true, false, not, ◌&&◌, ◌||◌}
 use Rattle.rules.specs.Invariants.{Endpoint, valued, infinite, unknown}
 use Rattle.rules.specs.Comparison.{Answer, Yes, No, Unknown, answer, ◌also◌, compare_moments, compare_endpoints}

@@ -4,7 +4,7 @@ use mathlib.Core.Path.{◌≡◌, refl, sym, ◌∙◌, ap₂}
 use mathlib.Core.List.{List}
 use native.Mathlib.Omega.{arith}
 use lib.ListN.{length, drop}
-use Rattle.rules.specs.Markup.{Attribute, Nodes, end, node, Element}
+use Rattle.rules.specs.Markup.{Attribute, Nodes, node, Element}
 use Rattle.rules.specs.Comparison.{Answer, Yes, No, Unknown, ◌also◌, compare_parts, compare_all_parts}
 use Rattle.element.specs.Tags.{ElementTo, Tells, TagOf, TagIn}
 use Rattle.element.specs.declared.tag.Tag.{Tag}

@@ -7,7 +7,7 @@ use Rattle.rules.specs.TotalNumbers.{Lent}
 use Rattle.rules.specs.TotalDays.{Call, reading_of, History, beginning, ◌then◌, how_many, IsDay}
 use Rattle.rules.specs.Desks.{Owned, Shared, part_of}
 use Rattle.rules.specs.DeskNumbers.{shared_in}
-use Rattle.rules.specs.DeskDays.{Ask, start, add, report, DeskCall}
+use Rattle.rules.specs.DeskDays.{start, add, report, DeskCall}
 use Rattle.demands.specs.Services.{Services}
 use Rattle.demands.specs.Totals.{AreLetters, IsTotal, told, Limits}
 

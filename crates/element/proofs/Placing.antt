@@ -18,7 +18,7 @@ use Rattle.rules.proofs.Tests.{clash, passes, passed, same_true}
 use Rattle.text.specs.Reads.{Good}
 use Rattle.markup.proofs.Names.{name_is}
 use Rattle.element.specs.Names.{known, name_at, number_of, is_known}
-use Rattle.element.specs.Tags.{Place, nowhere, stands, Tells, count, is_namespace, is_other}
+use Rattle.element.specs.Tags.{Place, nowhere, stands, count, is_namespace, is_other}
 use Rattle.element.specs.Carried.{PastEquals, AttributesTo, CarriedIn, CarriedAs}
 use Rattle.element.specs.Plain.{StartAt}
 use Rattle.element.specs.declared.tag.Carried.{Carried}

@@ -4,16 +4,15 @@ use mathlib.Core.Path.{◌≡◌, refl, sym, ◌∙◌, ap, subst}
 use mathlib.Core.Bool.{Bool, true, false, not, ◌&&◌}
 use mathlib.Core.List.{List, [], ◌∷◌}
 use native.Mathlib.Omega.{arith}
-use borrow.Author.Tests.{ne_eqb, eqb-true}
+use borrow.Author.Tests.{ne_eqb}
 use lib.Dec.{eqb}
 use lib.ListN.{length, take, drop, get_or, length-drop}
 use Rattle.rules.specs.Basics.{bytes}
 use Rattle.rules.specs.Parsers.{Parsed, bad, ok, next, else, pure, ◌>>=◌, ◌>>◌, after, one, many, byte, literal}
-use Rattle.rules.specs.Markup.{Attribute, is_space, space, is_name_start, is_name_byte, name, tag_attributes, Nodes, end, node, Element, end_tag, body, element, content}
+use Rattle.rules.specs.Markup.{is_space, space, is_name_start, is_name_byte, name, Nodes, end, node, Element, end_tag, element, content}
 use Rattle.rules.proofs.Parsers.{next-ok, map-ok, cons_ok, one_ok, byte-ok}
 use Rattle.rules.proofs.Tests.{clash}
-use Rattle.text.specs.Reads.{Good, Reads, upto}
-use Rattle.text.specs.declared.Read.TheVariants.{At}
+use Rattle.text.specs.Reads.{Good}
 use Rattle.text.proofs.Reading.{good, here}
 use Rattle.markup.specs.Elements.{ReadsContent}
 use Rattle.element.specs.Tags.{ElementTo, closed, RowTo, Inner, empty, full, TagOf}

@@ -1,24 +1,22 @@
 -- A start tag put together: its head, what it carries, and how it closes.
 use Prim.Native.Nat.{ℕ, zero, suc, ◌+◌, ◌-◌, ◌≤◌, ◌<◌}
-use mathlib.Core.Path.{◌≡◌, refl, sym, ◌∙◌, ap, subst}
+use mathlib.Core.Path.{◌≡◌, refl, sym, ◌∙◌, subst}
 use mathlib.Core.Bool.{Bool, true, false}
-use mathlib.Core.List.{List, []}
+use mathlib.Core.List.{List}
 use mathlib.Core.Logic.{inl, inr}
 use native.Mathlib.Omega.{arith}
-use lib.ListN.{length, take, drop, get_or, length-drop}
+use lib.ListN.{length, drop, get_or}
 use Rattle.rules.specs.Basics.{bytes}
-use Rattle.rules.specs.Parsers.{Parser, Parsed, bad, ok, pure, guard, ◌>>=◌, ◌>>◌, one, byte, literal, sized}
+use Rattle.rules.specs.Parsers.{Parser, Parsed, bad, ok, pure, guard, ◌>>=◌, ◌>>◌, one, byte, literal}
 use Rattle.rules.specs.Markup.{Attribute, space, name, tag_attributes, attributes, is_distinct, Nodes, end, Element, end_tag, body, element, content}
 use Rattle.rules.proofs.Parsers.{next-ok, map-ok, else-ok, byte-ok}
 use Rattle.rules.proofs.Tests.{clash}
-use Rattle.text.specs.Reads.{Good, Reads, upto, none}
-use Rattle.text.specs.declared.Read.{Read}
-use Rattle.text.specs.declared.Read.TheVariants.{At, Bad}
+use Rattle.text.specs.Reads.{Good, Reads}
+use Rattle.text.specs.declared.Read.TheVariants.{Bad}
 use Rattle.text.proofs.Reading.{none_of}
 use Rattle.markup.specs.Tags.{HeadTo}
 use Rattle.markup.proofs.Names.{name_is}
-use Rattle.element.specs.Names.{known}
-use Rattle.element.specs.Tags.{ElementTo, RowTo, Tells, Inner, empty, full, TagOf, TagIn}
+use Rattle.element.specs.Tags.{ElementTo, Tells, Inner, empty, full, TagOf, TagIn}
 use Rattle.element.specs.Carried.{AttributesTo, CarriedIn, CarriedAs, PastLiteral, Closes, at_once, with_content, Closed}
 use Rattle.element.specs.declared.tag.Carried.{Carried}
 use Rattle.element.specs.declared.tag.Tag.{Tag}

@@ -2,7 +2,7 @@
 use Rattle.std.proofs.Common.{◌≡◌, ℕ, zero, suc, ◌+◌, ◌-◌, ◌*◌, ◌<◌, ◌≤◌, false, ◌||◌, List, [], ◌∷◌, ◌++◌, map, length, get_or, take, drop, set, sym, refl, ap, ◌∙◌, append_assoc, zero-le, add-one, arith, drop_of_length-le, length-take, length-take-le, drop-cons, get_or-take, take-suc}
 use lib.ListN.{length-map}
 use Rattle.rules.specs.Basics.{exists}
-use Rattle.rules.specs.Sets.{Place, at, holds, is_in}
+use Rattle.rules.specs.Sets.{Place, holds, is_in}
 use Rattle.interval.specs.declared.Bound.TheVariants.{Unbounded}
 use Rattle.interval.specs.declared.Interval.{Interval}
 use Rattle.interval.specs.declared.Stretches.{Stretches}

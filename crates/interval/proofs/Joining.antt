@@ -1,5 +1,5 @@
 -- One interval joined to stretches: the edges still rise, and the places are those of both.
-use Rattle.std.proofs.Common.{◌≡◌, ℕ, zero, suc, ◌+◌, ◌<◌, ◌≤◌, min, max, Bool, true, false, ◌&&◌, ◌||◌, ltb, leb, List, [], ◌∷◌, ◌++◌, map, length, get_or, take, drop, set, sym, refl, ap, ◌∙◌, ap₂, ⊎_elim, append_assoc, append-nil, zero-le, add-one, arith, drop_of_length-le, drop-cons, get_or-take, take-suc, take-take, take-suc-set, le-ltb, lt-ltb, le-leb}
+use Rattle.std.proofs.Common.{◌≡◌, ℕ, suc, ◌+◌, ◌<◌, ◌≤◌, min, max, Bool, true, false, ◌&&◌, ◌||◌, ltb, leb, List, [], ◌∷◌, ◌++◌, map, length, get_or, take, drop, set, sym, refl, ap, ◌∙◌, ap₂, ⊎_elim, append_assoc, append-nil, zero-le, add-one, arith, drop_of_length-le, drop-cons, get_or-take, take-suc, take-take, take-suc-set, le-ltb, lt-ltb, le-leb}
 use borrow.Author.Tests.{lt-leb}
 use Rattle.rules.specs.Basics.{exists}
 use Rattle.rules.specs.Sets.{Place, holds, is_in}

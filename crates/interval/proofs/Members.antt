@@ -1,5 +1,5 @@
 -- Whether a place is in an item of a set, and the set of one interval.
-use Rattle.std.proofs.Common.{◌≡◌, ℕ, ◌+◌, ◌^◌, ◌<◌, ◌≤◌, Bool, true, false, ◌&&◌, ltb, leb, [], ◌∷◌, map, length, get_or, take, drop, set, sym, refl, ap, ◌∙◌, ⊎_elim, zero-le, arith, take-suc-set, le-ltb, le-leb}
+use Rattle.std.proofs.Common.{◌≡◌, ℕ, ◌+◌, ◌^◌, ◌<◌, ◌≤◌, Bool, true, false, [], ◌∷◌, map, length, get_or, take, drop, set, sym, refl, ap, ◌∙◌, ⊎_elim, zero-le, arith, take-suc-set, le-ltb, le-leb}
 use mathlib.Core.Bool.{or-false}
 use borrow.Author.Tests.{lt-leb}
 use Rattle.rules.specs.Basics.{exists}

@@ -7,7 +7,7 @@ use mathlib.Core.Option.{Option, none, some}
 use native.Mathlib.Omega.{arith}
 use borrow.Author.Tests.{eqb-true, eqb-false, ltb-true, ltb-false, lt-ltb, le-ltb}
 use lib.Dec.{eqb, ltb}
-use Rattle.rules.specs.Basics.{is_some, if_some, same}
+use Rattle.rules.specs.Basics.{is_some, same}
 use Rattle.rules.specs.Refusal.{Refusal, earlier, first_of}
 use Rattle.rules.specs.Markup.{Attribute, lookup, is_distinct}
 use Rattle.rules.proofs.Precedence.{earlier_assoc, earlier_comm, earlier-none_right, first_of-append_lem}

@@ -1,17 +1,17 @@
 -- A document checked by its root's tag, and any bytes as a record.
 use Prim.Native.Nat.{ℕ, ◌≤◌, ◌<◌}
-use mathlib.Core.Path.{◌≡◌, refl, sym, ◌∙◌, ap}
-use mathlib.Core.Bool.{Bool, true, false}
-use mathlib.Core.List.{List, []}
-use mathlib.Core.Option.{Option, none, some}
+use mathlib.Core.Path.{◌≡◌, sym, ◌∙◌, ap}
+use mathlib.Core.Bool.{true, false}
+use mathlib.Core.List.{List}
+use mathlib.Core.Option.{none, some}
 use native.Mathlib.Omega.{arith}
 use borrow.Author.Tests.{lt-ltb}
 use lib.ListN.{length, get_or}
 use Rattle.rules.specs.Basics.{bytes, is_some}
-use Rattle.rules.specs.Refusal.{TOO_LONG, NOT_UTF_8, MARKUP, first_of}
+use Rattle.rules.specs.Refusal.{first_of}
 use Rattle.rules.specs.Markup.{Attribute, Element, lookup, document}
 use Rattle.rules.specs.Types.{all_types, type_among}
-use Rattle.rules.specs.Judge.{top, element_faults, top_faults}
+use Rattle.rules.specs.Judge.{top, element_faults}
 use Rattle.rules.specs.Utf8.{is_utf8}
 use Rattle.rules.proofs.Tests.{clash}
 use Rattle.refusal.specs.Meaning.{fault_of}

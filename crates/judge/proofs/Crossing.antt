@@ -1,9 +1,6 @@
 -- Bounds of an interval: whether they are crossed, which none are where one has no value; other kinds have none.
-use Prim.Native.Nat.{ℕ}
 use mathlib.Core.Path.{◌≡◌, refl}
 use mathlib.Core.Bool.{Bool, true, false}
-use mathlib.Core.List.{List, [], ◌∷◌}
-use denote.Enum.Declared.{tag_of}
 use lib.Dec.{leb, ltb}
 use Rattle.rules.specs.Timestamp.{Moment}
 use Rattle.rules.specs.Invariants.{high, is_pushed, Endpoint, valued, is_crossed}
@@ -18,8 +15,6 @@ use Rattle.datatype.specs.declared.said.Said.{Said}
 use Rattle.datatype.specs.declared.said.Said.TheVariants.{Valued, Below, Above, Nothing}
 use Rattle.datatype.specs.declared.kind.Kind.{Kind}
 use Rattle.datatype.specs.declared.kind.Kind.TheVariants.{Ts, IvlTs, QsuTs, QsiTs, QsdTs, Mo, Ii, Cd, En, DisplayName, Part}
-use Rattle.datatype.specs.contracts.kind.Kind as kind
-use Rattle.datatype.specs.contracts.said.Said as said
 
 -- no value is said
 abbrev Unvalued : Said → Type 0

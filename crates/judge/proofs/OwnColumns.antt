@@ -6,7 +6,7 @@ use mathlib.Core.List.{List}
 use mathlib.Core.Option.{Option}
 use native.Mathlib.Omega.{arith}
 use lib.Dec.{eqb}
-use Rattle.rules.specs.Basics.{is_some, bytes, same, exists}
+use Rattle.rules.specs.Basics.{is_some, same, exists}
 use Rattle.rules.specs.Markup.{Attribute, lookup}
 use Rattle.rules.specs.Forms.{Form}
 use Rattle.rules.specs.Types.{Kind, TS, IVL_TS, QSU_TS, QSI_TS, QSD_TS, MO, II, CD, EN, DisplayName, Part, line_of}

@@ -1,8 +1,7 @@
 -- Of all kinds only a displayName has an attribute that has to be there.
 use mathlib.Core.Path.{◌≡◌, refl}
 use mathlib.Core.Bool.{false}
-use mathlib.Core.List.{List, [], ◌∷◌}
-use denote.Enum.Declared.{tag_of}
+use mathlib.Core.List.{List}
 use Rattle.rules.specs.Basics.{exists}
 use Rattle.rules.specs.Markup.{Attribute}
 use Rattle.rules.specs.Types.{line_of}
@@ -10,7 +9,6 @@ use Rattle.rules.specs.Judge.{lacks}
 use Rattle.datatype.specs.declared.kind.Kind.{Kind}
 use Rattle.datatype.specs.declared.kind.Kind.TheVariants.{Ts, IvlTs, QsuTs, QsiTs, QsdTs, Mo, Ii, Cd, En, DisplayName, Part}
 use Rattle.datatype.specs.Meaning.{kind_meant}
-use Rattle.datatype.specs.contracts.kind.Kind as kind
 
 pub none-required : (l : List Attribute) (k : Kind) → (k ≡ DisplayName → ⊥)
     → false ≡ exists (lacks l) (line_of (kind_meant k)).columns

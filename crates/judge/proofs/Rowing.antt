@@ -1,20 +1,18 @@
 -- A row of children judged, put together child by child.
 use Prim.Native.Nat.{ℕ}
-use mathlib.Core.Path.{◌≡◌, refl, sym, ◌∙◌, ap, subst}
-use mathlib.Core.Bool.{Bool, true, false, not, ◌&&◌, ◌||◌, cond}
-use mathlib.Core.List.{List, [], ◌∷◌, ◌++◌}
-use mathlib.Core.Logic.{◌⊎◌, inl, inr}
-use mathlib.Core.Option.{Option, none, some}
+use mathlib.Core.Path.{◌≡◌, refl, sym, ◌∙◌, ap}
+use mathlib.Core.Bool.{Bool, true, false, not, ◌&&◌, ◌||◌}
+use mathlib.Core.List.{[], ◌∷◌}
+use mathlib.Core.Option.{Option, some}
 use borrow.Author.Tests.{eq-eqb, ne_eqb}
-use lib.Dec.{eqb, ltb}
-use Rattle.rules.specs.Basics.{if_some, bytes, same}
+use lib.Dec.{ltb}
+use Rattle.rules.specs.Basics.{if_some}
 use Rattle.rules.specs.Refusal.{Refusal, SHAPE, RULE, earlier, rank_in, first_of, ◌when◌}
-use Rattle.rules.specs.Markup.{Attribute, Nodes, end, node, Element}
-use Rattle.rules.specs.Invariants.{has_children, child_named}
-use Rattle.rules.specs.Types.{Kind, TS, IVL_TS, line_of}
+use Rattle.rules.specs.Markup.{Nodes, end, node, Element}
+use Rattle.rules.specs.Invariants.{has_children}
+use Rattle.rules.specs.Types.{Kind, line_of}
 use Rattle.rules.specs.Judge.{child_faults}
-use Rattle.rules.proofs.Precedence.{first_of-append_lem, earlier_assoc, earlier_comm}
-use Rattle.rules.proofs.Tests.{clash, same_true, same_sym}
+use Rattle.rules.proofs.Precedence.{earlier_assoc, earlier_comm}
 use Rattle.refusal.specs.Meaning.{fault_of}
 use Rattle.datatype.specs.Meaning.{kind_meant}
 use Rattle.datatype.specs.Tables.{standing_meant, step_among}

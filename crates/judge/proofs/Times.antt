@@ -1,14 +1,12 @@
 -- An element that is no time says nothing as a bound.
 use Prim.Native.Nat.{ℕ}
 use mathlib.Core.Path.{◌≡◌, refl}
-use mathlib.Core.List.{List, [], ◌∷◌}
-use denote.Enum.Declared.{tag_of}
+use mathlib.Core.List.{List}
 use Rattle.rules.specs.Markup.{Attribute}
 use Rattle.rules.specs.Types.{TS}
 use Rattle.rules.proofs.Tests.{clash}
-use Rattle.datatype.specs.contracts.kind.Kind as kind
 use Rattle.datatype.specs.Meaning.{kind_meant}
-use Rattle.datatype.specs.Said.{Said, nothing}
+use Rattle.datatype.specs.Said.{nothing}
 use Rattle.datatype.specs.declared.kind.Kind.{Kind}
 use Rattle.datatype.specs.declared.kind.Kind.TheVariants.{Ts, IvlTs, QsuTs, QsiTs, QsdTs, Mo, Ii, Cd, En, DisplayName, Part}
 use Rattle.judge.specs.Rows.{said_of}

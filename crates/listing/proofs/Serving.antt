@@ -11,7 +11,7 @@ use Rattle.rules.specs.Judge.{top_faults}
 use Rattle.rules.specs.Check.{shift_by, check}
 use Rattle.rules.specs.Sets.{Interval}
 use Rattle.rules.specs.Listing.{list_element}
-use Rattle.rules.specs.Services.{packed, listing, room_of, list_answer, list_after}
+use Rattle.rules.specs.Services.{packed, room_of, list_answer, list_after}
 use Rattle.rules.specs.ListingPromise.{is_listed}
 use Rattle.rules.proofs.Tests.{clash}
 use Rattle.rules.proofs.ListingCases.{check_faultless, listing-listed}

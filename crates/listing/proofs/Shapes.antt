@@ -4,7 +4,6 @@ use mathlib.Core.Path.{◌≡◌, refl, sym, ap, ◌∙◌, subst}
 use mathlib.Core.Bool.{Bool, true, false, cond}
 use mathlib.Core.List.{List, [], ◌∷◌}
 use mathlib.Core.Option.{Option, none, some}
-use denote.Enum.Declared.{tag_of}
 use Rattle.rules.specs.Basics.{is_some, bytes, same, find}
 use Rattle.rules.specs.Markup.{Attribute, Element, lookup}
 use Rattle.rules.specs.Types.{Kind as RulesKind, TS, IVL_TS, QSU_TS, QSI_TS, QSD_TS, MO, II, CD, EN, DisplayName as Display, Part as NamePart, name_of, member_types, all_types, has_type, type_among}
@@ -20,7 +19,6 @@ use Rattle.datatype.specs.declared.record.Record.{Record}
 use Rattle.datatype.specs.Meaning.{kind_meant, type_meant, named_among}
 use Rattle.datatype.specs.Records.{RecordOf}
 use Rattle.datatype.proofs.Naming.{type-none, type-some}
-use Rattle.datatype.specs.contracts.kind.Kind as kind
 use Rattle.listing.specs.declared.set.Shape.{Shape}
 use Rattle.listing.specs.declared.set.Shape.TheVariants.{Single, Members, Other}
 use Rattle.listing.specs.Sets.{shape_of, WritesAs}

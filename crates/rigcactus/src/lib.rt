@@ -286,12 +286,7 @@ pub fn rigcactus_totals_start(table: &mut [u64; 103], desk: u64) -> u64
 // Adds a desk's record to its totals. Bits 0 to 7 of the answer are the refusal's number, 0 if the record is accepted; bits 8 to 15 are 1 if it
 // was added, 2 if it is null. With no such desk, a damaged table, or a desk whose day is full, the table stays as it was; else the record is
 // counted, a refused one too.
-pub fn rigcactus_totals_add(
-    table: &mut [u64; 103],
-    desk: u64,
-    record: &[u8],
-    offset: i64,
-) -> u64
+pub fn rigcactus_totals_add(table: &mut [u64; 103], desk: u64, record: &[u8], offset: i64) -> u64
     ensures value { result ≡ services.add_says desk offset «record».now table.old }
     ensures table_after { table.new ≡ services.add_leaves desk offset «record».now table.old }
 {
@@ -313,11 +308,7 @@ pub fn rigcactus_totals_add(
 
 // Reports a desk's totals. Bits 0 to 7 of the answer are the refusal's number, 0 if there is such a desk and the table is not damaged; the other
 // bits are how many rows it holds. The report then begins with the counts of records added, null and refused, and currency and total of each row.
-pub fn rigcactus_totals_report(
-    table: &[u64; 103],
-    desk: u64,
-    report: &mut [u64; 35],
-) -> u64
+pub fn rigcactus_totals_report(table: &[u64; 103], desk: u64, report: &mut [u64; 35]) -> u64
     ensures value { result ≡ services.report_says desk table.now }
     ensures report_after { report.new ≡ services.report_leaves desk table.now report.old }
 {

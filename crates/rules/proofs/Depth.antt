@@ -12,7 +12,7 @@ use lib.ListN.{length}
 use lib.IntN.{ℤ}
 use Rattle.rules.specs.Basics.{bytes}
 use Rattle.rules.specs.Refusal.{MARKUP, first_of, answered, refused}
-use Rattle.rules.specs.Parsers.{Parsed, bad, ok, Parser, next, else, pure, ◌>>=◌, ◌>>◌, ◌or◌, one, byte, literal, finish, sized, whole}
+use Rattle.rules.specs.Parsers.{Parsed, bad, ok, Parser, next, else, pure, ◌>>=◌, ◌>>◌, one, byte, literal, finish, sized, whole}
 use Rattle.rules.specs.Markup.{space, name, tag_attributes, Nodes, end, node, Element, end_tag, body, element, content, document}
 use Rattle.rules.specs.Utf8.{is_utf8}
 use Rattle.rules.specs.Check.{is_offset, is_too_long, record_faults, check}

@@ -9,7 +9,6 @@ use borrow.Author.Tests.{ltb-true, lt-ltb, not-false, eqb-true}
 use lib.Dec.{eqb}
 use lib.ListN.{length, drop, get_or, length-append, length-drop}
 use Rattle.rules.specs.Basics.{exists, every}
-use Rattle.rules.specs.Refusal.{refused}
 use Rattle.rules.specs.Forms.{is_currency}
 use Rattle.rules.specs.Services.{overwrite}
 use Rattle.rules.specs.Totals.{Row, Counts, counted, is_in_range}

@@ -1,5 +1,5 @@
 -- One table for two desks: what replacing a desk's part does to the parts, and that each desk's part is its own day, however the calls are mixed.
-use Prim.Native.Nat.{ℕ, ◌+◌}
+use Prim.Native.Nat.{ℕ}
 use mathlib.Core.Path.{◌≡◌, refl, sym, ◌∙◌, ap}
 use mathlib.Core.Logic.{◌⊎◌, inl, inr, ◌↔◌}
 use mathlib.Core.Bool.{Bool, true, false, not, ◌||◌, cond}

@@ -15,7 +15,7 @@ use lib.IntN.{ℤ, pos, negsuc}
 use lib.Pow.{pow-add}
 use Rattle.rules.specs.Basics.{if_some, every, is_digit, decimal_from, decimal}
 use Rattle.rules.specs.Refusal.{Refusal, VALUE, DATE, CLOCK, ZONE, rank_in, first_of, answered, refused, ◌unless◌, ◌when◌}
-use Rattle.rules.specs.Parsers.{ok, next, else, guard, ◌or◌, one, up_to, byte, whole}
+use Rattle.rules.specs.Parsers.{ok, next, else, guard, one, up_to, byte, whole}
 use Rattle.rules.specs.Calendar.{month_length, days_of_years, days_of_months, days_before_year, second, minute, day}
 use Rattle.rules.specs.Timestamp.{Zone, no_zone, plus, minus, Written, digits, two_digits, point, zone, timestamp, month_of, day_of, hour_of, minute_of, second_of, ten_thousandths, is_date, is_clock, is_zone, written_faults, shift_of, start_of, unit_length, Moment, moment_of, is_coarse, read_timestamp}
 use Rattle.rules.specs.Check.{is_offset, shift_by}

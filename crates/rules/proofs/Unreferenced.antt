@@ -13,7 +13,7 @@ use lib.IntN.{neg_ℤ}
 use lib.ListN.{length}
 use Rattle.rules.specs.Basics.{exists, every, same, onto, split, words, bytes, one_of, is_from, is_digit, decimal}
 use Rattle.rules.specs.Refusal.{VALUE, refused}
-use Rattle.rules.specs.Parsers.{ok, Parser, pure, guard, ◌>>=◌, ◌>>◌, ◌or◌, one, times, up_to, byte, whole}
+use Rattle.rules.specs.Parsers.{ok, Parser, pure, guard, ◌>>=◌, ◌or◌, one, times, up_to, byte, whole}
 use Rattle.rules.specs.Timestamp.{Zone, no_zone, digits, two_digits, point, hours, zone, timestamp, plus, minus, read_timestamp}
 use Rattle.rules.specs.Forms.{amount_text, is_currency, is_plain_number, is_oid, is_root, is_qualifiers}
 use Rattle.rules.proofs.Tests.{clash, both_true, is_from-true_lem, every_true}

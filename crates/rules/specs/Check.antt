@@ -1,6 +1,5 @@
 -- 01-scope.md, "The refusal ladder": checking a record.
 use Rattle.std.specs.Prelude.{ℕ, suc, ◌+◌, ◌-◌, Bool, not, List, ◌++◌, leb, ltb, length, ℤ, pos, negsuc}
-use Rattle.std.proofs.Math.Option.{Option}
 use Rattle.rules.specs.Basics.{if_some}
 use Rattle.rules.specs.Refusal.{Refusal, OFFSET, TOO_LONG, NOT_UTF_8, MARKUP, Outcome, answered, refused, faults_in, ◌unless◌, ◌when◌}
 use Rattle.rules.specs.Markup.{Element, document}

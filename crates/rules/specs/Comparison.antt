@@ -1,6 +1,5 @@
 -- 01-scope.md, "Yes, no, unknown".
 use Rattle.std.specs.Prelude.{ℕ, Bool, true, false, ◌&&◌, ◌||◌, cond, List, ltb, eqb, ℤ}
-use Prim.Native.String.{String}
 use Rattle.std.proofs.Math.Option.{Option, none, some}
 use Rattle.std.specs.Int.Signed.{le_z}
 use Rattle.rules.specs.Basics.{if_some, bytes, same}

@@ -1,9 +1,8 @@
 -- 01-scope.md, "Types, after decoding the five references": the forms of texts.
-use Rattle.std.specs.Prelude.{ℕ, zero, suc, ◌+◌, ◌*◌, Bool, true, false, not, ◌&&◌, ◌||◌, List, [], ◌∷◌, ◌++◌, leb, eqb, length, ℤ, pos, neg_ℤ}
-use Rattle.std.proofs.Math.Option.{Option}
+use Rattle.std.specs.Prelude.{ℕ, ◌+◌, ◌*◌, Bool, false, not, ◌&&◌, ◌||◌, List, [], ◌∷◌, leb, eqb, length, ℤ, pos, neg_ℤ}
 use Rattle.rules.specs.Basics.{is_some, is_empty, every, split, words, one_of, is_from, is_digit, decimal}
 use Rattle.rules.specs.Refusal.{Refusal, VALUE, faults_of, ◌when◌}
-use Rattle.rules.specs.Parsers.{Parsed, Parser, next, else, pure, ◌>>=◌, ◌>>◌, ◌or◌, one, times, up_to, byte, finish, whole, result}
+use Rattle.rules.specs.Parsers.{Parser, pure, ◌>>=◌, ◌>>◌, ◌or◌, one, up_to, byte, whole}
 use Rattle.rules.specs.Timestamp.{read_timestamp, point, ten_thousandths}
 
 pub data Form : Type 0 where

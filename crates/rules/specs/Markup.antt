@@ -1,8 +1,8 @@
 -- 01-scope.md, "Markup".
-use Rattle.std.specs.Prelude.{ℕ, zero, suc, Bool, true, false, not, ◌&&◌, ◌||◌, cond, List, [], ◌∷◌, leb, eqb}
+use Rattle.std.specs.Prelude.{ℕ, zero, suc, Bool, true, not, ◌&&◌, ◌||◌, cond, List, [], ◌∷◌, leb, eqb}
 use Rattle.std.proofs.Math.Option.{Option, none, some}
 use Rattle.rules.specs.Basics.{is_some, bytes, same, is_from, is_digit}
-use Rattle.rules.specs.Parsers.{Parsed, Parser, next, else, pure, guard, fail, ◌>>=◌, ◌>>◌, ◌or◌, without, one, many, byte, literal, finish, sized, whole}
+use Rattle.rules.specs.Parsers.{Parser, pure, guard, fail, ◌>>=◌, ◌>>◌, ◌or◌, without, one, many, byte, literal, sized, whole}
 
 -- space, tab, CR and LF
 abbrev pub is_space : ℕ → Bool

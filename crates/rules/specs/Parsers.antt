@@ -1,5 +1,5 @@
 -- The words in which grammars are written. A parser goes from a list of bytes to what it reads and what is left, or fails.
-use Rattle.std.specs.Prelude.{ℕ, zero, suc, Bool, true, false, cond, List, [], ◌∷◌, eqb, length}
+use Rattle.std.specs.Prelude.{ℕ, zero, suc, Bool, cond, List, [], ◌∷◌, eqb, length}
 use Rattle.std.proofs.Math.Option.{Option, none, some}
 
 pub data Parsed (A : Type 0) : Type 0 where

@@ -1,8 +1,7 @@
 -- 01-scope.md, "What the box reads" and the last sentences of "The refusal ladder": the five services, and their answers as they
 -- travel to C.
-use Rattle.std.specs.Prelude.{ℕ, zero, suc, ◌+◌, ◌-◌, ◌*◌, ◌/◌, ◌%◌, ◌^◌, Bool, not, length, drop, ℤ, pos, negsuc}
+use Rattle.std.specs.Prelude.{ℕ, zero, suc, ◌+◌, ◌-◌, ◌*◌, ◌/◌, ◌%◌, ◌^◌, not, length, drop, ℤ, pos, negsuc}
 use mathlib.Core.List.{List, [], ◌∷◌, ◌++◌, flat_map}
-use Rattle.std.proofs.Math.Option.{Option}
 use Rattle.rules.specs.Basics.{if_some}
 use Rattle.rules.specs.Refusal.{Refusal, OFFSET, TOO_LONG, NOT_UTF_8, TYPE, number, Outcome, answered, refused, faults_in, ◌unless◌, ◌when◌, ◌and_then◌}
 use Rattle.rules.specs.Utf8.{is_utf8, cut_length}

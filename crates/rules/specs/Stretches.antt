@@ -1,6 +1,6 @@
 -- 01-scope.md, "Sets of times": the stretches of a set, found by asking of each place where it may change whether it is meant.
 -- `Sets.AreStretches` says what they are; the law `stretches_are` says that these are they.
-use Rattle.std.specs.Prelude.{Bool, cond, ℤ, pos}
+use Rattle.std.specs.Prelude.{Bool, cond, pos}
 use mathlib.Core.List.{List, [], ◌∷◌, ◌++◌, flat_map}
 use Rattle.std.proofs.Math.Option.{Option, none, some}
 use Rattle.std.proofs.Math.IntN.{suc_ℤ}

@@ -1,10 +1,9 @@
 -- 01-scope.md, "Ticks", and requests A4 and A5: timestamps, their ticks, precisions and spans.
-use Rattle.std.specs.Prelude.{ℕ, zero, suc, ◌+◌, ◌-◌, ◌*◌, ◌^◌, Bool, true, false, not, ◌&&◌, ◌||◌, List, [], ◌∷◌, ◌++◌, leb, ltb, length, get_or, ℤ}
-use Rattle.std.proofs.Math.Option.{Option}
+use Rattle.std.specs.Prelude.{ℕ, zero, suc, ◌+◌, ◌-◌, ◌*◌, ◌^◌, Bool, true, not, ◌&&◌, List, [], ◌∷◌, ◌++◌, leb, ltb, length, get_or, ℤ}
 use Rattle.std.proofs.Math.IntN.{sub_ℕ}
 use Rattle.rules.specs.Basics.{if_some, is_from, is_digit, decimal}
 use Rattle.rules.specs.Refusal.{Refusal, VALUE, DATE, CLOCK, ZONE, Outcome, answered, refused, ◌unless◌, ◌when◌}
-use Rattle.rules.specs.Parsers.{Parsed, Parser, next, else, result, pure, guard, ◌>>=◌, ◌>>◌, ◌or◌, one, times, up_to, byte, finish, whole}
+use Rattle.rules.specs.Parsers.{Parser, pure, guard, ◌>>=◌, ◌>>◌, ◌or◌, one, times, up_to, byte, whole}
 use Rattle.rules.specs.Calendar.{year_length, month_length, days_before, second, minute, hour, day}
 
 -- an offset as written: none, or a sign with hours and minutes

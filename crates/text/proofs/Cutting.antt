@@ -1,15 +1,14 @@
 -- Where a text may be cut: before the bytes that lead a character.
-use Prim.Native.Nat.{ℕ, zero, suc, ◌-◌, ◌≤◌, ◌<◌, min}
+use Prim.Native.Nat.{ℕ, zero, suc, ◌-◌, ◌<◌}
 use mathlib.Core.Path.{◌≡◌, refl, sym, ◌∙◌, ap}
 use mathlib.Core.Bool.{Bool, true, false, not, ◌&&◌, ◌||◌, cond, false≢true}
 use mathlib.Core.List.{List, [], ◌∷◌}
 use mathlib.Core.Option.{Option, none, some, none-ne-some}
 use lib.Dec.{leb, ltb}
 use lib.ListN.{length, get_or, take}
-use lib.Seq.{take-length}
 use native.Mathlib.Omega.{arith}
 use borrow.Author.Tests.{leb-true, ltb-true}
-use Rattle.rules.specs.Basics.{if_some, every, find, is_from}
+use Rattle.rules.specs.Basics.{if_some, every, find}
 use Rattle.rules.specs.Utf8.{Range, in_range, Lead, tail, leads, lead_of, follows, is_utf8, longest, cut_length}
 use Rattle.rules.proofs.Tests.{both_true, is_from-true_lem}
 use Rattle.text.proofs.Leads.{inside, below, above}

@@ -1,5 +1,5 @@
 -- Whole characters one after another: what stands at a position decides whether the rest is UTF-8.
-use Prim.Native.Nat.{ℕ, zero, suc, ◌+◌, ◌-◌, ◌≤◌, ◌<◌}
+use Prim.Native.Nat.{ℕ, suc, ◌+◌, ◌≤◌, ◌<◌}
 use mathlib.Core.Path.{◌≡◌, refl, sym, ◌∙◌, ap}
 use mathlib.Core.Bool.{Bool, true, false, ◌&&◌, cond, and-true, and_assoc, false≢true}
 use mathlib.Core.List.{List, [], ◌∷◌, ◌++◌}
@@ -11,7 +11,7 @@ use native.Mathlib.Nat.{add_assoc}
 use native.Mathlib.Numerals.{add-one}
 use native.Mathlib.Omega.{arith}
 use borrow.Author.Tests.{lt-ltb, ltb-true}
-use Rattle.rules.specs.Basics.{if_some, every, find, is_from}
+use Rattle.rules.specs.Basics.{if_some, every}
 use Rattle.rules.specs.Utf8.{Range, in_range, Lead, lead_of, follows, is_utf8}
 use Rattle.text.specs.Characters.{followers, fill, char_length, is_ascii, Skips}
 use Rattle.text.proofs.Leads.{leads_alone}

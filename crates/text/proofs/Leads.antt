@@ -9,7 +9,7 @@ use lib.ListN.{drop}
 use native.Mathlib.Omega.{arith}
 use borrow.Author.Tests.{le-leb, lt-leb, leb-true, leb-false}
 use Rattle.rules.specs.Basics.{if_some, is_from, find}
-use Rattle.rules.specs.Utf8.{Range, ◌to◌, in_range, Lead, tail, leads, lead_of}
+use Rattle.rules.specs.Utf8.{Range, in_range, Lead, tail, leads, lead_of}
 use Rattle.text.specs.Characters.{followers}
 
 pub inside : (low high c : ℕ) → low ≤ c → c ≤ high → is_from low high c ≡ true

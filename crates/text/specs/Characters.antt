@@ -2,7 +2,7 @@
 use Rattle.std.specs.Prelude.{ℕ, suc, ◌≤◌, ◌≡◌, Bool, true, false, ◌&&◌, cond, List, [], ◌∷◌, ltb, length, drop}
 use Rattle.std.proofs.Math.Option.{Option, none, some}
 use Rattle.rules.specs.Basics.{if_some}
-use Rattle.rules.specs.Utf8.{Range, ◌to◌, in_range, Lead as LeadLine, tail, lead_of, is_utf8}
+use Rattle.rules.specs.Utf8.{Range, ◌to◌, in_range, tail, lead_of, is_utf8}
 use Rattle.text.specs.declared.Lead.{Lead}
 use Rattle.text.specs.declared.Lead.TheVariants.{Alone, Two, Three, Four, Nothing}
 

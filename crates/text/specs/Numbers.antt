@@ -1,7 +1,7 @@
 -- Digits at a position of a text, in the words of the rules.
 use Rattle.std.specs.Prelude.{ℕ, ◌+◌, ◌^◌, ◌≤◌, ◌<◌, ◌≡◌, true, List, [], length, take, drop}
 use Rattle.rules.specs.Basics.{every, is_digit}
-use Rattle.rules.specs.Parsers.{Parsed, Parser, bad, ok, pure, ◌or◌, one}
+use Rattle.rules.specs.Parsers.{Parser, bad, ok, pure, ◌or◌, one}
 use Rattle.rules.specs.Timestamp.{digits, point, ten_thousandths}
 use Rattle.text.specs.declared.digits.Fraction.{Fraction}
 use Rattle.text.specs.declared.digits.Number.{Number}

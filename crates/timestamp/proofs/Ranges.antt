@@ -1,6 +1,6 @@
 -- The ranges of dates, clocks, offsets and units.
 use Prim.Native.Nat.{ℕ, zero, suc, ◌+◌, ◌-◌, ◌*◌, ◌^◌, ◌≤◌, ◌<◌}
-use mathlib.Core.Path.{◌≡◌, refl, subst, ap}
+use mathlib.Core.Path.{◌≡◌, refl, subst}
 use mathlib.Core.Bool.{Bool, true, false, ◌&&◌, cond}
 use mathlib.Core.List.{List, [], ◌∷◌}
 use native.Mathlib.Nat.{pow-le-pow_right}
@@ -9,14 +9,14 @@ use borrow.Author.Tests.{leb-true}
 use lib.Dec.{leb}
 use lib.ListN.{length, get_or}
 use Rattle.rules.specs.Basics.{every, is_from}
-use Rattle.rules.specs.Calendar.{is_leap, year_length, month_lengths, month_length, days_of_months, days_before_year, days_before}
-use Rattle.rules.specs.Timestamp.{is_offset_time, is_zone, shift_of, unit_length}
+use Rattle.rules.specs.Calendar.{is_leap, year_length, month_lengths, month_length, days_before}
+use Rattle.rules.specs.Timestamp.{is_offset_time, is_zone, unit_length}
 use Rattle.rules.proofs.Tests.{both_true, is_from-true_lem, every_true}
 use Rattle.rules.proofs.Calendar.{days_of_years-most, months_in_year}
 use Rattle.timestamp.specs.Written.{zone_of, SmallZone}
 use Rattle.timestamp.specs.Moments.{InRange, is_date_of, is_clock_of, unit_ticks}
 use Rattle.timestamp.specs.declared.form.Zone.{Zone}
-use Rattle.timestamp.specs.declared.form.Zone.TheVariants.{Agreed, Plus, Minus}
+use Rattle.timestamp.specs.declared.form.Zone.TheVariants.{Plus, Minus}
 
 entry_most : (n : ℕ) (l : List ℕ) (i : ℕ) → every (λ x. leb x n) l ≡ true → get_or l i 0 ≤ n
 unfolding every

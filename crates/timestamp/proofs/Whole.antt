@@ -1,10 +1,10 @@
 -- What was read of a timestamp, part after part, and the whole text.
-use Prim.Native.Nat.{ℕ, ◌≤◌, ◌<◌}
-use mathlib.Core.Path.{◌≡◌, refl, sym, ◌∙◌, ap, subst}
-use mathlib.Core.List.{List, [], ◌∷◌}
+use Prim.Native.Nat.{ℕ}
+use mathlib.Core.Path.{◌≡◌, refl, ap, subst}
+use mathlib.Core.List.{List}
 use mathlib.Core.Option.{none, some}
 use native.Mathlib.Omega.{arith}
-use lib.ListN.{length, get_or, drop, drop_of_length-le}
+use lib.ListN.{length, drop, drop_of_length-le}
 use lib.Seq.{drop-cons}
 use Rattle.rules.specs.Parsers.{ok, whole}
 use Rattle.rules.specs.Timestamp.{timestamp, Written as RulesWritten}
@@ -14,7 +14,6 @@ use Rattle.text.specs.declared.digits.Number.TheVariants.{Is}
 use Rattle.timestamp.specs.Written.{PartsAt, ZoneBy, fraction_after, zone_after, zone_of, Writes}
 use Rattle.timestamp.specs.declared.form.Parts.{Parts}
 use Rattle.timestamp.specs.declared.form.Zoned.{Zoned}
-use Rattle.timestamp.specs.declared.form.Written.{Written}
 use Rattle.timestamp.proofs.Reading.{form-whole, form_more}
 
 module _ (s : List ℕ) (year : ℕ) (y : NumberAt s 0 4 (Is year)) (p : Parts) (ps : PartsAt s p)

@@ -1,6 +1,6 @@
 -- What is written in a timestamp, as code holds it, in the words of the rules.
-use Rattle.std.specs.Prelude.{ℕ, ◌+◌, ◌*◌, ◌^◌, ◌≤◌, ◌<◌, ◌≡◌, Bool, false, cond, List, [], ◌∷◌, leb, length, get_or, drop}
-use Rattle.std.proofs.Math.Option.{Option, none, some}
+use Rattle.std.specs.Prelude.{ℕ, ◌≤◌, ◌<◌, ◌≡◌, false, List, [], leb, length, get_or, drop}
+use Rattle.std.proofs.Math.Option.{none, some}
 use Rattle.rules.specs.Basics.{every, is_digit}
 use Rattle.rules.specs.Parsers.{Parser, bad, ok, pure, guard, ◌>>◌, ◌or◌, whole}
 use Rattle.rules.specs.Timestamp.{two_digits, point, hours, zone as zone_parser, timestamp, ten_thousandths}

@@ -1,7 +1,6 @@
 -- What an accepted MO says, from its tag.
 use Rattle.std.proofs.Common.{◌≡◌, ℕ, Bool, true, false, cond, List, [], ◌∷◌, ℤ, sym, refl, ap, ◌∙◌}
 use mathlib.Core.Option.{none, some}
-use denote.Enum.Declared.{tag_of}
 use Rattle.rules.specs.Basics.{if_some, find, bytes}
 use Rattle.rules.specs.Refusal.{answered}
 use Rattle.rules.specs.Markup.{Element, lookup}
@@ -20,7 +19,6 @@ use Rattle.datatype.specs.Meaning.{kind_meant}
 use Rattle.datatype.specs.Records.{RecordOf}
 use Rattle.datatype.specs.declared.record.Record.{Record}
 use Rattle.datatype.specs.declared.kind.Kind.{Kind}
-use Rattle.datatype.specs.contracts.kind.Kind as kind
 use Rattle.datatype.specs.declared.kind.Kind.TheVariants.{Ts, IvlTs, QsuTs, QsiTs, QsdTs, Mo, Ii, Cd, En, DisplayName, Part}
 
 -- the kind that a type is found as

@@ -1,5 +1,6 @@
 // Bytes written into lent memory, one piece after another: each function says where the next piece stands.
 #![tactic(auto)]
+
 ghost use Rattle.std.specs.Prelude.{◌≡◌, ◌+◌, ◌<◌, ◌≤◌, length};
 ghost use Rattle.rules.specs.Basics.{digits_of};
 ghost use Rattle.writer.specs.Placing.{Put};

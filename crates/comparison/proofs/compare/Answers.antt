@@ -4,7 +4,6 @@ use borrow.Author.Tests.{eq-eqb, ne_eqb}
 use Rattle.comparison.proofs.Answers.{either_test}
 use Rattle.comparison.proofs.Numbers.{type_by_number}
 use Rattle.comparison.proofs.Types.{types_differ, types_same}
-use borrow.Author.Rules.{rules}
 use Rattle.comparison.proofs.compare.Goals as goal
 
 pub returns-then-number : goal.returns-then-number

@@ -1,6 +1,5 @@
 -- `comparison::compare_kind` meets its contract.
 use Rattle.rules.specs.Comparison.{comparer_of}
-use borrow.Author.Rules.{rules}
 use Rattle.comparison.proofs.compare_kind.Goals as goal
 
 pub returns-in-Ts : goal.returns-in-Ts

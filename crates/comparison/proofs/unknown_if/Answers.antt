@@ -1,5 +1,4 @@
 -- `comparison::unknown_if` meets its contract.
-use borrow.Author.Rules.{rules}
 use Rattle.comparison.proofs.unknown_if.Goals as goal
 
 pub returns-then-null : goal.returns-then-null

@@ -1,6 +1,5 @@
 -- `element::root` meets its contract.
 use Rattle.element.proofs.Documents.{root-at}
-use borrow.Author.Rules.{rules}
 use Rattle.element.proofs.root.Goals as goal
 
 pub returns : goal.returns

@@ -4,7 +4,6 @@ use Rattle.rules.specs.Parsers.{whole}
 use Rattle.rules.specs.Forms.{amount_text}
 use Rattle.rules.proofs.Unreferenced.{no_amount}
 use Rattle.form.proofs.Quoted.{by_raw}
-use borrow.Author.Rules.{rules}
 use Rattle.form.proofs.amount.Goals as goal
 
 pub returns : goal.returns

@@ -3,7 +3,6 @@ use mathlib.Core.Path.{◌∙◌}
 use Rattle.form.specs.Amounts.{code_of}
 use Rattle.form.proofs.Quoted.{by_raw}
 use Rattle.form.proofs.Amounting.{no_code}
-use borrow.Author.Rules.{rules}
 use Rattle.form.proofs.currency.Goals as goal
 
 pub returns : goal.returns

@@ -1,7 +1,6 @@
 -- `form::fault` meets its contract, by an answer for each form.
 use mathlib.Core.Path.{refl, sym, ap}
 use mathlib.Core.Bool.{not, not-not}
-use borrow.Author.Rules.{rules}
 use Rattle.rules.specs.Basics.{is_empty}
 use Rattle.rules.specs.Refusal.{VALUE, first_of, ◌when◌}
 use Rattle.rules.specs.Forms.{is_currency, is_root, is_qualifiers, form_faults}

@@ -1,6 +1,5 @@
 -- `form::inside` meets its contract.
 use Rattle.form.proofs.Quoted.{between_none}
-use borrow.Author.Rules.{rules}
 use Rattle.form.proofs.inside.Goals as goal
 
 pub returns-then-e-from : goal.returns-then-e-from

@@ -1,6 +1,5 @@
 -- `form::is_amount` meets its contract.
 use Rattle.form.proofs.Faults.{amount_found, amount_missing}
-use borrow.Author.Rules.{rules}
 use Rattle.form.proofs.is_amount.Goals as goal
 
 pub returns-in-Is : goal.returns-in-Is

@@ -3,7 +3,6 @@ use mathlib.Core.Path.{◌∙◌}
 use Rattle.rules.specs.Timestamp.{read_timestamp}
 use Rattle.rules.proofs.Unreferenced.{no_timestamp}
 use Rattle.form.proofs.Quoted.{by_raw}
-use borrow.Author.Rules.{rules}
 use Rattle.form.proofs.moment.Goals as goal
 
 pub returns : goal.returns

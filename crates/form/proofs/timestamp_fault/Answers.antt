@@ -1,6 +1,5 @@
 -- `form::timestamp_fault` meets its contract.
 use Rattle.form.proofs.Faults.{moment_found, moment_refused}
-use borrow.Author.Rules.{rules}
 use Rattle.form.proofs.timestamp_fault.Goals as goal
 
 pub returns-in_default : goal.returns-in_default

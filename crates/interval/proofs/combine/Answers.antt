@@ -1,5 +1,5 @@
 -- `interval::combine` meets its contract.
-use Rattle.std.proofs.Common.{◌≡◌, ◌+◌, length, sym, refl, subst, arith, rules}
+use Rattle.std.proofs.Common.{◌≡◌, ◌+◌, length, sym, refl, subst, arith}
 use Rattle.interval.specs.declared.Op.{Op}
 use Rattle.interval.specs.Meaning.{Holds, applied}
 use Rattle.interval.proofs.Items.{length_mapped, used-ticked}

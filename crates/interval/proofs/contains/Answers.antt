@@ -1,7 +1,5 @@
-use Rattle.std.proofs.Common.{◌≡◌, ◌-◌, ◌≤◌, map, length, drop, sym, refl, ◌∙◌, arith, rules}
-use Rattle.rules.specs.Sets.{is_in}
-use Rattle.interval.specs.Meaning.{interval_of, place_of, used, stretches_of}
-use Rattle.interval.specs.Edges.{number_of}
+use Rattle.std.proofs.Common.{◌≡◌, length, sym, refl, ◌∙◌, arith, rules}
+use Rattle.interval.specs.Meaning.{place_of}
 use Rattle.interval.proofs.Items.{length_mapped, used-ticked, is_in-past_lem}
 use Rattle.interval.proofs.Members.{contains_here, contains_next}
 use Rattle.interval.proofs.contains.Goals as goal

@@ -1,10 +1,8 @@
 -- `interval::contains` meets its contract. The loop's invariant: what is asked of the set is asked of the stretches from k on.
-use Rattle.std.proofs.Common.{◌≡◌, ◌-◌, ◌≤◌, map, length, drop, sym, refl, ◌∙◌, arith, rules}
+use Rattle.std.proofs.Common.{◌≡◌, ◌-◌, ◌≤◌, map, drop}
 use Rattle.rules.specs.Sets.{is_in}
 use Rattle.interval.specs.Meaning.{interval_of, place_of, used, stretches_of}
 use Rattle.interval.specs.Edges.{number_of}
-use Rattle.interval.proofs.Items.{length_mapped, used-ticked, is_in-past_lem}
-use Rattle.interval.proofs.Members.{contains_here, contains_next}
 use Rattle.interval.proofs.contains.Given as goal
 
 abbrev pub invariant-loop-k : goal.invariant-loop-k

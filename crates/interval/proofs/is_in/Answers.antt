@@ -1,5 +1,5 @@
 -- `interval::is_in` meets its contract.
-use Rattle.std.proofs.Common.{ap, ◌∙◌, rules}
+use Rattle.std.proofs.Common.{ap, ◌∙◌}
 use Rattle.interval.specs.Edges.{is_within}
 use Rattle.interval.proofs.Members.{within_place}
 use Rattle.interval.proofs.is_in.Goals as goal

@@ -1,5 +1,4 @@
 -- `interval::same` meets its contract.
-use Rattle.std.proofs.Common.{rules}
 use Rattle.interval.proofs.Unique.{says_same}
 use Rattle.interval.proofs.same.Goals as goal
 

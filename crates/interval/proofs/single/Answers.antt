@@ -1,5 +1,5 @@
 -- `interval::single` meets its contract: an interval has a place if its first edge is below its second.
-use Rattle.std.proofs.Common.{◌≡◌, length, arith, rules}
+use Rattle.std.proofs.Common.{◌≡◌, length, arith}
 use Rattle.interval.proofs.Items.{length_mapped}
 use Rattle.interval.proofs.Members.{single_one, single_none}
 use Rattle.interval.proofs.single.Goals as goal

@@ -1,11 +1,10 @@
-use Prim.Native.Nat.{◌-◌, ◌≤◌}
 use mathlib.Core.Path.{◌≡◌, refl}
 use native.Mathlib.Omega.{arith}
 use native.Mathlib.Numerals.{add-one}
 use borrow.Author.Tests.{lt-ltb, le-ltb}
 use lib.ListN.{length}
 use Rattle.interval.proofs.Items.{length_mapped}
-use Rattle.interval_bench.specs.Counts.{joined_to, last_join}
+use Rattle.interval_bench.specs.Counts.{joined_to}
 use Rattle.interval_bench.proofs.Joining.{count-meant}
 use Rattle.interval_bench.proofs.interval_bench_joins.Goals as goal
 

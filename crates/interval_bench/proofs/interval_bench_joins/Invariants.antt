@@ -1,13 +1,7 @@
 -- `interval_bench::interval_bench_joins` meets its contract. The loop's invariant: `count` is that of the last time, if there was one.
 use Prim.Native.Nat.{◌-◌, ◌≤◌}
-use mathlib.Core.Path.{◌≡◌, refl}
-use native.Mathlib.Omega.{arith}
-use native.Mathlib.Numerals.{add-one}
-use borrow.Author.Tests.{lt-ltb, le-ltb}
-use lib.ListN.{length}
-use Rattle.interval.proofs.Items.{length_mapped}
-use Rattle.interval_bench.specs.Counts.{joined_to, last_join}
-use Rattle.interval_bench.proofs.Joining.{count-meant}
+use mathlib.Core.Path.{◌≡◌}
+use Rattle.interval_bench.specs.Counts.{last_join}
 use Rattle.interval_bench.proofs.interval_bench_joins.Given as goal
 
 abbrev pub invariant-loop-k : goal.invariant-loop-k

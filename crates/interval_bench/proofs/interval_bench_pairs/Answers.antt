@@ -1,4 +1,3 @@
-use Prim.Native.Nat.{◌-◌, ◌≤◌}
 use mathlib.Core.Path.{◌≡◌, refl}
 use native.Mathlib.Omega.{arith}
 use native.Mathlib.Numerals.{add-one}
@@ -6,7 +5,7 @@ use borrow.Author.Tests.{lt-ltb, le-ltb}
 use lib.ListN.{length}
 use Rattle.rules.specs.Sets.{combine}
 use Rattle.interval.proofs.Items.{length_mapped}
-use Rattle.interval_bench.specs.Counts.{joined_to, operation_at, last_pair}
+use Rattle.interval_bench.specs.Counts.{joined_to, operation_at}
 use Rattle.interval_bench.proofs.Joining.{applied-meant, count-meant}
 use Rattle.interval_bench.proofs.interval_bench_pairs.Goals as goal
 

@@ -1,14 +1,7 @@
 -- `interval_bench::interval_bench_pairs` meets its contract. The loop's invariant: `count` is that of the last outcome, if there was one.
 use Prim.Native.Nat.{◌-◌, ◌≤◌}
-use mathlib.Core.Path.{◌≡◌, refl}
-use native.Mathlib.Omega.{arith}
-use native.Mathlib.Numerals.{add-one}
-use borrow.Author.Tests.{lt-ltb, le-ltb}
-use lib.ListN.{length}
-use Rattle.rules.specs.Sets.{combine}
-use Rattle.interval.proofs.Items.{length_mapped}
-use Rattle.interval_bench.specs.Counts.{joined_to, operation_at, last_pair}
-use Rattle.interval_bench.proofs.Joining.{applied-meant, count-meant}
+use mathlib.Core.Path.{◌≡◌}
+use Rattle.interval_bench.specs.Counts.{last_pair}
 use Rattle.interval_bench.proofs.interval_bench_pairs.Given as goal
 
 abbrev pub invariant-loop-k : goal.invariant-loop-k

@@ -1,9 +1,5 @@
-use Prim.Native.Nat.{◌+◌, ◌-◌, ◌≤◌}
 use mathlib.Core.Path.{◌≡◌}
 use native.Mathlib.Omega.{arith}
-use Rattle.rules.specs.Sets.{meant}
-use Rattle.interval.specs.Meaning.{Holds}
-use Rattle.interval_bench.specs.Counts.{joined_to}
 use Rattle.interval_bench.proofs.Joining.{joined-first, joined_more}
 use Rattle.interval_bench.proofs.joined.Goals as goal
 

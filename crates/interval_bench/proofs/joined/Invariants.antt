@@ -1,11 +1,8 @@
 -- `interval_bench::joined` meets its contract. The loop's invariant: the intervals 0 to k are joined.
 use Prim.Native.Nat.{◌+◌, ◌-◌, ◌≤◌}
-use mathlib.Core.Path.{◌≡◌}
-use native.Mathlib.Omega.{arith}
 use Rattle.rules.specs.Sets.{meant}
 use Rattle.interval.specs.Meaning.{Holds}
 use Rattle.interval_bench.specs.Counts.{joined_to}
-use Rattle.interval_bench.proofs.Joining.{joined-first, joined_more}
 use Rattle.interval_bench.proofs.joined.Given as goal
 
 abbrev pub invariant-loop-k : goal.invariant-loop-k

@@ -1,7 +1,6 @@
 -- `interval_bench::piece` meets its contract.
 use mathlib.Core.Path.{refl}
 use native.Mathlib.Omega.{arith}
-use borrow.Author.Rules.{rules}
 use Rattle.interval_bench.proofs.piece.Goals as goal
 
 pub returns : goal.returns

@@ -1,8 +1,6 @@
-use Prim.Native.Nat.{ℕ, ◌-◌, ◌<◌}
+use Prim.Native.Nat.{ℕ}
 use native.Mathlib.Omega.{arith}
 use mathlib.Core.Path.{sym, subst}
-use lib.ListN.{length}
-use borrow.Author.Rules.{rules}
 use Rattle.datatype.specs.Meaning.{kind_meant}
 use Rattle.element.proofs.Walks.{Walked, walk_less, walk_goes}
 use Rattle.judge.proofs.Walking.{Judges, judged-first, judged-next, judged_last}

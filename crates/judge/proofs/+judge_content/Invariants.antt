@@ -1,12 +1,9 @@
 -- `judge::judge_content` meets its contract. The depth falls from an element to its children.
-use Prim.Native.Nat.{ℕ, ◌-◌, ◌<◌}
-use native.Mathlib.Omega.{arith}
-use mathlib.Core.Path.{sym, subst}
+use Prim.Native.Nat.{◌-◌}
 use lib.ListN.{length}
-use borrow.Author.Rules.{rules}
 use Rattle.datatype.specs.Meaning.{kind_meant}
-use Rattle.element.proofs.Walks.{Walked, walk_less, walk_goes}
-use Rattle.judge.proofs.Walking.{Judges, judged-first, judged-next, judged_last}
+use Rattle.element.proofs.Walks.{Walked}
+use Rattle.judge.proofs.Walking.{Judges}
 use Rattle.judge.proofs.+judge_content.Given as goal
 
 abbrev pub decreases-judge_content : goal.decreases-judge_content

@@ -1,7 +1,5 @@
 use Rattle.judge.proofs.Checking.{too_long, not_utf8, no_document, a_document}
-use borrow.Author.Tests.{not-true, not-false}
 use mathlib.Core.Path.{sym, ◌∙◌}
-use borrow.Author.Rules.{rules}
 use Rattle.judge.proofs.check.Goals as goal
 
 pub returns-then-input-gt-MOST : goal.returns-then-input-gt-MOST

@@ -1,6 +1,5 @@
 use native.Mathlib.Omega.{arith}
 use Rattle.judge.proofs.Checking.{no_type, some-type}
-use borrow.Author.Rules.{rules}
 use Rattle.judge.proofs.check_document.Goals as goal
 
 pub type_at-named-requires : goal.type_at-named-requires

@@ -1,5 +1,4 @@
 -- `lent::are_parted` meets its contract.
-use Rattle.std.proofs.Common.{rules}
 use Rattle.rules.specs.LentLists.{signed}
 use Rattle.lent.proofs.Bounds.{parted_is}
 use Rattle.lent.proofs.are_parted.Goals as goal

@@ -1,6 +1,6 @@
-use Rattle.std.proofs.Common.{◌≡◌, ◌-◌, ◌*◌, ◌/◌, ◌≤◌, not, length, sym, ap, ◌∙◌, arith, rules}
+use Rattle.std.proofs.Common.{◌/◌, not, length, sym, ap, ◌∙◌, arith}
 use borrow.Author.Tests.{not-true, not-false}
-use Rattle.lent.proofs.Proper.{Left, improper_part, improper_long, proper-empty, first-bad, first_good, next-bad, next_unparted, next_good, none_left, good_kinds}
+use Rattle.lent.proofs.Proper.{improper_part, improper_long, proper-empty, first-bad, first_good, next-bad, next_unparted, next_good, none_left, good_kinds}
 use Rattle.lent.proofs.is_proper.Goals as goal
 
 pub returns-then-list-eq0 : goal.returns-then-list-eq0

@@ -1,7 +1,6 @@
 -- `lent::is_proper` meets its contract. The loop's invariant: what is left, from the k-th row on, decides.
-use Rattle.std.proofs.Common.{◌≡◌, ◌-◌, ◌*◌, ◌/◌, ◌≤◌, not, length, sym, ap, ◌∙◌, arith, rules}
-use borrow.Author.Tests.{not-true, not-false}
-use Rattle.lent.proofs.Proper.{Left, improper_part, improper_long, proper-empty, first-bad, first_good, next-bad, next_unparted, next_good, none_left, good_kinds}
+use Rattle.std.proofs.Common.{◌≡◌, ◌-◌, ◌*◌, ◌≤◌, length}
+use Rattle.lent.proofs.Proper.{Left}
 use Rattle.lent.proofs.is_proper.Given as goal
 
 abbrev pub invariant-loop-k : goal.invariant-loop-k

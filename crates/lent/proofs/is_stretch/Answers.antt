@@ -1,5 +1,4 @@
 -- `lent::is_stretch` meets its contract.
-use Rattle.std.proofs.Common.{rules}
 use Rattle.rules.specs.LentLists.{signed}
 use Rattle.lent.proofs.Bounds.{stretch_is}
 use Rattle.lent.proofs.is_stretch.Goals as goal

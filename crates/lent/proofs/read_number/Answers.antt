@@ -1,4 +1,4 @@
-use Rattle.std.proofs.Common.{◌≡◌, ◌+◌, ◌-◌, ◌^◌, ◌<◌, ◌≤◌, get_or, take, drop, refl, arith, rules}
+use Rattle.std.proofs.Common.{◌≡◌, ◌+◌, ◌-◌, get_or, refl, arith, rules}
 use Rattle.rules.specs.LentLists.{unsigned}
 use Rattle.lent.proofs.Numbers.{number-room, byte-read}
 use Rattle.lent.proofs.read_number.Goals as goal

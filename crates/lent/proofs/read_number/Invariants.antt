@@ -1,7 +1,6 @@
 -- `lent::read_number` meets its contract. The loop's invariant: the number is that of the bytes from k on, and they hold it.
-use Rattle.std.proofs.Common.{◌≡◌, ◌+◌, ◌-◌, ◌^◌, ◌<◌, ◌≤◌, get_or, take, drop, refl, arith, rules}
+use Rattle.std.proofs.Common.{◌≡◌, ◌+◌, ◌-◌, ◌^◌, ◌<◌, ◌≤◌, take, drop}
 use Rattle.rules.specs.LentLists.{unsigned}
-use Rattle.lent.proofs.Numbers.{number-room, byte-read}
 use Rattle.lent.proofs.read_number.Given as goal
 
 abbrev pub invariant-loop-k : goal.invariant-loop-k

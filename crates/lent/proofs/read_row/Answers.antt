@@ -1,5 +1,4 @@
 -- `lent::read_row` meets its contract.
-use Rattle.std.proofs.Common.{rules}
 use Rattle.lent.proofs.read_row.Goals as goal
 
 pub returns : goal.returns

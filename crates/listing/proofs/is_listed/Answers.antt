@@ -1,7 +1,6 @@
 -- `listing::is_listed` meets its contract.
 use mathlib.Core.Path.{sym, ap, ◌∙◌}
 use Rattle.listing.proofs.Shapes.{is_written, kind-listed}
-use borrow.Author.Rules.{rules}
 use Rattle.listing.proofs.is_listed.Goals as goal
 
 pub returns-in-Single : goal.returns-in-Single

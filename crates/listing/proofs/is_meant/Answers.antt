@@ -1,5 +1,4 @@
 -- `listing::is_meant` meets its contract.
-use borrow.Author.Rules.{rules}
 use Rattle.listing.proofs.is_meant.Goals as goal
 
 pub returns : goal.returns

@@ -5,7 +5,6 @@ use borrow.Author.Tests.{not-true, not-false}
 use lib.ListN.{length}
 use Rattle.interval.proofs.Items.{length_mapped}
 use Rattle.listing.proofs.Answering.{answers-unknown, answers-many, answers_no_room, answers-count}
-use borrow.Author.Rules.{rules}
 use Rattle.listing.proofs.list.Goals as goal
 
 pub returns-then-not-written : goal.returns-then-not-written

@@ -1,11 +1,9 @@
 use native.Mathlib.Omega.{arith}
 use lib.ListN.{length}
 use Rattle.text.proofs.Reading.{answer, found, good}
-use Rattle.markup.specs.Elements.{ReadsContent}
 use Rattle.markup.proofs.Tags.{tag-answer, tag-bounds}
 use Rattle.markup.proofs.Elements.{too_deep, no_element, empty-element, full-element, content-end, content_more}
-use borrow.Author.Rules.{rules}
-use Prim.Native.Nat.{ℕ, ◌+◌, ◌-◌, ◌*◌, ◌≤◌, ◌<◌}
+use Prim.Native.Nat.{◌+◌}
 use Rattle.markup.proofs.+read_content_read_element.Goals as goal
 
 pub read_content-loop-e-init : goal.read_content-loop-e-init

@@ -1,14 +1,9 @@
 -- `markup::read_content` and `markup::read_element` meet their contracts. The bytes left fall: an element is read with as many left as the content
 -- that it stands in or fewer, and content with fewer left than the element that it stands in. The loop's invariant: an answer from here is an answer
 -- from the start.
-use native.Mathlib.Omega.{arith}
 use lib.ListN.{length}
-use Rattle.text.proofs.Reading.{answer, found, good}
 use Rattle.markup.specs.Elements.{ReadsContent}
-use Rattle.markup.proofs.Tags.{tag-answer, tag-bounds}
-use Rattle.markup.proofs.Elements.{too_deep, no_element, empty-element, full-element, content-end, content_more}
-use borrow.Author.Rules.{rules}
-use Prim.Native.Nat.{ℕ, ◌+◌, ◌-◌, ◌*◌, ◌≤◌, ◌<◌}
+use Prim.Native.Nat.{ℕ, ◌+◌, ◌-◌, ◌*◌, ◌≤◌}
 use Rattle.markup.proofs.+read_content_read_element.Given as goal
 
 abbrev pub decreases-read_element : goal.decreases-read_element

@@ -2,7 +2,6 @@
 use Rattle.rules.specs.Markup.{element, document}
 use Rattle.text.specs.Reads.{upto}
 use Rattle.text.proofs.Reading.{answer, good, both, then, then_not, last, enough, whole_is, whole-not}
-use borrow.Author.Rules.{rules}
 use Rattle.markup.proofs.is_document.Goals as goal
 
 pub returns-in_default : goal.returns-in_default

@@ -1,7 +1,6 @@
 -- `markup_bench::markup_bench_is_document` meets its contract.
 use mathlib.Core.Path.{ap, sym, ◌∙◌}
 use Rattle.markup_bench.specs.Answer.{number}
-use borrow.Author.Rules.{rules}
 use Rattle.markup_bench.proofs.markup_bench_is_document.Goals as goal
 
 pub returns-then-is_document : goal.returns-then-is_document

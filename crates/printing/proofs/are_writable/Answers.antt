@@ -1,13 +1,7 @@
-use borrow.Author.Tests.{not-true, not-false}
 use Rattle.lent.proofs.Proper.{proper-length}
 use Rattle.printing.proofs.Records.{count_most, row-kinds, writable_start, writable_more, writable_not, writable_end}
-use Prim.Native.Nat.{◌-◌, ◌≤◌}
-use mathlib.Core.Path.{◌≡◌, sym, ◌∙◌}
+use mathlib.Core.Path.{sym, ◌∙◌}
 use native.Mathlib.Omega.{arith}
-use Rattle.rules.specs.Basics.{every}
-use Rattle.rules.specs.LentLists.{listed}
-use Rattle.rules.specs.Printing.{is_writable_stretch}
-use Rattle.printing.specs.Records.{terms_from}
 use Rattle.printing.proofs.are_writable.Goals as goal
 
 pub term_count-n-requires : goal.term_count-n-requires

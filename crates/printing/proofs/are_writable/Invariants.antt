@@ -1,10 +1,6 @@
 -- `printing::are_writable` meets its contract. The loop's invariant: all can be written if those that are left can.
-use borrow.Author.Tests.{not-true, not-false}
-use Rattle.lent.proofs.Proper.{proper-length}
-use Rattle.printing.proofs.Records.{count_most, row-kinds, writable_start, writable_more, writable_not, writable_end}
 use Prim.Native.Nat.{◌-◌, ◌≤◌}
-use mathlib.Core.Path.{◌≡◌, sym, ◌∙◌}
-use native.Mathlib.Omega.{arith}
+use mathlib.Core.Path.{◌≡◌}
 use Rattle.rules.specs.Basics.{every}
 use Rattle.rules.specs.LentLists.{listed}
 use Rattle.rules.specs.Printing.{is_writable_stretch}

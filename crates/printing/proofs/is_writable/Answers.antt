@@ -2,7 +2,6 @@
 use mathlib.Core.Path.{sym, ◌∙◌}
 use borrow.Author.Tests.{not-true, not-false}
 use Rattle.printing.proofs.Records.{improper_unwritable, proper_writable}
-use borrow.Author.Rules.{rules}
 use Rattle.printing.proofs.is_writable.Goals as goal
 
 pub returns-then-not-is_proper : goal.returns-then-not-is_proper

@@ -1,6 +1,5 @@
 -- `printing::is_writable_row` meets its contract.
 use mathlib.Core.Path.{refl}
-use borrow.Author.Rules.{rules}
 use Rattle.printing.proofs.is_writable_row.Goals as goal
 
 pub returns : goal.returns

@@ -2,7 +2,6 @@
 use native.Mathlib.Omega.{arith}
 use Rattle.writer.proofs.Placing.{overwrite-placed, put_both}
 use Rattle.printing.proofs.Records.{record_pieces, record_size}
-use borrow.Author.Rules.{rules}
 use Rattle.printing.proofs.print.Goals as goal
 
 pub put-a-requires : goal.put-a-requires

@@ -2,16 +2,10 @@ use mathlib.Core.Path.{ap}
 use Rattle.lent.proofs.Proper.{proper-length}
 use Rattle.writer.proofs.Placing.{placed-none, put_rest}
 use Rattle.printing.proofs.Records.{count_most, row-kinds, writable_here, left_more, left_length, left_none, left_all, is-proper, all_writable}
-use Prim.Native.Nat.{◌+◌, ◌-◌, ◌≤◌}
-use mathlib.Core.Path.{◌≡◌, refl, sym, ◌∙◌}
-use mathlib.Core.Bool.{true}
+use mathlib.Core.Path.{refl, sym, ◌∙◌}
 use native.Mathlib.Omega.{arith}
 use lib.ListN.{length}
-use Rattle.rules.specs.Basics.{every}
-use Rattle.rules.specs.Printing.{is_writable_stretch}
-use Rattle.printing.specs.Records.{terms_from}
 use Rattle.writer.specs.Placing.{placed}
-use Rattle.printing.proofs.Records.{left}
 use Rattle.printing.proofs.put_terms.Goals as goal
 
 pub term_count-n-requires : goal.term_count-n-requires

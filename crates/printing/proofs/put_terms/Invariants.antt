@@ -1,12 +1,7 @@
 -- `printing::put_terms` meets its contract. The loop's invariant: with the terms that are left, memory is as it should be.
-use mathlib.Core.Path.{ap}
-use Rattle.lent.proofs.Proper.{proper-length}
-use Rattle.writer.proofs.Placing.{placed-none, put_rest}
-use Rattle.printing.proofs.Records.{count_most, row-kinds, writable_here, left_more, left_length, left_none, left_all, is-proper, all_writable}
 use Prim.Native.Nat.{◌+◌, ◌-◌, ◌≤◌}
-use mathlib.Core.Path.{◌≡◌, refl, sym, ◌∙◌}
+use mathlib.Core.Path.{◌≡◌}
 use mathlib.Core.Bool.{true}
-use native.Mathlib.Omega.{arith}
 use lib.ListN.{length}
 use Rattle.rules.specs.Basics.{every}
 use Rattle.rules.specs.Printing.{is_writable_stretch}

@@ -1,16 +1,11 @@
 use mathlib.Core.Path.{ap}
 use Rattle.lent.proofs.Proper.{proper-length}
 use Rattle.printing.proofs.Records.{count_most, row-kinds, writable_here, left_length, left_none, left_all, is-proper, all_writable, record_size, record_most}
-use Prim.Native.Nat.{◌+◌, ◌-◌, ◌≤◌}
 use mathlib.Core.Path.{◌≡◌}
-use mathlib.Core.Bool.{true}
 use native.Mathlib.Omega.{arith}
 use lib.ListN.{length}
-use Rattle.rules.specs.Basics.{every}
 use Rattle.rules.specs.LentLists.{listed}
-use Rattle.rules.specs.Printing.{record_text, is_writable_stretch}
-use Rattle.printing.specs.Records.{terms_from}
-use Rattle.printing.proofs.Records.{left}
+use Rattle.rules.specs.Printing.{record_text}
 use Rattle.printing.proofs.record_length.Goals as goal
 
 pub term_count-n-requires : goal.term_count-n-requires

@@ -1,11 +1,7 @@
 -- `printing::record_length` meets its contract. The loop's invariant: with the terms that are left, it is the record's length.
-use mathlib.Core.Path.{ap}
-use Rattle.lent.proofs.Proper.{proper-length}
-use Rattle.printing.proofs.Records.{count_most, row-kinds, writable_here, left_length, left_none, left_all, is-proper, all_writable, record_size, record_most}
 use Prim.Native.Nat.{◌+◌, ◌-◌, ◌≤◌}
 use mathlib.Core.Path.{◌≡◌}
 use mathlib.Core.Bool.{true}
-use native.Mathlib.Omega.{arith}
 use lib.ListN.{length}
 use Rattle.rules.specs.Basics.{every}
 use Rattle.rules.specs.LentLists.{listed}

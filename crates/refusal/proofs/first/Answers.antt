@@ -1,6 +1,5 @@
 -- `refusal::first` meets its contract: the ranks decide, by the laws of `Ranks`.
 use mathlib.Core.Path.{refl}
-use borrow.Author.Rules.{rules}
 use Rattle.refusal.proofs.Ranks.{first-earlier, second-earlier}
 use Rattle.refusal.proofs.first.Goals as goal
 

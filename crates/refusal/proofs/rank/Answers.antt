@@ -1,5 +1,4 @@
 -- `refusal::rank` meets its contract: each refusal has its place in the list.
-use borrow.Author.Rules.{rules}
 use mathlib.Core.Path.{refl}
 use Rattle.rules.specs.Refusal.{rank_in}
 use Rattle.refusal.proofs.rank.Goals as goal

@@ -1,5 +1,4 @@
 -- `rigcactus::compared_number` meets its contract.
-use borrow.Author.Rules.{rules}
 use Rattle.rigcactus.proofs.compared_number.Goals as goal
 
 pub returns-in-Is : goal.returns-in-Is

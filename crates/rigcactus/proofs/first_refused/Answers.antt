@@ -2,7 +2,6 @@
 use native.Mathlib.Omega.{arith}
 use Rattle.rules.proofs.ListingPromise.{small}
 use Rattle.refusal.specs.Meaning.{refusal_of}
-use borrow.Author.Rules.{rules}
 use Rattle.rigcactus.proofs.first_refused.Goals as goal
 
 pub overflow_add-result : goal.overflow_add-result

@@ -3,7 +3,6 @@ use native.Mathlib.Omega.{arith}
 use mathlib.Core.Path.{subst}
 use Rattle.listing.specs.Answers.{Few}
 use Rattle.listing.specs.declared.Listed.{Listed}
-use borrow.Author.Rules.{rules}
 use Rattle.rigcactus.proofs.listed_number.Goals as goal
 
 pub overflow_mul-result : goal.overflow_mul-result

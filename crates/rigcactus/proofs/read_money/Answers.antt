@@ -2,14 +2,12 @@
 use mathlib.Core.Path.{◌≡◌, sym, ◌∙◌, ap, subst}
 use mir.ValLaws.{to_z-of_z}
 use mir.Syntax.{w64}
-use borrow.Author.Tests.{not-true, not-false}
 use Rattle.rules.specs.Check.{is_offset, shift_by}
 use Rattle.refusal.specs.Meaning.{fault_of}
 use Rattle.rules.proofs.ListingCases.{check_faultless}
 use Rattle.rigcactus.proofs.Held.{accepted-held}
 use Rattle.rigcactus.proofs.TypedFaults.{typed-accepted}
 use Rattle.rigcactus.proofs.MoneyWays.{is_money, refused-read, money-offset, money-refused, money-read}
-use borrow.Author.Rules.{rules}
 use Rattle.rigcactus.proofs.read_money.Goals as goal
 
 pub returns-then-not-is_offset : goal.returns-then-not-is_offset

@@ -1,5 +1,4 @@
 -- `rigcactus::refusal_number` meets its contract.
-use borrow.Author.Rules.{rules}
 use Rattle.rigcactus.proofs.refusal_number.Goals as goal
 
 pub returns-in-Refused : goal.returns-in-Refused

@@ -1,10 +1,8 @@
 use Rattle.rigcactus.proofs.Checking.{check-offset, check-judged}
 use Rattle.rules.specs.Check.{is_offset, shift_by}
-use borrow.Author.Tests.{not-true, not-false}
 use mir.ValLaws.{to_z-of_z}
 use mir.Syntax.{w64}
 use mathlib.Core.Path.{◌≡◌, sym, ◌∙◌, subst}
-use borrow.Author.Rules.{rules}
 use Rattle.rigcactus.proofs.rigcactus_check.Goals as goal
 
 pub returns-then-not-is_offset : goal.returns-then-not-is_offset

@@ -2,11 +2,9 @@ use Rattle.rigcactus.proofs.Held.{accepted-held}
 use Rattle.rigcactus.proofs.ComparingWays.{judged-refused, judged-accepted, compare_offset, compare_first, compare_second, compare_both}
 use Rattle.rules.specs.Check.{is_offset, shift_by}
 use Rattle.refusal.specs.Meaning.{fault_of}
-use borrow.Author.Tests.{not-true, not-false}
 use mir.ValLaws.{to_z-of_z}
 use mir.Syntax.{w64}
 use mathlib.Core.Path.{◌≡◌, sym, ◌∙◌, ap, subst}
-use borrow.Author.Rules.{rules}
 use Rattle.rigcactus.proofs.rigcactus_compare.Goals as goal
 
 pub returns-then-not-is_offset : goal.returns-then-not-is_offset

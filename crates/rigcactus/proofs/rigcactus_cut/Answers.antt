@@ -2,10 +2,8 @@
 use mathlib.Core.Path.{sym, ◌∙◌, ap}
 use Prim.Native.Nat.{◌*◌}
 use native.Mathlib.Omega.{arith}
-use borrow.Author.Tests.{not-true, not-false}
 use Rattle.rules.proofs.Utf8.{cut_fits}
 use Rattle.rigcactus.proofs.Cut.{cut_too_long, cut-not_utf8, cut-accepted}
-use borrow.Author.Rules.{rules}
 use Rattle.rigcactus.proofs.rigcactus_cut.Goals as goal
 
 pub returns-then-text-gt-MOST : goal.returns-then-text-gt-MOST

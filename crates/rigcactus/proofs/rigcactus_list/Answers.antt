@@ -3,11 +3,9 @@ use Rattle.rigcactus.proofs.ListingWays.{list-offset, list-refused, list-answere
 use Rattle.rules.specs.Check.{is_offset, shift_by}
 use Rattle.rules.specs.ListingPromise.{is_listed}
 use Rattle.refusal.specs.Meaning.{fault_of}
-use borrow.Author.Tests.{not-true, not-false}
 use mir.ValLaws.{to_z-of_z}
 use mir.Syntax.{w64}
 use mathlib.Core.Path.{◌≡◌, sym, ◌∙◌, ap, subst}
-use borrow.Author.Rules.{rules}
 use Rattle.rigcactus.proofs.rigcactus_list.Goals as goal
 
 pub returns-then-not-is_offset : goal.returns-then-not-is_offset

@@ -3,7 +3,6 @@ use native.Mathlib.Omega.{arith}
 use mathlib.Core.Path.{sym, ◌∙◌}
 use borrow.Author.Tests.{not-true, not-false}
 use Rattle.rigcactus.proofs.PrintingWays.{print_unwritable, print_no_room, print-answered}
-use borrow.Author.Rules.{rules}
 use Rattle.rigcactus.proofs.rigcactus_print.Goals as goal
 
 pub returns-then-not-is_writable : goal.returns-then-not-is_writable

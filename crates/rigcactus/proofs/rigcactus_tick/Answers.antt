@@ -4,10 +4,8 @@ use mir.Syntax.{w64}
 use mir.ValLaws.{to_z-of_z}
 use Rattle.rules.specs.Check.{is_offset, shift_by}
 use native.Mathlib.Omega.{arith}
-use borrow.Author.Tests.{not-true, not-false}
 use Rattle.rules.proofs.Ticks.{ticks_in_60_bits, precision-range}
 use Rattle.rigcactus.proofs.Timing.{timing-offset, timing-long, timing-passed, passed_on, read_at}
-use borrow.Author.Rules.{rules}
 use Rattle.rigcactus.proofs.rigcactus_tick.Goals as goal
 
 pub returns-then-not-is_offset : goal.returns-then-not-is_offset

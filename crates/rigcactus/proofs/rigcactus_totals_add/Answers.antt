@@ -3,7 +3,6 @@ use Rattle.std.proofs.Common.{ap, not}
 use mathlib.Core.Path.{◌≡◌, sym, ◌∙◌, subst}
 use mir.ValLaws.{to_z-of_z}
 use mir.Syntax.{w64}
-use borrow.Author.Rules.{rules}
 use Rattle.rules.specs.Totals.{reading}
 use Rattle.totals.specs.Readings.{reading_meant}
 use Rattle.totals.proofs.Shared.{held-few}

@@ -2,7 +2,6 @@
 use Rattle.std.proofs.Common.{ap, not}
 use mathlib.Core.Path.{sym, ◌∙◌}
 use native.Mathlib.Omega.{arith}
-use borrow.Author.Rules.{rules}
 use Rattle.totals.proofs.Shared.{held-few}
 use Rattle.rigcactus.proofs.TotalsWays.{none, some, report-nowhere, report-damaged, few, reports}
 use Rattle.rigcactus.proofs.rigcactus_totals_report.Goals as goal

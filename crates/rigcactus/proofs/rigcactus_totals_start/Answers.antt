@@ -1,7 +1,6 @@
 -- `rigcactus::rigcactus_totals_start` meets its contract.
 use Rattle.std.proofs.Common.{ap, not}
 use mathlib.Core.Path.{sym, ◌∙◌}
-use borrow.Author.Rules.{rules}
 use Rattle.rigcactus.proofs.TotalsWays.{none, some, start-nowhere, start-damaged, started}
 use Rattle.rigcactus.proofs.rigcactus_totals_start.Goals as goal
 

@@ -5,7 +5,6 @@ use mir.ValLaws.{to_z-of_z}
 use lib.IntN.{pos, ◌-ℤ◌}
 use Rattle.rules.specs.Timestamp.{before_start, tick_at}
 use Rattle.rigcactus.proofs.Signed.{small-read, tick-fits}
-use borrow.Author.Rules.{rules}
 use Rattle.rigcactus.proofs.signed_tick.Goals as goal
 
 pub overflow_sub-result : goal.overflow_sub-result

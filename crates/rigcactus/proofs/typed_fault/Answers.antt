@@ -1,7 +1,6 @@
 -- `rigcactus::typed_fault` meets its contract.
 use Rattle.rigcactus.proofs.Held.{allowed_or_typeless}
 use Rattle.rigcactus.proofs.TypedFaults.{fault_allowed, fault-other}
-use borrow.Author.Rules.{rules}
 use Rattle.rigcactus.proofs.typed_fault.Goals as goal
 
 pub returns-then-allowed : goal.returns-then-allowed

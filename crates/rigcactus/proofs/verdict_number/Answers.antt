@@ -1,5 +1,4 @@
 -- `rigcactus::verdict_number` meets its contract.
-use borrow.Author.Rules.{rules}
 use Rattle.rigcactus.proofs.verdict_number.Goals as goal
 
 pub returns-in-Accepted : goal.returns-in-Accepted

@@ -1,5 +1,5 @@
 -- `service_examples::show_table` is safe and ends.
-use Rattle.std.proofs.Common.{◌-◌, ◌≤◌, length, rules}
+use Rattle.std.proofs.Common.{◌-◌, ◌≤◌, length}
 use Rattle.service_examples.proofs.show_table.Given as goal
 
 abbrev pub invariant-loop-i : goal.invariant-loop-i

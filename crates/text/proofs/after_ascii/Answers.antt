@@ -1,5 +1,4 @@
 -- `text::after_ascii` meets its contract.
-use borrow.Author.Rules.{rules}
 use Rattle.text.proofs.Following.{skips_on}
 use Rattle.text.proofs.after_ascii.Goals as goal
 

@@ -1,10 +1,6 @@
-use Prim.Native.Nat.{◌≤◌, ◌-◌}
-use mathlib.Core.Path.{◌≡◌, refl, sym, ◌∙◌}
+use mathlib.Core.Path.{refl, sym, ◌∙◌}
 use native.Mathlib.Omega.{arith}
-use lib.ListN.{length, drop}
-use Rattle.rules.specs.Basics.{begins}
 use Rattle.text.proofs.Sameness.{begins_shorter, begins_more, begins_differs, begins-end}
-use borrow.Author.Rules.{rules}
 use Rattle.text.proofs.begins_with.Goals as goal
 
 pub returns-then-t-prefix : goal.returns-then-t-prefix

@@ -1,11 +1,8 @@
 -- `text::begins_with` meets its contract. The loop's invariant: the text begins with the prefix if what is left of it begins with what is left of that.
 use Prim.Native.Nat.{◌≤◌, ◌-◌}
-use mathlib.Core.Path.{◌≡◌, refl, sym, ◌∙◌}
-use native.Mathlib.Omega.{arith}
+use mathlib.Core.Path.{◌≡◌}
 use lib.ListN.{length, drop}
 use Rattle.rules.specs.Basics.{begins}
-use Rattle.text.proofs.Sameness.{begins_shorter, begins_more, begins_differs, begins-end}
-use borrow.Author.Rules.{rules}
 use Rattle.text.proofs.begins_with.Given as goal
 
 abbrev pub invariant-loop-i : goal.invariant-loop-i

@@ -5,7 +5,6 @@ use mathlib.Core.List.{[], ◌∷◌}
 use Rattle.rules.specs.Utf8.{tail}
 use Rattle.text.specs.Characters.{fill, class_followers}
 use Rattle.text.proofs.Following.{char-whole, char-broken, char-none}
-use borrow.Author.Rules.{rules}
 use Rattle.text.proofs.char_length.Goals as goal
 
 pub returns-in-Alone : goal.returns-in-Alone

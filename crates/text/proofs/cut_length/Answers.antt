@@ -1,12 +1,8 @@
-use borrow.Author.Tests.{not-true, not-false}
 use Rattle.rules.proofs.Utf8.{cut_all}
-use Prim.Native.Nat.{◌<◌}
 use mathlib.Core.Path.{◌≡◌, refl, sym, ◌∙◌}
 use native.Mathlib.Omega.{arith}
-use lib.ListN.{length}
-use Rattle.rules.specs.Utf8.{longest, cut_length}
+use Rattle.rules.specs.Utf8.{longest}
 use Rattle.text.proofs.Cutting.{cut-from, longest_boundary, longest-tail}
-use borrow.Author.Rules.{rules}
 use Rattle.text.proofs.cut_length.Goals as goal
 
 pub returns-then-s-room : goal.returns-then-s-room

@@ -1,13 +1,8 @@
 -- `text::cut_length` meets its contract. The loop's invariant: the cut is the longest beginning of n bytes at most.
-use borrow.Author.Tests.{not-true, not-false}
-use Rattle.rules.proofs.Utf8.{cut_all}
 use Prim.Native.Nat.{◌<◌}
-use mathlib.Core.Path.{◌≡◌, refl, sym, ◌∙◌}
-use native.Mathlib.Omega.{arith}
+use mathlib.Core.Path.{◌≡◌}
 use lib.ListN.{length}
 use Rattle.rules.specs.Utf8.{longest, cut_length}
-use Rattle.text.proofs.Cutting.{cut-from, longest_boundary, longest-tail}
-use borrow.Author.Rules.{rules}
 use Rattle.text.proofs.cut_length.Given as goal
 
 abbrev pub invariant-loop-n : goal.invariant-loop-n

@@ -3,7 +3,6 @@ use Rattle.rules.specs.Utf8.{◌to◌, tail}
 use mathlib.Core.Path.{sym}
 use native.Mathlib.Omega.{arith}
 use Rattle.text.proofs.Following.{fill-past, fill-three}
-use borrow.Author.Rules.{rules}
 use Rattle.text.proofs.follows_four.Goals as goal
 
 pub returns-then-s-at-lt3 : goal.returns-then-s-at-lt3

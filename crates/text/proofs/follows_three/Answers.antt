@@ -3,7 +3,6 @@ use mathlib.Core.Path.{sym}
 use native.Mathlib.Omega.{arith}
 use Rattle.rules.specs.Utf8.{◌to◌, tail}
 use Rattle.text.proofs.Following.{fill-past, fill-two}
-use borrow.Author.Rules.{rules}
 use Rattle.text.proofs.follows_three.Goals as goal
 
 pub returns-then-s-at-lt2 : goal.returns-then-s-at-lt2

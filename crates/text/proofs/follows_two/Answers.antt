@@ -6,7 +6,6 @@ use native.Mathlib.Omega.{arith}
 use Rattle.rules.specs.Utf8.{tail}
 use Rattle.text.specs.Characters.{fill}
 use Rattle.text.proofs.Following.{fill-past, fill-at}
-use borrow.Author.Rules.{rules}
 use Rattle.text.proofs.follows_two.Goals as goal
 
 pub returns-then-s-at-lt1 : goal.returns-then-s-at-lt1

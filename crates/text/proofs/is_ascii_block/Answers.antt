@@ -1,12 +1,10 @@
 use mathlib.Core.Path.{ap}
-use Prim.Native.Nat.{◌≤◌, ◌-◌}
 use mathlib.Core.Path.{◌≡◌, refl, ◌∙◌}
 use native.Mathlib.Omega.{arith}
 use lib.ListN.{take, drop}
 use Rattle.rules.specs.Basics.{every}
 use Rattle.text.specs.Characters.{is_ascii}
 use Rattle.text.proofs.Following.{every_more}
-use borrow.Author.Rules.{rules}
 use Rattle.text.proofs.is_ascii_block.Goals as goal
 
 pub loop-k-init : goal.loop-k-init

@@ -1,13 +1,9 @@
 -- `text::is_ascii_block` meets its contract. The loop's invariant: `all` says whether the bytes passed are ASCII.
-use mathlib.Core.Path.{ap}
 use Prim.Native.Nat.{◌≤◌, ◌-◌}
-use mathlib.Core.Path.{◌≡◌, refl, ◌∙◌}
-use native.Mathlib.Omega.{arith}
+use mathlib.Core.Path.{◌≡◌}
 use lib.ListN.{take, drop}
 use Rattle.rules.specs.Basics.{every}
 use Rattle.text.specs.Characters.{is_ascii}
-use Rattle.text.proofs.Following.{every_more}
-use borrow.Author.Rules.{rules}
 use Rattle.text.proofs.is_ascii_block.Given as goal
 
 abbrev pub invariant-loop-k : goal.invariant-loop-k

@@ -1,10 +1,6 @@
-use Prim.Native.Nat.{◌≤◌, ◌-◌}
-use mathlib.Core.Path.{◌≡◌, refl, sym, ◌∙◌}
+use mathlib.Core.Path.{refl, sym, ◌∙◌}
 use native.Mathlib.Omega.{arith}
-use lib.ListN.{length, drop}
-use Rattle.rules.specs.Basics.{same}
 use Rattle.text.proofs.Sameness.{same_lengths, same_more, same_differs, same_end}
-use borrow.Author.Rules.{rules}
 use Rattle.text.proofs.is_same.Goals as goal
 
 pub returns-then-a-b : goal.returns-then-a-b

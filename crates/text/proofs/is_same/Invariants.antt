@@ -1,11 +1,8 @@
 -- `text::is_same` meets its contract. The loop's invariant: the texts are the same if what is left of them is.
 use Prim.Native.Nat.{◌≤◌, ◌-◌}
-use mathlib.Core.Path.{◌≡◌, refl, sym, ◌∙◌}
-use native.Mathlib.Omega.{arith}
+use mathlib.Core.Path.{◌≡◌}
 use lib.ListN.{length, drop}
 use Rattle.rules.specs.Basics.{same}
-use Rattle.text.proofs.Sameness.{same_lengths, same_more, same_differs, same_end}
-use borrow.Author.Rules.{rules}
 use Rattle.text.proofs.is_same.Given as goal
 
 abbrev pub invariant-loop-i : goal.invariant-loop-i

@@ -1,10 +1,8 @@
-use Prim.Native.Nat.{◌≤◌, ◌-◌}
-use mathlib.Core.Path.{◌≡◌, refl, sym, ◌∙◌, ap}
+use mathlib.Core.Path.{refl, sym, ◌∙◌, ap}
 use native.Mathlib.Omega.{arith}
-use lib.ListN.{length, drop, drop_of_length-le}
+use lib.ListN.{drop_of_length-le}
 use Rattle.rules.specs.Utf8.{is_utf8, follows}
 use Rattle.text.proofs.Following.{char-high, no_char, after-char, after_ascii}
-use borrow.Author.Rules.{rules}
 use Rattle.text.proofs.is_utf8.Goals as goal
 
 pub loop-i-init : goal.loop-i-init

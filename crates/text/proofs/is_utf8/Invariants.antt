@@ -1,11 +1,8 @@
 -- `text::is_utf8` meets its contract. The loop's invariant: the text is UTF-8 exactly if what is left is.
 use Prim.Native.Nat.{◌≤◌, ◌-◌}
-use mathlib.Core.Path.{◌≡◌, refl, sym, ◌∙◌, ap}
-use native.Mathlib.Omega.{arith}
-use lib.ListN.{length, drop, drop_of_length-le}
-use Rattle.rules.specs.Utf8.{is_utf8, follows}
-use Rattle.text.proofs.Following.{char-high, no_char, after-char, after_ascii}
-use borrow.Author.Rules.{rules}
+use mathlib.Core.Path.{◌≡◌}
+use lib.ListN.{length, drop}
+use Rattle.rules.specs.Utf8.{is_utf8}
 use Rattle.text.proofs.is_utf8.Given as goal
 
 abbrev pub invariant-loop-i : goal.invariant-loop-i

@@ -1,11 +1,6 @@
 use mathlib.Core.Path.{sym, ◌∙◌}
-use borrow.Author.Tests.{not-false}
-use Prim.Native.Nat.{◌-◌}
 use native.Mathlib.Omega.{arith}
-use lib.ListN.{length}
-use Rattle.text.specs.Characters.{Skips}
 use Rattle.text.proofs.Following.{skips_none, skips_block}
-use borrow.Author.Rules.{rules}
 use Rattle.text.proofs.skip_ascii_blocks.Goals as goal
 
 pub loop-i-init : goal.loop-i-init

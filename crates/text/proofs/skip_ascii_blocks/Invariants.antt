@@ -1,12 +1,7 @@
 -- `text::skip_ascii_blocks` meets its contract. The loop's invariant: what is passed is whole characters.
-use mathlib.Core.Path.{sym, ◌∙◌}
-use borrow.Author.Tests.{not-false}
 use Prim.Native.Nat.{◌-◌}
-use native.Mathlib.Omega.{arith}
 use lib.ListN.{length}
 use Rattle.text.specs.Characters.{Skips}
-use Rattle.text.proofs.Following.{skips_none, skips_block}
-use borrow.Author.Rules.{rules}
 use Rattle.text.proofs.skip_ascii_blocks.Given as goal
 
 abbrev pub invariant-loop-i : goal.invariant-loop-i

@@ -1,9 +1,7 @@
 -- `timestamp::is_date` meets its contract.
 use Rattle.timestamp.proofs.Months.{first-days, last_days}
 use Rattle.rules.proofs.Tests.{is_from-true_lem}
-use borrow.Author.Tests.{not-true, not-false}
 use mathlib.Core.Path.{refl, sym, ◌∙◌}
-use borrow.Author.Rules.{rules}
 use Rattle.timestamp.proofs.is_date.Goals as goal
 
 pub returns-then-not-in_range : goal.returns-then-not-in_range

@@ -1,6 +1,5 @@
 -- `timestamp::is_zone` meets its contract.
 use Rattle.timestamp.proofs.Ranges.{plus-small, minus-small}
-use borrow.Author.Rules.{rules}
 use Rattle.timestamp.proofs.is_zone.Goals as goal
 
 pub is_offset_time-requires : goal.is_offset_time-requires

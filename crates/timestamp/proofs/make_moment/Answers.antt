@@ -4,7 +4,6 @@ use mathlib.Core.Path.{◌≡◌}
 use native.Mathlib.Omega.{arith}
 use Rattle.timestamp.specs.Moments.{start_written, moment_written}
 use Rattle.timestamp.proofs.Ranges.{date-range, clock-range}
-use borrow.Author.Rules.{rules}
 use Rattle.timestamp.proofs.make_moment.Goals as goal
 
 pub of_date-date-requires : goal.of_date-date-requires

@@ -2,7 +2,6 @@
 use mathlib.Core.Path.{refl}
 use native.Mathlib.Omega.{arith}
 use Rattle.timestamp.proofs.Ranges.{plus-small, minus-small, plus-most, minus-most}
-use borrow.Author.Rules.{rules}
 use Rattle.timestamp.proofs.minutes_to_add.Goals as goal
 
 pub overflow_mul-result : goal.overflow_mul-result

@@ -2,10 +2,8 @@
 use Rattle.timestamp.proofs.Answers.{found_form, found_fourteen, wrong_form, impossible, moment_is, possible}
 use Rattle.timestamp.specs.Moments.{moment_of}
 use Rattle.rules.specs.Refusal.{answered}
-use borrow.Author.Tests.{not-true, not-false}
 use mathlib.Core.Bool.{true, false}
 use mathlib.Core.Path.{refl, sym, ◌∙◌, ap}
-use borrow.Author.Rules.{rules}
 use Rattle.timestamp.proofs.read.Goals as goal
 
 pub returns-then-not-is_date : goal.returns-then-not-is_date

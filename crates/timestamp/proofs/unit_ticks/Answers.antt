@@ -3,7 +3,6 @@ use mathlib.Core.Path.{◌≡◌, refl}
 use native.Mathlib.Omega.{arith}
 use Rattle.timestamp.specs.Moments.{unit_ticks}
 use Rattle.timestamp.proofs.Ranges.{year-most, month_most, digit_most}
-use borrow.Author.Rules.{rules}
 use Rattle.timestamp.proofs.unit_ticks.Goals as goal
 
 pub overflow_mul-result : goal.overflow_mul-result

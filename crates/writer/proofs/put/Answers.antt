@@ -1,9 +1,7 @@
-use borrow.Author.Rules.{rules}
 use native.Mathlib.Omega.{arith}
-use Prim.Native.Nat.{◌+◌, ◌-◌, ◌≤◌}
+use Prim.Native.Nat.{◌+◌}
 use mathlib.Core.Path.{◌≡◌, refl, sym, ◌∙◌}
-use lib.ListN.{length, drop, length-set}
-use Rattle.writer.specs.Placing.{placed}
+use lib.ListN.{length-set}
 use Rattle.writer.proofs.Placing.{byte_put, bytes-put}
 use Rattle.writer.proofs.put.Goals as goal
 

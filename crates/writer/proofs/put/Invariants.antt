@@ -1,11 +1,8 @@
 -- `writer::put` meets its contract. The loop's invariant: with the bytes that are left, memory is as it should be.
-use borrow.Author.Rules.{rules}
-use native.Mathlib.Omega.{arith}
 use Prim.Native.Nat.{◌+◌, ◌-◌, ◌≤◌}
-use mathlib.Core.Path.{◌≡◌, refl, sym, ◌∙◌}
-use lib.ListN.{length, drop, length-set}
+use mathlib.Core.Path.{◌≡◌}
+use lib.ListN.{length, drop}
 use Rattle.writer.specs.Placing.{placed}
-use Rattle.writer.proofs.Placing.{byte_put, bytes-put}
 use Rattle.writer.proofs.put.Given as goal
 
 abbrev pub invariant-loop-k : goal.invariant-loop-k

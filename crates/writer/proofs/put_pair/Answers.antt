@@ -1,5 +1,4 @@
 -- `writer::put_pair` meets its contract.
-use borrow.Author.Rules.{rules}
 use native.Mathlib.Omega.{arith}
 use mathlib.Core.Path.{refl}
 use lib.ListN.{length-set}
@@ -11,8 +10,11 @@ pub bounds-out-at-2 : goal.bounds-out-at-2
 bounds-out-at-2 c = rw length-set (omega arith)
 
 pub returns : goal.returns
-returns c = record { value = refl; put = record {
+returns c = record {
+  value = refl;
+  put = record {
     room = omega (arith, digits_of-length_lem 2 c.args.n);
     next_is = omega (arith, digits_of-length_lem 2 c.args.n);
     bytes_are = pair_put c.args.at c.args.n c.args.out.now c.requires.fact_1 c.requires.fact_2;
-  } }
+  };
+}

@@ -1,10 +1,6 @@
-use Prim.Native.Nat.{◌-◌}
 use native.Mathlib.Omega.{arith}
-use lib.ListN.{length}
-use borrow.Author.Rules.{rules}
 use Rattle.element.proofs.Walks.{walk_less}
-use Rattle.comparison.specs.Meaning.{answer_meant}
-use Rattle.comparison.proofs.Parts.{Compared, parts_begin, part, parts_more, parts-end, parts_over, parts_under}
+use Rattle.comparison.proofs.Parts.{parts_begin, part, parts_more, parts-end, parts_over, parts_under}
 use Rattle.comparison.proofs.names.compare_names.Goals as goal
 
 pub loop-p-init : goal.loop-p-init

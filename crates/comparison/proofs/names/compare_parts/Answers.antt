@@ -2,7 +2,6 @@
 use mathlib.Core.Path.{refl, ◌∙◌, ap}
 use Rattle.rules.specs.Comparison.{answer}
 use Rattle.comparison.proofs.Answers.{both_tests, either_test, chosen, left_over}
-use borrow.Author.Rules.{rules}
 use Rattle.comparison.proofs.names.compare_parts.Goals as goal
 
 pub returns-then-has : goal.returns-then-has

@@ -3,7 +3,6 @@ use native.Mathlib.Omega.{arith}
 use Rattle.rules.specs.Basics.{same}
 use Rattle.element.proofs.Asked.{absent, standing}
 use Rattle.comparison.proofs.Options.{lacks, left_absent, right_absent, both-present}
-use borrow.Author.Rules.{rules}
 use Rattle.comparison.proofs.texts.same_attribute.Goals as goal
 
 pub returns-then-p-eq0 : goal.returns-then-p-eq0

@@ -1,5 +1,4 @@
 -- `comparison::times::compare_endpoints` meets its contract.
-use borrow.Author.Rules.{rules}
 use Rattle.comparison.proofs.times.compare_endpoints.Goals as goal
 
 pub returns-in-Valued : goal.returns-in-Valued

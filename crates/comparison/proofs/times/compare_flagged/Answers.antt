@@ -2,7 +2,6 @@
 use Rattle.datatype.specs.Bounds.{endpoint_meant}
 use Rattle.comparison.proofs.Answers.{both_tests}
 use Rattle.comparison.proofs.Flags.{flags_where}
-use borrow.Author.Rules.{rules}
 use Rattle.comparison.proofs.times.compare_flagged.Goals as goal
 
 pub returns : goal.returns

@@ -3,7 +3,6 @@ use mathlib.Core.Path.{◌∙◌}
 use Rattle.datatype.specs.declared.bounds.Side.TheVariants.{Low, High}
 use Rattle.comparison.proofs.Answers.{both-answers}
 use Rattle.comparison.proofs.Sayings.{said_sides}
-use borrow.Author.Rules.{rules}
 use Rattle.comparison.proofs.times.compare_intervals.Goals as goal
 
 pub returns : goal.returns

@@ -1,5 +1,4 @@
 -- `comparison::times::compare_said` meets its contract.
-use borrow.Author.Rules.{rules}
 use Rattle.comparison.proofs.times.compare_said.Goals as goal
 
 pub returns : goal.returns

@@ -1,7 +1,6 @@
 -- `comparison::times::compare_times` meets its contract.
 use native.Mathlib.Omega.{arith}
 use Rattle.comparison.proofs.Sayings.{said_values}
-use borrow.Author.Rules.{rules}
 use Rattle.comparison.proofs.times.compare_times.Goals as goal
 
 pub time_at-first-requires : goal.time_at-first-requires

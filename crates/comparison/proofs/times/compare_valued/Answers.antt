@@ -1,7 +1,6 @@
 -- `comparison::times::compare_valued` meets its contract.
 use mathlib.Core.Path.{sym, ◌∙◌}
 use Rattle.comparison.proofs.Flags.{also_yes}
-use borrow.Author.Rules.{rules}
 use Rattle.comparison.proofs.times.compare_valued.Goals as goal
 
 pub returns-in-Valued : goal.returns-in-Valued

@@ -2,7 +2,6 @@
 use mathlib.Core.Path.{◌∙◌, ap}
 use Rattle.rules.specs.Comparison.{answer}
 use Rattle.comparison.proofs.Answers.{both_tests}
-use borrow.Author.Rules.{rules}
 use Rattle.comparison.proofs.values.compare_money.Goals as goal
 
 pub returns : goal.returns

@@ -4,7 +4,6 @@ use Rattle.rules.specs.Comparison.{same_amount}
 use Rattle.form.specs.Amounts.{amount_of}
 use Rattle.comparison.proofs.Options.{left_absent, both-present}
 use Rattle.comparison.proofs.Signs.{same_number}
-use borrow.Author.Rules.{rules}
 use Rattle.comparison.proofs.values.same_amount.Goals as goal
 
 pub returns-in_default : goal.returns-in_default

@@ -1,7 +1,6 @@
 -- `comparison::values::same_value` meets its contract.
 use Rattle.rules.specs.Comparison.{same_amount}
 use Rattle.comparison.proofs.Options.{carried}
-use borrow.Author.Rules.{rules}
 use Rattle.comparison.proofs.values.same_value.Goals as goal
 
 pub amount_at-requires : goal.amount_at-requires

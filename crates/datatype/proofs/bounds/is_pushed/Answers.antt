@@ -1,5 +1,4 @@
 -- `datatype::bounds::is_pushed` meets its contract.
-use borrow.Author.Rules.{rules}
 use Rattle.datatype.proofs.bounds.is_pushed.Goals as goal
 
 pub returns-in-Low : goal.returns-in-Low

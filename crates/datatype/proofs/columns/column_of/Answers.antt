@@ -3,7 +3,6 @@ use mathlib.Core.Path.{sym, ◌∙◌}
 use Rattle.datatype.specs.Meaning.{kind_meant}
 use Rattle.datatype.specs.Tables.{standing_meant}
 use Rattle.datatype.proofs.Standings.{typed-columns, untyped_columns}
-use borrow.Author.Rules.{rules}
 use Rattle.datatype.proofs.columns.column_of.Goals as goal
 
 pub returns-then-is_typed : goal.returns-then-is_typed

@@ -1,6 +1,5 @@
 -- `datatype::columns::null_column` meets its contract.
 use mathlib.Core.Path.{sym, ◌∙◌}
-use borrow.Author.Rules.{rules}
 use Rattle.datatype.proofs.columns.null_column.Goals as goal
 
 pub returns-then-is_nullable : goal.returns-then-is_nullable

@@ -1,6 +1,5 @@
 -- `datatype::columns::own_column` meets its contract.
 use Rattle.rules.specs.Types.{line_of}
-use borrow.Author.Rules.{rules}
 use Rattle.datatype.proofs.columns.own_column.Goals as goal
 
 pub returns-in-Ts : goal.returns-in-Ts

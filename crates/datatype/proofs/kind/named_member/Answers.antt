@@ -1,6 +1,5 @@
 -- `datatype::kind::named_member` meets its contract.
 use mathlib.Core.Path.{refl, sym, ◌∙◌}
-use borrow.Author.Rules.{rules}
 use Rattle.rules.specs.Basics.{bytes, every, exists}
 use Rattle.datatype.proofs.Plainly.{quoted}
 use Rattle.datatype.proofs.kind.named_member.Goals as goal

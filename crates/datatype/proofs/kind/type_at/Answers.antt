@@ -4,7 +4,6 @@ use mathlib.Core.Bool.{true, false}
 use Rattle.element.proofs.Asked.{absent, standing}
 use Rattle.datatype.specs.Meaning.{types_for}
 use Rattle.datatype.proofs.Naming.{type-none, type-some}
-use borrow.Author.Rules.{rules}
 use Rattle.datatype.proofs.kind.type_at.Goals as goal
 
 pub returns-then-place-eq0 : goal.returns-then-place-eq0

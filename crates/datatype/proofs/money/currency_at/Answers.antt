@@ -1,7 +1,6 @@
 -- `datatype::money::currency_at` meets its contract.
 use native.Mathlib.Omega.{arith}
 use Rattle.element.proofs.Asked.{absent, standing_to}
-use borrow.Author.Rules.{rules}
 use Rattle.datatype.proofs.money.currency_at.Goals as goal
 
 pub returns-then-place-eq0 : goal.returns-then-place-eq0

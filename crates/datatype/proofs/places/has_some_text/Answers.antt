@@ -1,6 +1,5 @@
 -- `datatype::places::has_some_text` meets its contract.
 use Rattle.element.proofs.Asked.{absent, standing}
-use borrow.Author.Rules.{rules}
 use Rattle.datatype.proofs.places.has_some_text.Goals as goal
 
 pub returns-then-place-eq0 : goal.returns-then-place-eq0

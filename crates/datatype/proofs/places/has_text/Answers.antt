@@ -1,7 +1,6 @@
 -- `datatype::places::has_text` meets its contract.
 use Rattle.element.proofs.Asked.{absent, standing}
 use Rattle.datatype.proofs.Naming.{swapped}
-use borrow.Author.Rules.{rules}
 use Rattle.datatype.proofs.places.has_text.Goals as goal
 
 pub returns-then-place-eq0 : goal.returns-then-place-eq0

@@ -1,6 +1,5 @@
 -- `datatype::rows::next_child` meets its contract: the children of the kind's row, one after another.
 use Rattle.rules.specs.Types.{line_of}
-use borrow.Author.Rules.{rules}
 use Rattle.datatype.proofs.rows.next_child.Goals as goal
 
 pub returns-in-Empty : goal.returns-in-Empty

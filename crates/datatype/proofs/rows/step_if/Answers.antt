@@ -2,7 +2,6 @@
 use mathlib.Core.Path.{sym, ◌∙◌}
 use mathlib.Core.Bool.{and-false}
 use Rattle.rules.specs.Basics.{same}
-use borrow.Author.Rules.{rules}
 use Rattle.datatype.proofs.rows.step_if.Goals as goal
 
 pub returns-then-is_same : goal.returns-then-is_same

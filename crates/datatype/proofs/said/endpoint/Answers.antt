@@ -1,5 +1,4 @@
 -- `datatype::said::endpoint` meets its contract.
-use borrow.Author.Rules.{rules}
 use Rattle.datatype.proofs.said.endpoint.Goals as goal
 
 pub returns-in-Valued : goal.returns-in-Valued

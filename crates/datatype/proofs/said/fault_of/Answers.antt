@@ -1,6 +1,5 @@
 -- `datatype::said::fault_of` meets its contract.
 use Rattle.rules.specs.Refusal.{first_of}
-use borrow.Author.Rules.{rules}
 use Rattle.datatype.proofs.said.fault_of.Goals as goal
 
 pub returns-in-At : goal.returns-in-At

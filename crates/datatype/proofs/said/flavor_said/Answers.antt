@@ -1,6 +1,5 @@
 -- `datatype::said::flavor_said` meets its contract.
 use mathlib.Core.Path.{sym, ◌∙◌}
-use borrow.Author.Rules.{rules}
 use Rattle.datatype.proofs.said.flavor_said.Goals as goal
 
 pub returns-then-has_text : goal.returns-then-has_text

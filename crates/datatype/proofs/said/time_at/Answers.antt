@@ -3,7 +3,6 @@ use mathlib.Core.Path.{refl, sym}
 use native.Mathlib.Omega.{arith}
 use Rattle.rules.specs.Refusal.{first_of}
 use Rattle.element.proofs.Asked.{absent, standing_to}
-use borrow.Author.Rules.{rules}
 use Rattle.datatype.proofs.said.time_at.Goals as goal
 
 pub returns-then-place-eq0 : goal.returns-then-place-eq0

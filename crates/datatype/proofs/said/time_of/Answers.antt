@@ -4,7 +4,6 @@ use mathlib.Core.Bool.{not}
 use borrow.Author.Tests.{ne_eqb}
 use native.Mathlib.Omega.{arith}
 use Rattle.element.proofs.Asked.{absent, present}
-use borrow.Author.Rules.{rules}
 use Rattle.datatype.proofs.said.time_of.Goals as goal
 
 pub time_at-time-requires : goal.time_at-time-requires

@@ -2,11 +2,9 @@
 use Prim.Native.Nat.{ℕ}
 use mathlib.Core.Path.{sym, ◌∙◌, ap}
 use mathlib.Core.List.{List}
-use borrow.Author.Tests.{not-true, not-false}
 use Rattle.rules.specs.Basics.{same}
 use Rattle.rules.proofs.Tests.{clash}
 use Rattle.datatype.proofs.Finding.{seen_before, other_name, seen_now}
-use borrow.Author.Rules.{rules}
 use Rattle.datatype.proofs.sides.after_child.Goals as goal
 
 pub returns-then-first : goal.returns-then-first

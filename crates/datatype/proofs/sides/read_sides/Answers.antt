@@ -1,11 +1,7 @@
-use Prim.Native.Nat.{◌-◌}
 use mathlib.Core.Path.{refl}
 use native.Mathlib.Omega.{arith}
-use borrow.Author.Rules.{rules}
-use lib.ListN.{length}
-use Rattle.datatype.specs.Sides.{Settled}
-use Rattle.element.proofs.Walks.{Walked, walk_begins, walk_less, walk_goes, walk_ends}
-use Rattle.datatype.proofs.Finding.{Sought, sought_goes, sought_ends}
+use Rattle.element.proofs.Walks.{walk_begins, walk_less, walk_goes, walk_ends}
+use Rattle.datatype.proofs.Finding.{sought_goes, sought_ends}
 use Rattle.datatype.proofs.sides.read_sides.Goals as goal
 
 pub loop-i-init : goal.loop-i-init

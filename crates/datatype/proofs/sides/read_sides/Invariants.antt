@@ -1,12 +1,9 @@
 -- `datatype::sides::read_sides` meets its contract.
 use Prim.Native.Nat.{◌-◌}
-use mathlib.Core.Path.{refl}
-use native.Mathlib.Omega.{arith}
-use borrow.Author.Rules.{rules}
 use lib.ListN.{length}
 use Rattle.datatype.specs.Sides.{Settled}
-use Rattle.element.proofs.Walks.{Walked, walk_begins, walk_less, walk_goes, walk_ends}
-use Rattle.datatype.proofs.Finding.{Sought, sought_goes, sought_ends}
+use Rattle.element.proofs.Walks.{Walked}
+use Rattle.datatype.proofs.Finding.{Sought}
 use Rattle.datatype.proofs.sides.read_sides.Given as goal
 
 abbrev pub invariant-loop-i : goal.invariant-loop-i

@@ -1,5 +1,4 @@
 -- `datatype::table::line_of` meets its contract: each kind's line, by the rules' line.
-use mathlib.Core.Path.{refl}
 use Rattle.rules.specs.Types.{line_of}
 use borrow.Author.Rules.{rules}
 use Rattle.datatype.proofs.table.line_of.Goals as goal

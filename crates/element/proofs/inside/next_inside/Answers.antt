@@ -3,7 +3,6 @@ use Rattle.element.proofs.Rows.{stands}
 use Rattle.rules.proofs.Tests.{clash}
 use mathlib.Core.Bool.{true, false, not}
 use mathlib.Core.Path.{sym, ◌∙◌, ap}
-use borrow.Author.Rules.{rules}
 use Rattle.element.proofs.inside.next_inside.Goals as goal
 
 pub returns-then-not-full-depth : goal.returns-then-not-full-depth

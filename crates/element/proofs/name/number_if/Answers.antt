@@ -1,5 +1,4 @@
-use mathlib.Core.Path.{◌≡◌, sym, ◌∙◌}
-use borrow.Author.Rules.{rules}
+use mathlib.Core.Path.{sym, ◌∙◌}
 use Rattle.element.proofs.name.number_if.Goals as goal
 
 pub returns-then-is_same : goal.returns-then-is_same

@@ -1,12 +1,9 @@
 use Rattle.element.proofs.Numbers.{initial, no_initial, no_name, begins_with}
-use mathlib.Core.List.{List, []}
-use lib.ListN.{length}
 use native.Mathlib.Omega.{arith}
-use Rattle.element.specs.Names.{known, number_from, number_of}
+use Rattle.element.specs.Names.{known, number_from}
 use Rattle.rules.specs.Basics.{bytes, same}
 use mathlib.Core.Bool.{cond}
-use mathlib.Core.Path.{◌≡◌, refl, sym, ◌∙◌}
-use borrow.Author.Rules.{rules}
+use mathlib.Core.Path.{refl, ◌∙◌}
 use Rattle.element.proofs.name.number_of.Goals as goal
 
 pub returns-then-name-eq0 : goal.returns-then-name-eq0

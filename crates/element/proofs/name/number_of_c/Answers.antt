@@ -1,5 +1,4 @@
 use Rattle.element.proofs.Numbers.{five}
-use borrow.Author.Rules.{rules}
 use Rattle.element.proofs.name.number_of_c.Goals as goal
 
 pub returns : goal.returns

@@ -1,6 +1,5 @@
 -- `element::name::plain_at` meets its contract.
 use Rattle.element.proofs.Plain.{not_plain, plain_if}
-use borrow.Author.Rules.{rules}
 use Rattle.element.proofs.name.plain_at.Goals as goal
 
 pub returns-then-at-s : goal.returns-then-at-s

@@ -1,6 +1,5 @@
 -- `element::name::plain_c` meets its contract.
 use Rattle.element.proofs.Plain.{plain_if}
-use borrow.Author.Rules.{rules}
 use Rattle.element.proofs.name.plain_c.Goals as goal
 
 pub returns-then-code-lt-KNOWN : goal.returns-then-code-lt-KNOWN

@@ -1,6 +1,5 @@
 -- `element::name::plain_if` meets its contract.
 use mathlib.Core.Path.{sym, ◌∙◌}
-use borrow.Author.Rules.{rules}
 use Rattle.element.proofs.name.plain_if.Goals as goal
 
 pub returns-then-stands_at : goal.returns-then-stands_at

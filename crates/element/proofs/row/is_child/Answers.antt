@@ -1,7 +1,6 @@
 use Rattle.element.proofs.Rows.{too_short, two_bytes}
 use Rattle.rules.proofs.Tests.{clash}
 use native.Mathlib.Omega.{arith}
-use borrow.Author.Rules.{rules}
 use Rattle.element.proofs.row.is_child.Goals as goal
 
 pub returns-then-s-at-lt2 : goal.returns-then-s-at-lt2

@@ -5,7 +5,6 @@ use lib.Dec.{eqb}
 use mathlib.Core.Bool.{not}
 use Prim.Native.Nat.{◌-◌}
 use native.Mathlib.Omega.{arith}
-use borrow.Author.Rules.{rules}
 use Rattle.element.proofs.row.past_element.Goals as goal
 
 pub overflow_sub-depth : goal.overflow_sub-depth

@@ -1,7 +1,6 @@
 use Rattle.element.proofs.Rows.{ends_there, ends_nowhere}
 use Rattle.text.proofs.Reading.{answer, found, none_of}
 use native.Mathlib.Omega.{arith}
-use borrow.Author.Rules.{rules}
 use Rattle.element.proofs.row.past_end_tag.Goals as goal
 
 pub returns-in-At : goal.returns-in-At

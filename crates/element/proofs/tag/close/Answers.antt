@@ -2,7 +2,6 @@ use Rattle.element.proofs.Tagging.{opens, shuts}
 use Rattle.text.proofs.Reading.{answer, found}
 use native.Mathlib.Omega.{arith}
 use mathlib.Core.Path.{refl}
-use borrow.Author.Rules.{rules}
 use Rattle.element.proofs.tag.close.Goals as goal
 
 pub returns-in-At : goal.returns-in-At

@@ -1,5 +1,4 @@
 -- `element::tag::has` meets its contract.
-use borrow.Author.Rules.{rules}
 use Rattle.element.proofs.Asked.{present}
 use Rattle.element.proofs.tag.has.Goals as goal
 

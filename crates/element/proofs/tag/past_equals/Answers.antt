@@ -1,6 +1,5 @@
 -- `element::tag::past_equals` meets its contract.
 use native.Mathlib.Omega.{arith}
-use borrow.Author.Rules.{rules}
 use Rattle.element.proofs.Quotes.{equals, valued, value_here}
 use Rattle.element.proofs.tag.past_equals.Goals as goal
 use Rattle.element.proofs.tag.past_equals.Goals.{then-i-s+else-value-s, else-i-s}

@@ -1,6 +1,5 @@
 use Rattle.element.proofs.Tagging.{past_there, past-nothing}
 use Rattle.text.proofs.Reading.{answer, found}
-use borrow.Author.Rules.{rules}
 use Rattle.element.proofs.tag.past_literal.Goals as goal
 
 pub returns-in-At : goal.returns-in-At

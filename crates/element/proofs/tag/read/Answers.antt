@@ -1,6 +1,5 @@
 use Rattle.element.proofs.Tagging.{tag_of, tag_in, no_tag, no_tag_in}
 use Rattle.markup.proofs.Tags.{head_found, head-none}
-use borrow.Author.Rules.{rules}
 use Rattle.element.proofs.tag.read.Goals as goal
 
 pub returns-in_default : goal.returns-in_default

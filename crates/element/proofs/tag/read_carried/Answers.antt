@@ -1,8 +1,5 @@
-use Prim.Native.Nat.{◌-◌}
 use native.Mathlib.Omega.{arith}
-use borrow.Author.Rules.{rules}
-use lib.ListN.{length}
-use Rattle.element.proofs.Placing.{put, kept, known-counted, other-counted, turn, So, so_none, so_step, so_done, further}
+use Rattle.element.proofs.Placing.{put, kept, known-counted, other-counted, turn, so_none, so_step, so_done, further}
 use Rattle.element.proofs.tag.read_carried.Goals as goal
 
 pub loop-number-init : goal.loop-number-init

@@ -1,9 +1,7 @@
 -- `element::tag::read_carried` meets its contract.
 use Prim.Native.Nat.{◌-◌}
-use native.Mathlib.Omega.{arith}
-use borrow.Author.Rules.{rules}
 use lib.ListN.{length}
-use Rattle.element.proofs.Placing.{put, kept, known-counted, other-counted, turn, So, so_none, so_step, so_done, further}
+use Rattle.element.proofs.Placing.{So}
 use Rattle.element.proofs.tag.read_carried.Given as goal
 
 abbrev pub invariant-loop-number : goal.invariant-loop-number

@@ -3,7 +3,6 @@ use native.Mathlib.Omega.{arith}
 use Rattle.rules.specs.Markup.{name}
 use Rattle.text.proofs.Reading.{none_of, answer, found}
 use Rattle.element.proofs.Plain.{plain_start}
-use borrow.Author.Rules.{rules}
 use Rattle.element.proofs.tag.start_at.Goals as goal
 
 pub overflow_add-name_end : goal.overflow_add-name_end

@@ -1,7 +1,6 @@
 -- `element::value::end` meets its contract.
 use mathlib.Core.Path.{refl}
 use native.Mathlib.Omega.{arith}
-use borrow.Author.Rules.{rules}
 use Rattle.element.proofs.Quotes.{ends_at, past_end, value-past}
 use Rattle.element.proofs.value.end.Goals as goal
 

@@ -1,9 +1,5 @@
-use Prim.Native.Nat.{◌-◌, ◌≤◌}
-use mathlib.Core.Bool.{Bool}
 use native.Mathlib.Omega.{arith}
-use lib.ListN.{length}
-use Rattle.element.proofs.Decoded.{Says, on-bounds, says-end, says-short, says_other, says_more}
-use borrow.Author.Rules.{rules}
+use Rattle.element.proofs.Decoded.{on-bounds, says-end, says-short, says_other, says_more}
 use Rattle.element.proofs.value.is.Goals as goal
 
 pub loop-c-init : goal.loop-c-init

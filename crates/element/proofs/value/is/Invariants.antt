@@ -1,10 +1,8 @@
 -- `element::value::is` meets its contract. The loop's invariant: an answer on what is left of both texts is an answer on both.
 use Prim.Native.Nat.{◌-◌, ◌≤◌}
 use mathlib.Core.Bool.{Bool}
-use native.Mathlib.Omega.{arith}
 use lib.ListN.{length}
-use Rattle.element.proofs.Decoded.{Says, on-bounds, says-end, says-short, says_other, says_more}
-use borrow.Author.Rules.{rules}
+use Rattle.element.proofs.Decoded.{Says}
 use Rattle.element.proofs.value.is.Given as goal
 
 abbrev pub invariant-loop-c : goal.invariant-loop-c

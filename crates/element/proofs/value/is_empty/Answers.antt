@@ -1,7 +1,6 @@
 -- `element::value::is_empty` meets its contract.
 use mathlib.Core.Path.{◌∙◌}
 use Rattle.element.proofs.Decoded.{chars-empty}
-use borrow.Author.Rules.{rules}
 use Rattle.element.proofs.value.is_empty.Goals as goal
 
 pub returns : goal.returns

@@ -1,10 +1,6 @@
-use Prim.Native.Nat.{◌-◌, ◌≤◌}
 use mathlib.Core.Path.{◌∙◌}
-use mathlib.Core.Bool.{Bool}
 use native.Mathlib.Omega.{arith}
-use lib.ListN.{length}
-use Rattle.element.proofs.Decoded.{Agree, on-bounds, agree_end, agree_short, agree_other, agree_more}
-use borrow.Author.Rules.{rules}
+use Rattle.element.proofs.Decoded.{on-bounds, agree_end, agree_short, agree_other, agree_more}
 use Rattle.element.proofs.value.is_same.Goals as goal
 
 pub start-onset-requires : goal.start-onset-requires

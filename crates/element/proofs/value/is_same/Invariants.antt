@@ -1,11 +1,8 @@
 -- `element::value::is_same` meets its contract. The loop's invariant: an answer on what is left of both texts is an answer on both.
 use Prim.Native.Nat.{◌-◌, ◌≤◌}
-use mathlib.Core.Path.{◌∙◌}
 use mathlib.Core.Bool.{Bool}
-use native.Mathlib.Omega.{arith}
 use lib.ListN.{length}
-use Rattle.element.proofs.Decoded.{Agree, on-bounds, agree_end, agree_short, agree_other, agree_more}
-use borrow.Author.Rules.{rules}
+use Rattle.element.proofs.Decoded.{Agree}
 use Rattle.element.proofs.value.is_same.Given as goal
 
 abbrev pub invariant-loop-c : goal.invariant-loop-c

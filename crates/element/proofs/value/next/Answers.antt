@@ -3,7 +3,6 @@ use Rattle.markup.proofs.Characters.{not_quote, simple_char}
 use Rattle.element.proofs.Decoded.{chars-end, chars-next, chars-on}
 use Rattle.element.specs.Texts.{no_char_on}
 use Rattle.text.proofs.Reading.{answer}
-use borrow.Author.Rules.{rules}
 use Rattle.element.proofs.value.next.Goals as goal
 
 pub returns-then-is_simple : goal.returns-then-is_simple

@@ -1,12 +1,8 @@
 -- `element::value::quote` meets its contract. The loop's invariant: an answer from here is an answer from the start.
 use Prim.Native.Nat.{ℕ, ◌≤◌, ◌-◌}
-use native.Mathlib.Omega.{arith}
-use borrow.Author.Tests.{eq-eqb, ne_eqb}
-use borrow.Author.Rules.{rules}
 use lib.ListN.{length}
 use Rattle.rules.specs.Parsers.{many}
 use Rattle.text.specs.Reads.{Good}
-use Rattle.text.proofs.Reading.{many_more, many_no, many-end}
 use Rattle.element.specs.Texts.{is_bare}
 use Rattle.element.proofs.value.quote.Given as goal
 

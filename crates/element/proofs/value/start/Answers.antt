@@ -1,7 +1,6 @@
 -- `element::value::start` meets its contract.
 use Rattle.text.proofs.Reading.{answer, found}
 use Rattle.element.proofs.Decoded.{text-start, text-none}
-use borrow.Author.Rules.{rules}
 use Rattle.element.proofs.value.start.Goals as goal
 
 pub returns-in_default : goal.returns-in_default

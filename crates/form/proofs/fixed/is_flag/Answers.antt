@@ -2,7 +2,6 @@
 use mathlib.Core.Path.{sym, ◌∙◌}
 use mathlib.Core.Bool.{or-false}
 use Rattle.rules.specs.Basics.{exists, split, one_of}
-use borrow.Author.Rules.{rules}
 use Rattle.form.proofs.fixed.is_flag.Goals as goal
 
 pub returns-then-is : goal.returns-then-is

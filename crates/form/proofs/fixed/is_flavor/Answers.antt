@@ -1,6 +1,5 @@
 -- `form::fixed::is_flavor` meets its contract.
 use Rattle.form.proofs.Choices.{flavor_groups}
-use borrow.Author.Rules.{rules}
 use Rattle.form.proofs.fixed.is_flavor.Goals as goal
 
 pub returns : goal.returns

@@ -1,7 +1,6 @@
 -- `form::fixed::is_invalid` meets its contract.
 use Rattle.rules.specs.Basics.{split}
 use Rattle.form.proofs.Choices.{one_by_one}
-use borrow.Author.Rules.{rules}
 use Rattle.form.proofs.fixed.is_invalid.Goals as goal
 
 pub returns : goal.returns

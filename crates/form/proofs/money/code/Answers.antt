@@ -1,9 +1,7 @@
 -- `form::money::code` meets its contract.
 use mathlib.Core.Path.{sym, ◌∙◌}
 use native.Mathlib.Omega.{arith}
-use borrow.Author.Tests.{not-true, not-false}
 use Rattle.form.proofs.Amounting.{currency-long, code_three}
-use borrow.Author.Rules.{rules}
 use Rattle.form.proofs.money.code.Goals as goal
 
 pub returns-then-not-is_currency : goal.returns-then-not-is_currency

@@ -1,6 +1,5 @@
 -- `form::money::is_currency` meets its contract.
 use Rattle.form.proofs.Amounting.{currency-other, currency-three}
-use borrow.Author.Rules.{rules}
 use Rattle.form.proofs.money.is_currency.Goals as goal
 
 pub returns-then-t-ne3 : goal.returns-then-t-ne3

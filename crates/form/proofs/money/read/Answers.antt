@@ -1,7 +1,6 @@
 -- `form::money::read` meets its contract.
 use native.Mathlib.Omega.{arith}
 use Rattle.form.proofs.Amounting.{amount-none, amount_longer, amount-is, units_small}
-use borrow.Author.Rules.{rules}
 use Rattle.form.proofs.money.read.Goals as goal
 
 pub returns-then-n-eq0 : goal.returns-then-n-eq0

@@ -1,6 +1,5 @@
 -- `form::money::sign_end` meets its contract.
 use Rattle.form.proofs.Amounting.{sign_end, sign_minus, sign_other}
-use borrow.Author.Rules.{rules}
 use Rattle.form.proofs.money.sign_end.Goals as goal
 
 pub returns-then-t-eq0 : goal.returns-then-t-eq0

@@ -1,6 +1,5 @@
 -- `form::name::along` meets its contract.
 use Rattle.form.proofs.Wording.{along_space, along_past, along_other, along_more}
-use borrow.Author.Rules.{rules}
 use Rattle.form.proofs.name.along.Goals as goal
 
 pub returns-then-c-eq32 : goal.returns-then-c-eq32

@@ -1,10 +1,6 @@
-use Prim.Native.Nat.{◌-◌, ◌≤◌}
-use mathlib.Core.Bool.{Bool}
 use native.Mathlib.Omega.{arith}
-use lib.ListN.{length}
-use borrow.Author.Rules.{rules}
 use Rattle.element.proofs.Decoded.{on-bounds}
-use Rattle.form.proofs.Wording.{HasWord, word_start, word_end, word_found, word_more}
+use Rattle.form.proofs.Wording.{word_start, word_end, word_found, word_more}
 use Rattle.form.proofs.name.has_word.Goals as goal
 
 pub loop-c-init : goal.loop-c-init

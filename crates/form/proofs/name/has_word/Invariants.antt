@@ -1,11 +1,8 @@
 -- `form::name::has_word` meets its contract. The loop's invariant: an answer on what is left of the text is an answer on all of it.
 use Prim.Native.Nat.{◌-◌, ◌≤◌}
 use mathlib.Core.Bool.{Bool}
-use native.Mathlib.Omega.{arith}
 use lib.ListN.{length}
-use borrow.Author.Rules.{rules}
-use Rattle.element.proofs.Decoded.{on-bounds}
-use Rattle.form.proofs.Wording.{HasWord, word_start, word_end, word_found, word_more}
+use Rattle.form.proofs.Wording.{HasWord}
 use Rattle.form.proofs.name.has_word.Given as goal
 
 abbrev pub invariant-loop-c : goal.invariant-loop-c

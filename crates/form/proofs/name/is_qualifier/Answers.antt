@@ -1,5 +1,4 @@
 -- `form::name::is_qualifier` meets its contract.
-use mathlib.Core.Path.{refl}
 use Rattle.rules.specs.Basics.{one_of}
 use Rattle.form.proofs.name.is_qualifier.Goals as goal
 

@@ -1,6 +1,5 @@
 -- `form::oid::is_number` meets its contract.
 use Rattle.form.proofs.Oids.{number-none, number-other, number-one, number_more}
-use borrow.Author.Rules.{rules}
 use Rattle.form.proofs.oid.is_number.Goals as goal
 
 pub returns-then-n-eq0 : goal.returns-then-n-eq0

@@ -1,9 +1,7 @@
 -- `form::oid::is_root` meets its contract, by a law for each way through it.
 use mathlib.Core.Path.{sym, ◌∙◌}
 use native.Mathlib.Omega.{arith}
-use borrow.Author.Tests.{not-true, not-false}
 use Rattle.form.proofs.Oids.{root-long, root-other, root-one, root-two, root-numbers}
-use borrow.Author.Rules.{rules}
 use Rattle.form.proofs.oid.is_root.Goals as goal
 
 pub returns-then-t-gt-MOST : goal.returns-then-t-gt-MOST

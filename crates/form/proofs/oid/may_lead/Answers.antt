@@ -1,9 +1,7 @@
 -- `form::oid::may_lead` meets its contract.
 use mathlib.Core.Path.{sym, ◌∙◌}
-use borrow.Author.Tests.{not-true, not-false}
 use Rattle.rules.specs.Basics.{decimal}
 use Rattle.form.proofs.Oids.{lead_over, lead_under, lead-two}
-use borrow.Author.Rules.{rules}
 use Rattle.form.proofs.oid.may_lead.Goals as goal
 
 pub returns-then-not-is_at_most : goal.returns-then-not-is_at_most

@@ -1,10 +1,5 @@
-use Prim.Native.Nat.{◌-◌, ◌≤◌}
-use mathlib.Core.Path.{◌≡◌, refl, sym, ◌∙◌}
+use mathlib.Core.Path.{refl, sym, ◌∙◌}
 use native.Mathlib.Omega.{arith}
-use borrow.Author.Tests.{not-true, not-false}
-use lib.ListN.{length, drop}
-use borrow.Author.Rules.{rules}
-use Rattle.rules.specs.Basics.{every, split}
 use Rattle.form.specs.Parted.{is_part}
 use Rattle.form.proofs.Parting.{every-not, every_last, every_more}
 use Rattle.form.proofs.parts.are_parts.Goals as goal

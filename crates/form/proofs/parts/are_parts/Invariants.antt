@@ -1,13 +1,9 @@
 -- `form::parts::are_parts` meets its contract. The loop's invariant: every part passes if every part from here on does.
 use Prim.Native.Nat.{◌-◌, ◌≤◌}
-use mathlib.Core.Path.{◌≡◌, refl, sym, ◌∙◌}
-use native.Mathlib.Omega.{arith}
-use borrow.Author.Tests.{not-true, not-false}
+use mathlib.Core.Path.{◌≡◌}
 use lib.ListN.{length, drop}
-use borrow.Author.Rules.{rules}
 use Rattle.rules.specs.Basics.{every, split}
 use Rattle.form.specs.Parted.{is_part}
-use Rattle.form.proofs.Parting.{every-not, every_last, every_more}
 use Rattle.form.proofs.parts.are_parts.Given as goal
 
 abbrev pub invariant-loop-part : goal.invariant-loop-part

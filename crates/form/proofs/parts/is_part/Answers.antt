@@ -1,5 +1,4 @@
 -- `form::parts::is_part` meets its contract.
-use borrow.Author.Rules.{rules}
 use Rattle.form.proofs.parts.is_part.Goals as goal
 
 pub returns-in-Qualifier : goal.returns-in-Qualifier

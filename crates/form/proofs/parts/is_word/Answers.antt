@@ -1,8 +1,5 @@
-use Prim.Native.Nat.{◌-◌, ◌≤◌}
-use mathlib.Core.Path.{◌≡◌, refl, sym, ◌∙◌}
+use mathlib.Core.Path.{refl, sym, ◌∙◌}
 use native.Mathlib.Omega.{arith}
-use lib.ListN.{length, drop}
-use Rattle.rules.specs.Basics.{exists, same, words}
 use Rattle.form.proofs.Parting.{exists_here, exists_last, exists_more}
 use Rattle.form.proofs.parts.is_word.Goals as goal
 

@@ -1,10 +1,8 @@
 -- `form::parts::is_word` meets its contract. The loop's invariant: the text is one of the words if it is one of those from here on.
 use Prim.Native.Nat.{◌-◌, ◌≤◌}
-use mathlib.Core.Path.{◌≡◌, refl, sym, ◌∙◌}
-use native.Mathlib.Omega.{arith}
+use mathlib.Core.Path.{◌≡◌}
 use lib.ListN.{length, drop}
 use Rattle.rules.specs.Basics.{exists, same, words}
-use Rattle.form.proofs.Parting.{exists_here, exists_last, exists_more}
 use Rattle.form.proofs.parts.is_word.Given as goal
 
 abbrev pub invariant-loop-from : goal.invariant-loop-from

@@ -1,8 +1,4 @@
-use Prim.Native.Nat.{ℕ, ◌-◌, ◌≤◌}
 use native.Mathlib.Omega.{arith}
-use lib.ListN.{length}
-use borrow.Author.Rules.{rules}
-use Rattle.form.specs.Parted.{PartAt}
 use Rattle.form.proofs.Parting.{part_here, part_stop, part_more}
 use Rattle.form.proofs.parts.part_end.Goals as goal
 

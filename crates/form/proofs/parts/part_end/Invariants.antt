@@ -1,10 +1,7 @@
 -- `form::parts::part_end` meets its contract. The loop's invariant: where a part that begins here ends, the one from the start ends too.
 use Prim.Native.Nat.{ℕ, ◌-◌, ◌≤◌}
-use native.Mathlib.Omega.{arith}
 use lib.ListN.{length}
-use borrow.Author.Rules.{rules}
 use Rattle.form.specs.Parted.{PartAt}
-use Rattle.form.proofs.Parting.{part_here, part_stop, part_more}
 use Rattle.form.proofs.parts.part_end.Given as goal
 
 abbrev pub invariant-loop-i : goal.invariant-loop-i

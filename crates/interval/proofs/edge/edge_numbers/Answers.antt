@@ -1,5 +1,4 @@
-use Rattle.std.proofs.Common.{◌≡◌, ◌-◌, ◌≤◌, length, take, refl, arith, rules}
-use Rattle.interval.specs.Edges.{edges, padded}
+use Rattle.std.proofs.Common.{◌≡◌, length, refl, arith, rules}
 use Rattle.interval.proofs.Items.{length_mapped, used-ticked, edges-stored}
 use Rattle.interval.proofs.edge.edge_numbers.Goals as goal
 

@@ -1,7 +1,6 @@
 -- `interval::edge::edge_numbers` meets its contract. The loop's invariant: the edges of the first k stretches are stored.
-use Rattle.std.proofs.Common.{◌≡◌, ◌-◌, ◌≤◌, length, take, refl, arith, rules}
+use Rattle.std.proofs.Common.{◌≡◌, ◌-◌, ◌≤◌, take}
 use Rattle.interval.specs.Edges.{edges, padded}
-use Rattle.interval.proofs.Items.{length_mapped, used-ticked, edges-stored}
 use Rattle.interval.proofs.edge.edge_numbers.Given as goal
 
 abbrev pub invariant-loop-k : goal.invariant-loop-k

@@ -1,5 +1,5 @@
 -- `interval::edge::high_edge` meets its contract.
-use Rattle.std.proofs.Common.{sym, ap, ◌∙◌, arith, rules}
+use Rattle.std.proofs.Common.{sym, ap, ◌∙◌, arith}
 use Rattle.interval.specs.Meaning.{tick}
 use Rattle.interval.specs.Edges.{high_edge}
 use Rattle.interval.proofs.edge.high_edge.Goals as goal

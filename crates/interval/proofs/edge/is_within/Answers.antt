@@ -1,5 +1,4 @@
 -- `interval::edge::is_within` meets its contract.
-use Rattle.std.proofs.Common.{rules}
 use Rattle.interval.proofs.edge.is_within.Goals as goal
 
 pub returns : goal.returns

@@ -1,5 +1,5 @@
 -- `interval::edge::low_edge` meets its contract.
-use Rattle.std.proofs.Common.{sym, ap, ◌∙◌, arith, rules}
+use Rattle.std.proofs.Common.{sym, ap, ◌∙◌, arith}
 use Rattle.interval.specs.Meaning.{tick}
 use Rattle.interval.specs.Edges.{low_edge}
 use Rattle.interval.proofs.edge.low_edge.Goals as goal

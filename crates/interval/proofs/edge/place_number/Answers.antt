@@ -1,5 +1,4 @@
 -- `interval::edge::place_number` meets its contract.
-use Rattle.std.proofs.Common.{rules}
 use Rattle.interval.proofs.edge.place_number.Goals as goal
 
 pub returns-then-gap : goal.returns-then-gap

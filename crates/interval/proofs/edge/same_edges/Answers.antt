@@ -1,4 +1,4 @@
-use Rattle.std.proofs.Common.{◌≡◌, ℕ, ◌-◌, ◌<◌, ◌≤◌, List, get_or, sym, ap, true≢false, arith, ext_get_or, below_more}
+use Rattle.std.proofs.Common.{ℕ, List, get_or, sym, ap, true≢false, arith, ext_get_or, below_more}
 use Rattle.interval.proofs.edge.same_edges.Goals as goal
 
 pub loop-k-init : goal.loop-k-init

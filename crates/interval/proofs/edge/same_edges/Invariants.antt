@@ -1,5 +1,5 @@
 -- `interval::edge::same_edges` meets its contract. The loop's invariant: the first k edges are equal.
-use Rattle.std.proofs.Common.{◌≡◌, ℕ, ◌-◌, ◌<◌, ◌≤◌, List, get_or, sym, ap, true≢false, arith, ext_get_or, below_more}
+use Rattle.std.proofs.Common.{◌≡◌, ℕ, ◌-◌, ◌<◌, ◌≤◌, get_or}
 use Rattle.interval.proofs.edge.same_edges.Given as goal
 
 abbrev pub invariant-loop-k : goal.invariant-loop-k

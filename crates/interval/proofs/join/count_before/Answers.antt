@@ -1,8 +1,4 @@
-use Rattle.std.proofs.Common.{◌≡◌, ◌-◌, ◌≤◌, ◌++◌, length, take, drop, sym, refl, arith}
-use Rattle.interval.specs.declared.Interval.{Interval}
-use Rattle.interval.specs.Meaning.{used}
-use Rattle.interval.specs.Edges.{low_edge}
-use Rattle.interval.specs.Joining.{insert}
+use Rattle.std.proofs.Common.{◌≡◌, length, sym, refl, arith}
 use Rattle.interval.proofs.Items.{length_mapped, used-ticked}
 use Rattle.interval.proofs.Joining.{passed-end, passed_more, passed_here}
 use Rattle.interval.proofs.join.count_before.Goals as goal

@@ -1,11 +1,9 @@
 -- `interval::join::count_before` meets its contract. The loop's invariant: the first k stretches end before every interval that begins where this one does.
-use Rattle.std.proofs.Common.{◌≡◌, ◌-◌, ◌≤◌, ◌++◌, length, take, drop, sym, refl, arith}
+use Rattle.std.proofs.Common.{◌≡◌, ◌-◌, ◌≤◌, ◌++◌, take, drop}
 use Rattle.interval.specs.declared.Interval.{Interval}
 use Rattle.interval.specs.Meaning.{used}
 use Rattle.interval.specs.Edges.{low_edge}
 use Rattle.interval.specs.Joining.{insert}
-use Rattle.interval.proofs.Items.{length_mapped, used-ticked}
-use Rattle.interval.proofs.Joining.{passed-end, passed_more, passed_here}
 use Rattle.interval.proofs.join.count_before.Given as goal
 
 abbrev pub invariant-loop-k : goal.invariant-loop-k

@@ -1,5 +1,5 @@
 -- `interval::join::higher` meets its contract.
-use Rattle.std.proofs.Common.{arith, rules, le-leb}
+use Rattle.std.proofs.Common.{arith, le-leb}
 use borrow.Author.Tests.{lt-leb}
 use Rattle.interval.specs.Edges.{high_edge}
 use Rattle.interval.proofs.join.higher.Goals as goal

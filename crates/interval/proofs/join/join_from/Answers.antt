@@ -1,7 +1,5 @@
-use Rattle.std.proofs.Common.{◌≡◌, ◌-◌, ◌≤◌, length, get_or, drop, refl, ◌∙◌, arith}
+use Rattle.std.proofs.Common.{◌≡◌, length, get_or, refl, ◌∙◌, arith}
 use Rattle.interval.specs.declared.Interval.{Interval}
-use Rattle.interval.specs.Meaning.{Ticked, used}
-use Rattle.interval.specs.Joining.{absorb}
 use Rattle.interval.proofs.Items.{nowhere, length_mapped, used-ticked}
 use Rattle.interval.proofs.Joining.{hull_low, hull_high, join_end, join_past, join_here}
 use Rattle.interval.proofs.join.join_from.Goals as goal

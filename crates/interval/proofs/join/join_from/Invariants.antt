@@ -1,10 +1,7 @@
 -- `interval::join::join_from` meets its contract. The loop's invariant: low and high bound the interval joined with the stretches before the k-th.
-use Rattle.std.proofs.Common.{◌≡◌, ◌-◌, ◌≤◌, length, get_or, drop, refl, ◌∙◌, arith}
-use Rattle.interval.specs.declared.Interval.{Interval}
+use Rattle.std.proofs.Common.{◌≡◌, ◌-◌, ◌≤◌, drop}
 use Rattle.interval.specs.Meaning.{Ticked, used}
 use Rattle.interval.specs.Joining.{absorb}
-use Rattle.interval.proofs.Items.{nowhere, length_mapped, used-ticked}
-use Rattle.interval.proofs.Joining.{hull_low, hull_high, join_end, join_past, join_here}
 use Rattle.interval.proofs.join.join_from.Given as goal
 
 abbrev pub invariant-loop-k : goal.invariant-loop-k

@@ -1,5 +1,4 @@
-use Rattle.std.proofs.Common.{◌≡◌, ◌+◌, ◌-◌, ◌≤◌, ◌++◌, length, take, drop, refl, ◌∙◌, arith, length-set}
-use Rattle.interval.specs.Meaning.{used}
+use Rattle.std.proofs.Common.{◌≡◌, length, take, refl, ◌∙◌, arith, length-set}
 use Rattle.interval.proofs.Items.{length_mapped}
 use Rattle.interval.proofs.Joining.{replace_start, replace_more, replace_end}
 use Rattle.interval.proofs.join.replace.Goals as goal

@@ -1,8 +1,6 @@
 -- `interval::join::replace` meets its contract. The loop's invariant: n items are in place, and those from the k-th on are to follow them.
-use Rattle.std.proofs.Common.{◌≡◌, ◌+◌, ◌-◌, ◌≤◌, ◌++◌, length, take, drop, refl, ◌∙◌, arith, length-set}
+use Rattle.std.proofs.Common.{◌≡◌, ◌+◌, ◌-◌, ◌≤◌, ◌++◌, length, take, drop}
 use Rattle.interval.specs.Meaning.{used}
-use Rattle.interval.proofs.Items.{length_mapped}
-use Rattle.interval.proofs.Joining.{replace_start, replace_more, replace_end}
 use Rattle.interval.proofs.join.replace.Given as goal
 
 abbrev pub invariant-loop-k : goal.invariant-loop-k

@@ -1,5 +1,5 @@
 -- `interval::join::with_interval` meets its contract.
-use Rattle.std.proofs.Common.{◌≡◌, ◌+◌, List, ◌++◌, take, sym, ap, ◌∙◌, arith, rules}
+use Rattle.std.proofs.Common.{◌≡◌, List, ◌++◌, take, sym, ap, ◌∙◌, arith}
 use Rattle.interval.specs.declared.Interval.{Interval}
 use Rattle.interval.specs.Meaning.{used}
 use Rattle.interval.specs.Joining.{insert}

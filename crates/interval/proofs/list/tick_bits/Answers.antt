@@ -1,5 +1,5 @@
 -- `interval::list::tick_bits` meets its contract.
-use Rattle.std.proofs.Common.{ap, arith, rules}
+use Rattle.std.proofs.Common.{ap, arith}
 use Rattle.interval.specs.Meaning.{tick}
 use Rattle.interval.specs.Writing.{bits_of}
 use Rattle.interval.proofs.list.tick_bits.Goals as goal

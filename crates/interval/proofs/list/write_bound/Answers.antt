@@ -1,5 +1,5 @@
 -- `interval::list::write_bound` meets its contract.
-use Rattle.std.proofs.Common.{◌∙◌, rules}
+use Rattle.std.proofs.Common.{◌∙◌}
 use Rattle.interval.proofs.Writing.{bound_placed}
 use Rattle.interval.proofs.list.write_bound.Goals as goal
 

@@ -1,5 +1,5 @@
 -- `interval::list::write_interval` meets its contract.
-use Rattle.std.proofs.Common.{◌∙◌, arith, rules}
+use Rattle.std.proofs.Common.{◌∙◌, arith}
 use Rattle.interval.specs.Writing.{bound_bytes}
 use Rattle.writer.proofs.Placing.{placed-both}
 use Rattle.interval.proofs.Writing.{bound_length}

@@ -1,7 +1,6 @@
-use Rattle.std.proofs.Common.{◌≡◌, ◌-◌, ◌*◌, ◌≤◌, length, take, refl, ◌∙◌, arith, rules}
-use Rattle.rules.specs.Services.{overwrite}
+use Rattle.std.proofs.Common.{◌≡◌, length, refl, ◌∙◌, arith, rules}
 use Rattle.interval.proofs.Items.{length_mapped, used-ticked}
-use Rattle.interval.proofs.Writing.{list_bytes, nothing_written, written_more, length_more}
+use Rattle.interval.proofs.Writing.{nothing_written, written_more, length_more}
 use Rattle.interval.proofs.list.write_list.Goals as goal
 
 pub loop-k-init : goal.loop-k-init

@@ -1,8 +1,7 @@
 -- `interval::list::write_list` meets its contract. The loop's invariant: the first k stretches are written.
-use Rattle.std.proofs.Common.{◌≡◌, ◌-◌, ◌*◌, ◌≤◌, length, take, refl, ◌∙◌, arith, rules}
+use Rattle.std.proofs.Common.{◌≡◌, ◌-◌, ◌*◌, ◌≤◌, length, take}
 use Rattle.rules.specs.Services.{overwrite}
-use Rattle.interval.proofs.Items.{length_mapped, used-ticked}
-use Rattle.interval.proofs.Writing.{list_bytes, nothing_written, written_more, length_more}
+use Rattle.interval.proofs.Writing.{list_bytes}
 use Rattle.interval.proofs.list.write_list.Given as goal
 
 abbrev pub invariant-loop-k : goal.invariant-loop-k

@@ -1,6 +1,4 @@
-use Rattle.std.proofs.Common.{◌≡◌, ◌+◌, ◌-◌, ◌≤◌, length, sym, refl, ◌∙◌, arith, length-set, rules}
-use Rattle.rules.specs.Services.{low_bytes}
-use Rattle.writer.specs.Placing.{placed}
+use Rattle.std.proofs.Common.{◌≡◌, ◌+◌, sym, refl, ◌∙◌, arith, length-set, rules}
 use Rattle.interval.proofs.Writing.{byte_stored, bytes_done}
 use Rattle.interval.proofs.list.write_number.Goals as goal
 

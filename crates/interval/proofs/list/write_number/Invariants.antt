@@ -1,8 +1,7 @@
 -- `interval::list::write_number` meets its contract. The loop's invariant: with the bytes that are left, memory is as it should be.
-use Rattle.std.proofs.Common.{◌≡◌, ◌+◌, ◌-◌, ◌≤◌, length, sym, refl, ◌∙◌, arith, length-set, rules}
+use Rattle.std.proofs.Common.{◌≡◌, ◌+◌, ◌-◌, ◌≤◌, length}
 use Rattle.rules.specs.Services.{low_bytes}
 use Rattle.writer.specs.Placing.{placed}
-use Rattle.interval.proofs.Writing.{byte_stored, bytes_done}
 use Rattle.interval.proofs.list.write_number.Given as goal
 
 abbrev pub invariant-loop-k : goal.invariant-loop-k

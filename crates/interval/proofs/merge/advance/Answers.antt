@@ -1,5 +1,5 @@
 -- `interval::merge::advance` meets its contract.
-use Rattle.std.proofs.Common.{arith, rules, eq-eqb, ne_eqb}
+use Rattle.std.proofs.Common.{arith, eq-eqb, ne_eqb}
 use Rattle.interval.proofs.merge.advance.Goals as goal
 
 pub returns-then-l-i : goal.returns-then-l-i

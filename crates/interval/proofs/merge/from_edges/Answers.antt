@@ -1,7 +1,5 @@
-use Rattle.std.proofs.Common.{◌≡◌, suc, ◌-◌, ◌*◌, ◌<◌, ◌≤◌, length, take, refl, ◌∙◌, arith, length-set, rules}
+use Rattle.std.proofs.Common.{◌≡◌, ◌*◌, ◌<◌, length, refl, ◌∙◌, arith, length-set}
 use Rattle.interval.specs.declared.Interval.{Interval}
-use Rattle.interval.specs.Meaning.{AllTicked}
-use Rattle.interval.specs.Edges.{edges}
 use Rattle.interval.proofs.Items.{length_mapped}
 use Rattle.interval.proofs.Drawing.{edged-length, edge-below, edge-next, ticked_more, edges_more}
 use Rattle.interval.proofs.merge.from_edges.Goals as goal

@@ -1,10 +1,7 @@
 -- `interval::merge::from_edges` meets its contract. The loop's invariant: the first k stretches have the first 2 k edges.
-use Rattle.std.proofs.Common.{◌≡◌, suc, ◌-◌, ◌*◌, ◌<◌, ◌≤◌, length, take, refl, ◌∙◌, arith, length-set, rules}
-use Rattle.interval.specs.declared.Interval.{Interval}
+use Rattle.std.proofs.Common.{◌≡◌, suc, ◌-◌, ◌*◌, ◌≤◌, length, take}
 use Rattle.interval.specs.Meaning.{AllTicked}
 use Rattle.interval.specs.Edges.{edges}
-use Rattle.interval.proofs.Items.{length_mapped}
-use Rattle.interval.proofs.Drawing.{edged-length, edge-below, edge-next, ticked_more, edges_more}
 use Rattle.interval.proofs.merge.from_edges.Given as goal
 
 abbrev pub invariant-loop-k : goal.invariant-loop-k

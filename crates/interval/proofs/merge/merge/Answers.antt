@@ -1,9 +1,6 @@
-use Rattle.std.proofs.Common.{◌≡◌, ◌+◌, ◌-◌, min, get_or, ⊎_elim, arith}
-use Rattle.rules.specs.Sets.{apply}
-use Rattle.interval.specs.Meaning.{op_of}
-use Rattle.interval.specs.Edges.{top, rank}
+use Rattle.std.proofs.Common.{arith}
 use Rattle.interval.proofs.Drawing.{in_neither}
-use Rattle.interval.proofs.Sweep.{Merging, merging_start, i_few, j_few, n_few, merged, more, i_next, j_next, merging_keep, merging_emit}
+use Rattle.interval.proofs.Sweep.{merging_start, i_few, j_few, n_few, merged, more, i_next, j_next, merging_keep, merging_emit}
 use Rattle.interval.proofs.merge.merge.Goals as goal
 use Rattle.interval.proofs.merge.merge.Goals.{then-changes, else-changes}
 

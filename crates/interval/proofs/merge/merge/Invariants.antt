@@ -1,11 +1,10 @@
 -- `interval::merge::merge` meets its contract. The loop's invariant: the edges written are right for every place below a frontier, and
 -- m is the next edge of either set. The measure is how many of their edges are left.
-use Rattle.std.proofs.Common.{◌≡◌, ◌+◌, ◌-◌, min, get_or, ⊎_elim, arith}
+use Rattle.std.proofs.Common.{◌≡◌, ◌+◌, ◌-◌, min, get_or}
 use Rattle.rules.specs.Sets.{apply}
 use Rattle.interval.specs.Meaning.{op_of}
 use Rattle.interval.specs.Edges.{top, rank}
-use Rattle.interval.proofs.Drawing.{in_neither}
-use Rattle.interval.proofs.Sweep.{Merging, merging_start, i_few, j_few, n_few, merged, more, i_next, j_next, merging_keep, merging_emit}
+use Rattle.interval.proofs.Sweep.{Merging}
 use Rattle.interval.proofs.merge.merge.Given as goal
 
 abbrev pub invariant-loop-m : goal.invariant-loop-m

@@ -3,7 +3,6 @@ use mathlib.Core.Path.{sym, ◌∙◌, ap}
 use Rattle.datatype.specs.Meaning.{kind_meant}
 use Rattle.datatype.specs.Tables.{standing_meant, form_meant}
 use Rattle.judge.proofs.Carrying.{shape_at, form-at, time-at}
-use borrow.Author.Rules.{rules}
 use Rattle.judge.proofs.carried.attribute_fault.Goals as goal
 
 pub returns-then-n-eq-VALUE : goal.returns-then-n-eq-VALUE

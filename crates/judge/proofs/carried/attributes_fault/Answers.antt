@@ -1,23 +1,13 @@
-use Prim.Native.Nat.{◌-◌, ◌≤◌}
-use mathlib.Core.Path.{◌≡◌, sym}
-use mathlib.Core.List.{List}
-use mathlib.Core.Logic.{⊎_elim}
+use mathlib.Core.Path.{sym}
 use native.Mathlib.Omega.{arith}
-use Rattle.rules.specs.Refusal.{earlier}
-use Rattle.rules.specs.Markup.{Attribute}
-use Rattle.rules.specs.Types.{TS}
 use Rattle.rules.specs.Judge.{attribute_faults}
 use Rattle.rules.proofs.Precedence.{earlier-none_right}
 use Rattle.refusal.specs.Meaning.{fault_of}
-use Rattle.element.specs.Names.{known}
-use Rattle.element.specs.Tags.{Tells}
 use Rattle.element.proofs.Asked.{absent}
 use Rattle.datatype.specs.Meaning.{kind_meant}
 use Rattle.datatype.specs.Tables.{standing_meant}
-use Rattle.datatype.specs.Said.{time_fault}
 use Rattle.judge.proofs.ByNumber.{below, below_more, below_none}
 use Rattle.judge.proofs.Strange.{all-judged}
-use borrow.Author.Rules.{rules}
 use Rattle.judge.proofs.carried.attributes_fault.Goals as goal
 use Rattle.judge.proofs.carried.attributes_fault.Goals.{then-place-ne0, else-place-ne0}
 

@@ -1,16 +1,7 @@
-use Prim.Native.Nat.{ℕ, ◌-◌, ◌≤◌}
-use mathlib.Core.Path.{◌≡◌, sym, ◌∙◌}
-use mathlib.Core.List.{List}
+use mathlib.Core.Path.{sym, ◌∙◌}
 use native.Mathlib.Omega.{arith}
-use Rattle.rules.specs.Basics.{exists}
-use Rattle.rules.specs.Markup.{Attribute}
-use Rattle.rules.specs.Types.{line_of}
-use Rattle.rules.specs.Judge.{carries}
-use Rattle.element.specs.Names.{known}
-use Rattle.element.specs.Tags.{Tells}
 use Rattle.datatype.specs.Meaning.{kind_meant}
-use Rattle.judge.proofs.OwnColumns.{own_from, own_numbers, own_end, own_found, own_passed, own_told}
-use borrow.Author.Rules.{rules}
+use Rattle.judge.proofs.OwnColumns.{own_numbers, own_end, own_found, own_passed, own_told}
 use Rattle.judge.proofs.carried.has_own.Goals as goal
 
 pub loop-n-init : goal.loop-n-init

@@ -1,8 +1,7 @@
 -- `judge::carried::has_own` meets its contract. The loop's invariant: an answer from this number on is an answer.
 use Prim.Native.Nat.{ℕ, ◌-◌, ◌≤◌}
-use mathlib.Core.Path.{◌≡◌, sym, ◌∙◌}
+use mathlib.Core.Path.{◌≡◌}
 use mathlib.Core.List.{List}
-use native.Mathlib.Omega.{arith}
 use Rattle.rules.specs.Basics.{exists}
 use Rattle.rules.specs.Markup.{Attribute}
 use Rattle.rules.specs.Types.{line_of}
@@ -10,8 +9,7 @@ use Rattle.rules.specs.Judge.{carries}
 use Rattle.element.specs.Names.{known}
 use Rattle.element.specs.Tags.{Tells}
 use Rattle.datatype.specs.Meaning.{kind_meant}
-use Rattle.judge.proofs.OwnColumns.{own_from, own_numbers, own_end, own_found, own_passed, own_told}
-use borrow.Author.Rules.{rules}
+use Rattle.judge.proofs.OwnColumns.{own_from}
 use Rattle.judge.proofs.carried.has_own.Given as goal
 
 abbrev pub invariant-loop-n : goal.invariant-loop-n

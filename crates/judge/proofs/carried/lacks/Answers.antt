@@ -4,7 +4,6 @@ use mathlib.Core.Bool.{or-false}
 use Rattle.rules.specs.Basics.{exists}
 use Rattle.rules.specs.Types.{line_of}
 use Rattle.judge.proofs.Required.{none-required}
-use borrow.Author.Rules.{rules}
 use Rattle.judge.proofs.carried.lacks.Goals as goal
 
 pub returns-in-DisplayName : goal.returns-in-DisplayName

@@ -1,7 +1,6 @@
 -- `judge::carried::others_fault` meets its contract.
 use Rattle.datatype.specs.Tables.{standing_meant}
 use Rattle.judge.proofs.Strange.{strange_counts}
-use borrow.Author.Rules.{rules}
 use Rattle.judge.proofs.carried.others_fault.Goals as goal
 
 pub returns : goal.returns

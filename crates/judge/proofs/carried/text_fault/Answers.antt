@@ -1,7 +1,6 @@
 -- `judge::carried::text_fault` meets its contract.
 use Rattle.rules.specs.Refusal.{first_of}
 use Rattle.rules.specs.Forms.{form_faults}
-use borrow.Author.Rules.{rules}
 use Rattle.judge.proofs.carried.text_fault.Goals as goal
 
 pub returns-in-AnyText : goal.returns-in-AnyText

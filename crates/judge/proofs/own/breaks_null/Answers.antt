@@ -1,5 +1,4 @@
 use mathlib.Core.Path.{sym, ◌∙◌}
-use borrow.Author.Rules.{rules}
 use Rattle.judge.proofs.own.breaks_null.Goals as goal
 
 pub returns-then-has : goal.returns-then-has

@@ -1,4 +1,3 @@
-use borrow.Author.Rules.{rules}
 use Rattle.judge.proofs.own.is_broken.Goals as goal
 
 pub returns : goal.returns

@@ -5,7 +5,6 @@ use mathlib.Core.Path.{◌∙◌, ap}
 use mathlib.Core.Logic.{inl, inr}
 use mathlib.Core.Bool.{Bool}
 use Rattle.rules.specs.Refusal.{SHAPE, first_of, ◌when◌}
-use borrow.Author.Rules.{rules}
 use Rattle.judge.proofs.own.judge_with.Goals as goal
 
 pub returns : goal.returns

@@ -1,6 +1,4 @@
 use Rattle.judge.proofs.Times.{no_time}
-use mathlib.Core.Path.{refl}
-use borrow.Author.Rules.{rules}
 use Rattle.judge.proofs.own.time_in.Goals as goal
 
 pub returns-in-Ts : goal.returns-in-Ts

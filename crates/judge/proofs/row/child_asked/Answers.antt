@@ -1,5 +1,4 @@
 use Rattle.judge.proofs.Asking.{asked_inside, asked_typed, asked_nothing}
-use borrow.Author.Rules.{rules}
 use Rattle.judge.proofs.row.child_asked.Goals as goal
 
 pub returns-in-Always : goal.returns-in-Always

@@ -1,6 +1,5 @@
 use native.Mathlib.Omega.{arith}
 use Rattle.judge.proofs.Asking.{asked_member, asked_none}
-use borrow.Author.Rules.{rules}
 use Rattle.judge.proofs.row.member_asked.Goals as goal
 
 pub type_at-named-requires : goal.type_at-named-requires

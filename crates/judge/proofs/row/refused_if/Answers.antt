@@ -1,4 +1,3 @@
-use borrow.Author.Rules.{rules}
 use Rattle.rules.specs.Refusal.{first_of}
 use Rattle.judge.proofs.row.refused_if.Goals as goal
 

@@ -3,9 +3,8 @@ use Rattle.datatype.specs.Meaning.{kind_meant}
 use Rattle.rules.specs.Types.{line_of}
 use Prim.Native.Nat.{ℕ}
 use mathlib.Core.List.{List}
-use mathlib.Core.Path.{◌≡◌, sym, ◌∙◌, ap}
+use mathlib.Core.Path.{sym, ◌∙◌, ap}
 use native.Mathlib.Omega.{arith}
-use borrow.Author.Rules.{rules}
 use Rattle.judge.proofs.row.step_of.Goals as goal
 
 pub slice_bounds-next_child-count : goal.slice_bounds-next_child-count

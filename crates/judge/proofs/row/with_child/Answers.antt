@@ -1,7 +1,6 @@
 use Rattle.judge.proofs.Rowing.{row-child}
 use Rattle.judge.specs.Rows.{row_meant}
 use mathlib.Core.Path.{◌∙◌}
-use borrow.Author.Rules.{rules}
 use Rattle.judge.proofs.row.with_child.Goals as goal
 
 pub returns : goal.returns

@@ -1,7 +1,6 @@
 use Rattle.judge.proofs.Rowing.{kept_low, kept_high}
 use Rattle.judge.specs.Rows.{row_meant}
 use mathlib.Core.Path.{refl}
-use borrow.Author.Rules.{rules}
 use Rattle.judge.proofs.row.with_judged.Goals as goal
 
 pub returns-then-stage-eq1 : goal.returns-then-stage-eq1

@@ -3,7 +3,6 @@ use mathlib.Core.Path.{ap}
 use native.Mathlib.Omega.{arith}
 use Rattle.rules.specs.Types.{line_of}
 use Rattle.datatype.specs.Meaning.{kind_meant}
-use borrow.Author.Rules.{rules}
 use Rattle.judge.proofs.rule.breaks.Goals as goal
 
 pub breaks_part-requires : goal.breaks_part-requires

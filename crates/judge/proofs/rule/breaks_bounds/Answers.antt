@@ -1,6 +1,5 @@
 use Rattle.judge.proofs.Crossing.{no_interval}
 use native.Mathlib.Omega.{arith}
-use borrow.Author.Rules.{rules}
 use Rattle.judge.proofs.rule.breaks_bounds.Goals as goal
 
 pub breaks_interval-requires : goal.breaks_interval-requires

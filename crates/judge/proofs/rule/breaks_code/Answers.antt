@@ -1,5 +1,4 @@
 -- `judge::rule::breaks_code` meets its contract.
-use borrow.Author.Rules.{rules}
 use Rattle.judge.proofs.rule.breaks_code.Goals as goal
 
 pub returns : goal.returns

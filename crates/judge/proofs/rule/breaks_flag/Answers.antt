@@ -1,6 +1,5 @@
 -- `judge::rule::breaks_flag` meets its contract.
 use Rattle.element.proofs.Asked.{missing}
-use borrow.Author.Rules.{rules}
 use Rattle.judge.proofs.rule.breaks_flag.Goals as goal
 
 pub returns-in-Valued : goal.returns-in-Valued

@@ -1,7 +1,6 @@
 -- `judge::rule::breaks_interval` meets its contract.
 use Rattle.datatype.specs.declared.bounds.Side.TheVariants.{Low, High}
 use Rattle.datatype.proofs.Sayings.{by_child}
-use borrow.Author.Rules.{rules}
 use Rattle.judge.proofs.rule.breaks_interval.Goals as goal
 
 pub returns : goal.returns

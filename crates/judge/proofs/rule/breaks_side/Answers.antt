@@ -1,7 +1,6 @@
 -- `judge::rule::breaks_side` meets its contract.
 use Rattle.datatype.specs.Bounds.{side_meant}
 use Rattle.datatype.proofs.Sayings.{by_child}
-use borrow.Author.Rules.{rules}
 use Rattle.judge.proofs.rule.breaks_side.Goals as goal
 
 pub returns : goal.returns

@@ -1,7 +1,6 @@
 -- `judge::rule::has_both_ends` meets its contract.
 use mathlib.Core.Path.{sym, ◌∙◌}
 use Rattle.element.proofs.Asked.{absent, standing}
-use borrow.Author.Rules.{rules}
 use Rattle.judge.proofs.rule.has_both_ends.Goals as goal
 
 pub returns-then-place-eq0 : goal.returns-then-place-eq0

@@ -7,7 +7,6 @@ use Rattle.rules.proofs.Tests.{both_true}
 use Rattle.rules.proofs.TickOrder.{uncrossed}
 use Rattle.timestamp.specs.Moments.{moment_of}
 use Rattle.judge.proofs.Crossing.{low_unvalued, high_unvalued, crossed_pushed, crossed_unpushed}
-use borrow.Author.Rules.{rules}
 use Rattle.judge.proofs.rule.is_crossed.Goals as goal
 
 pub returns-in_default : goal.returns-in_default

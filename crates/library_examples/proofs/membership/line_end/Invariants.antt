@@ -1,5 +1,5 @@
 -- `library_examples::membership::line_end` meets its contract.
-use Rattle.std.proofs.Common.{◌-◌, ◌≤◌, length, rules}
+use Rattle.std.proofs.Common.{◌-◌, ◌≤◌, length}
 use Rattle.library_examples.proofs.membership.line_end.Given as goal
 
 abbrev pub invariant-loop-e : goal.invariant-loop-e

@@ -1,5 +1,5 @@
 -- `library_examples::membership::number_at` is safe and ends.
-use Rattle.std.proofs.Common.{◌-◌, ◌≤◌, rules}
+use Rattle.std.proofs.Common.{◌≤◌}
 use Rattle.library_examples.proofs.membership.number_at.Given as goal
 
 abbrev pub invariant-loop-k : goal.invariant-loop-k

@@ -1,4 +1,4 @@
-use Rattle.std.proofs.Common.{◌-◌, ◌≤◌, arith, rules}
+use Rattle.std.proofs.Common.{arith}
 use Rattle.library_examples.proofs.membership.put_places.Goals as goal
 
 pub overflow_mul-k : goal.overflow_mul-k

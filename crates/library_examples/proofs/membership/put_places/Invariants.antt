@@ -1,5 +1,5 @@
 -- `library_examples::membership::put_places` meets what it calls.
-use Rattle.std.proofs.Common.{◌-◌, ◌≤◌, arith, rules}
+use Rattle.std.proofs.Common.{◌-◌, ◌≤◌}
 use Rattle.library_examples.proofs.membership.put_places.Given as goal
 
 abbrev pub invariant-loop-k : goal.invariant-loop-k

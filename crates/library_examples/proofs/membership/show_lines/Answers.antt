@@ -1,4 +1,4 @@
-use Rattle.std.proofs.Common.{◌-◌, length, arith, rules}
+use Rattle.std.proofs.Common.{arith}
 use Rattle.library_examples.proofs.membership.show_lines.Goals as goal
 
 pub loop-i-init : goal.loop-i-init

@@ -1,5 +1,5 @@
 -- `library_examples::membership::show_lines` meets what it calls.
-use Rattle.std.proofs.Common.{◌-◌, length, arith, rules}
+use Rattle.std.proofs.Common.{◌-◌, length}
 use Rattle.library_examples.proofs.membership.show_lines.Given as goal
 
 abbrev pub invariant-loop-i : goal.invariant-loop-i

@@ -1,5 +1,4 @@
-use Rattle.std.proofs.Common.{ℕ, ◌+◌, ◌-◌, ◌*◌, ◌<◌, ◌≤◌, length, arith, rules}
-use borrow.Author.Tests.{not-false}
+use Rattle.std.proofs.Common.{arith}
 use Rattle.library_examples.proofs.outline.+outline_outline_all.Goals as goal
 
 pub outline-overflow_sub-depth : goal.outline-overflow_sub-depth

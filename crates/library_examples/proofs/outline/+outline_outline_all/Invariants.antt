@@ -1,6 +1,5 @@
 -- `library_examples::outline::outline` and `outline_all` are safe and end: the levels that may still be open fall.
-use Rattle.std.proofs.Common.{ℕ, ◌+◌, ◌-◌, ◌*◌, ◌<◌, ◌≤◌, length, arith, rules}
-use borrow.Author.Tests.{not-false}
+use Rattle.std.proofs.Common.{◌+◌, ◌-◌, ◌*◌, ◌≤◌, length}
 use Rattle.library_examples.proofs.outline.+outline_outline_all.Given as goal
 
 abbrev pub decreases-outline_all : goal.decreases-outline_all

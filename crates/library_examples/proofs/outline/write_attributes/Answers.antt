@@ -1,4 +1,4 @@
-use Rattle.std.proofs.Common.{◌-◌, ◌≤◌, length, arith, rules}
+use Rattle.std.proofs.Common.{arith}
 use Rattle.text.proofs.Reading.{found}
 use Rattle.markup.proofs.Attributes.{parts_found}
 use Rattle.library_examples.proofs.outline.write_attributes.Goals as goal

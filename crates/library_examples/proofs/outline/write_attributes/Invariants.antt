@@ -1,7 +1,5 @@
 -- `library_examples::outline::write_attributes` is safe and ends. The measure is what is left of the text.
-use Rattle.std.proofs.Common.{◌-◌, ◌≤◌, length, arith, rules}
-use Rattle.text.proofs.Reading.{found}
-use Rattle.markup.proofs.Attributes.{parts_found}
+use Rattle.std.proofs.Common.{◌-◌, ◌≤◌, length}
 use Rattle.library_examples.proofs.outline.write_attributes.Given as goal
 
 abbrev pub invariant-loop-name : goal.invariant-loop-name

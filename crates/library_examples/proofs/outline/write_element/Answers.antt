@@ -1,5 +1,4 @@
 -- `library_examples::outline::write_element` is safe.
-use Rattle.std.proofs.Common.{rules}
 use Rattle.library_examples.proofs.outline.write_element.Goals as goal
 
 pub slice_bounds-put-count : goal.slice_bounds-put-count

@@ -1,4 +1,4 @@
-use Rattle.std.proofs.Common.{◌-◌, ◌≤◌, length, arith, rules}
+use Rattle.std.proofs.Common.{arith}
 use Rattle.element.proofs.Decoded.{on-bounds}
 use Rattle.library_examples.proofs.outline.write_value.Goals as goal
 

@@ -1,6 +1,5 @@
 -- `library_examples::outline::write_value` is safe and ends. The measure is what is left of the text.
-use Rattle.std.proofs.Common.{◌-◌, ◌≤◌, length, arith, rules}
-use Rattle.element.proofs.Decoded.{on-bounds}
+use Rattle.std.proofs.Common.{◌-◌, ◌≤◌, length}
 use Rattle.library_examples.proofs.outline.write_value.Given as goal
 
 abbrev pub invariant-loop-c : goal.invariant-loop-c

@@ -4,7 +4,6 @@ use borrow.Author.Tests.{ltb-true}
 use Rattle.datatype.specs.Said.{said_meant}
 use Rattle.listing.specs.declared.bound.Limit.TheVariants.{Unknown}
 use Rattle.listing.proofs.Bounds.{bound_said, bound_kept}
-use borrow.Author.Rules.{rules}
 use Rattle.listing.proofs.bound.bound_of.Goals as goal
 
 pub returns-in_default : goal.returns-in_default

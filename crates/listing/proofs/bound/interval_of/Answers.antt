@@ -1,7 +1,6 @@
 -- `listing::bound::interval_of` meets its contract.
 use native.Mathlib.Omega.{arith}
 use Rattle.listing.proofs.Bounds.{limit_on, interval-low, interval-high, interval-both}
-use borrow.Author.Rules.{rules}
 use Rattle.listing.proofs.bound.interval_of.Goals as goal
 
 pub has_text-requires : goal.has_text-requires

@@ -1,5 +1,4 @@
 -- `listing::bound::is_ticked` meets its contract.
-use borrow.Author.Rules.{rules}
 use Rattle.listing.proofs.bound.is_ticked.Goals as goal
 
 pub returns-in-Unbounded : goal.returns-in-Unbounded

@@ -1,5 +1,4 @@
 -- `listing::bound::read_bound` meets its contract.
-use borrow.Author.Rules.{rules}
 use Rattle.listing.proofs.bound.read_bound.Goals as goal
 
 pub returns-in-Valued : goal.returns-in-Valued

@@ -1,6 +1,5 @@
 -- `listing::bound::read_value` meets its contract.
 use mathlib.Core.Path.{sym, ◌∙◌}
-use borrow.Author.Rules.{rules}
 use Rattle.listing.proofs.bound.read_value.Goals as goal
 
 pub returns-then-is_pushed : goal.returns-then-is_pushed

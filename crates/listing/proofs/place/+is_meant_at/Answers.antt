@@ -1,12 +1,9 @@
 use native.Mathlib.Omega.{arith}
-use Prim.Native.Nat.{ℕ, ◌-◌, ◌<◌}
 use mathlib.Core.Path.{refl}
-use borrow.Author.Rules.{rules}
-use lib.ListN.{length}
 use Rattle.rules.proofs.Tests.{clash}
 use Rattle.interval.specs.Meaning.{place_of}
-use Rattle.element.proofs.Walks.{Walked, walk_begins, walk_less, walk_goes, walk_ends}
-use Rattle.listing.proofs.Placing.{means_single, means-other, means_members, Placing, Begun, place_goes, place_ends}
+use Rattle.element.proofs.Walks.{walk_begins, walk_less, walk_goes, walk_ends}
+use Rattle.listing.proofs.Placing.{means_single, means-other, means_members, place_goes, place_ends}
 use Rattle.listing.proofs.place.+is_meant_at.Goals as goal
 
 pub shape_of-shape-requires : goal.shape_of-shape-requires

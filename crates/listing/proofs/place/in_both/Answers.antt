@@ -1,5 +1,4 @@
 -- `listing::place::in_both` meets its contract.
-use borrow.Author.Rules.{rules}
 use Rattle.listing.proofs.place.in_both.Goals as goal
 
 pub returns-then-any : goal.returns-then-any

@@ -1,6 +1,5 @@
 -- `listing::place::in_none` meets its contract.
 use Rattle.rules.specs.Basics.{exists, every}
-use borrow.Author.Rules.{rules}
 use Rattle.listing.proofs.place.in_none.Goals as goal
 
 pub returns-in-Union : goal.returns-in-Union

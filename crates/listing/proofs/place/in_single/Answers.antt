@@ -1,7 +1,6 @@
 -- `listing::place::in_single` meets its contract.
 use Rattle.interval.specs.Meaning.{place_of}
 use Rattle.listing.proofs.Placing.{within-written}
-use borrow.Author.Rules.{rules}
 use Rattle.listing.proofs.place.in_single.Goals as goal
 
 pub returns : goal.returns

@@ -1,16 +1,13 @@
 use native.Mathlib.Omega.{arith}
-use Prim.Native.Nat.{ℕ, ◌-◌, ◌<◌}
 use mathlib.Core.Path.{refl}
 use mathlib.Core.Bool.{false}
 use mathlib.Core.Option.{none}
-use borrow.Author.Rules.{rules}
 use borrow.Author.Tests.{not-true, not-false}
-use lib.ListN.{length}
 use Rattle.rules.proofs.Tests.{clash}
-use Rattle.element.proofs.Walks.{Walked, walk_begins, walk_less, walk_child, walk_goes, walk_ends}
-use Rattle.listing.specs.Sets.{Formed, none_yet}
+use Rattle.element.proofs.Walks.{walk_begins, walk_less, walk_child, walk_goes, walk_ends}
+use Rattle.listing.specs.Sets.{none_yet}
 use Rattle.listing.proofs.Joining.{as_formed, join_first, join_next}
-use Rattle.listing.proofs.Evaluating.{none_said, null-set, single_set, other-set, members_set, Evaluating, member-known, member-unknown, members_said}
+use Rattle.listing.proofs.Evaluating.{none_said, null-set, single_set, other-set, members_set, member-known, member-unknown, members_said}
 use Rattle.listing.proofs.set.+evaluate.Goals as goal
 
 pub returns-then-has : goal.returns-then-has

@@ -1,17 +1,9 @@
 -- `listing::set::evaluate` meets its contract. The remaining depth falls: members are read with less left than the element that they stand in.
-use native.Mathlib.Omega.{arith}
-use Prim.Native.Nat.{ℕ, ◌-◌, ◌<◌}
-use mathlib.Core.Path.{refl}
-use mathlib.Core.Bool.{false}
-use mathlib.Core.Option.{none}
-use borrow.Author.Rules.{rules}
-use borrow.Author.Tests.{not-true, not-false}
+use Prim.Native.Nat.{◌-◌}
 use lib.ListN.{length}
-use Rattle.rules.proofs.Tests.{clash}
-use Rattle.element.proofs.Walks.{Walked, walk_begins, walk_less, walk_child, walk_goes, walk_ends}
-use Rattle.listing.specs.Sets.{Formed, none_yet}
-use Rattle.listing.proofs.Joining.{as_formed, join_first, join_next}
-use Rattle.listing.proofs.Evaluating.{none_said, null-set, single_set, other-set, members_set, Evaluating, member-known, member-unknown, members_said}
+use Rattle.element.proofs.Walks.{Walked}
+use Rattle.listing.specs.Sets.{Formed}
+use Rattle.listing.proofs.Evaluating.{Evaluating}
 use Rattle.listing.proofs.set.+evaluate.Given as goal
 
 abbrev pub decreases-evaluate : goal.decreases-evaluate

@@ -3,7 +3,6 @@ use Prim.Native.Nat.{◌+◌, ◌≤◌}
 use mathlib.Core.Path.{refl}
 use native.Mathlib.Omega.{arith}
 use Rattle.listing.proofs.Joining.{join_many, join_set, many-formed, join_formed}
-use borrow.Author.Rules.{rules}
 use Rattle.listing.proofs.set.join.Goals as goal
 
 pub returns-then-count-gt32 : goal.returns-then-count-gt32

@@ -1,6 +1,5 @@
 -- `listing::set::of_single` meets its contract.
 use Rattle.listing.proofs.Joining.{single_formed, single_says}
-use borrow.Author.Rules.{rules}
 use Rattle.listing.proofs.set.of_single.Goals as goal
 
 pub returns : goal.returns

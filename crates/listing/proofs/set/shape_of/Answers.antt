@@ -1,7 +1,6 @@
 -- `listing::set::shape_of` meets its contract.
 use native.Mathlib.Omega.{arith}
 use Rattle.listing.proofs.Shapes.{untyped, typed}
-use borrow.Author.Rules.{rules}
 use Rattle.listing.proofs.set.shape_of.Goals as goal
 
 pub type_at-named-requires : goal.type_at-named-requires

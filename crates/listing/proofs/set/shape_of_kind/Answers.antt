@@ -1,6 +1,5 @@
 -- `listing::set::shape_of_kind` meets its contract.
 use Rattle.listing.proofs.Shapes.{other-kind}
-use borrow.Author.Rules.{rules}
 use Rattle.listing.proofs.set.shape_of_kind.Goals as goal
 
 pub returns-in-QsuTs : goal.returns-in-QsuTs

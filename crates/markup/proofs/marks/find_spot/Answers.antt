@@ -1,8 +1,6 @@
-use Prim.Native.Nat.{◌-◌, ◌<◌}
-use mathlib.Core.Path.{◌≡◌, sym, ◌∙◌, ap}
+use mathlib.Core.Path.{sym, ◌∙◌, ap}
 use native.Mathlib.Omega.{arith}
-use borrow.Author.Rules.{rules}
-use Rattle.markup.specs.Marks.{next_place, place_of, Passes, free, marked, full}
+use Rattle.markup.specs.Marks.{next_place, free, marked, full}
 use Rattle.markup.proofs.Marking.{place_first, place_more, passes_none, passes_more}
 use Rattle.markup.proofs.marks.find_spot.Goals as goal
 

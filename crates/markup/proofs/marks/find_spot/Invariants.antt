@@ -1,10 +1,7 @@
 -- `markup::marks::find_spot` meets its contract. The loop's invariant: the places before this one are passed.
 use Prim.Native.Nat.{◌-◌, ◌<◌}
-use mathlib.Core.Path.{◌≡◌, sym, ◌∙◌, ap}
-use native.Mathlib.Omega.{arith}
-use borrow.Author.Rules.{rules}
-use Rattle.markup.specs.Marks.{next_place, place_of, Passes, free, marked, full}
-use Rattle.markup.proofs.Marking.{place_first, place_more, passes_none, passes_more}
+use mathlib.Core.Path.{◌≡◌}
+use Rattle.markup.specs.Marks.{place_of, Passes}
 use Rattle.markup.proofs.marks.find_spot.Given as goal
 
 abbrev pub invariant-loop-tries : goal.invariant-loop-tries

@@ -1,11 +1,8 @@
-use Prim.Native.Nat.{◌-◌, ◌≤◌}
 use mathlib.Core.Path.{sym, ◌∙◌}
-use mathlib.Core.Bool.{Bool}
 use native.Mathlib.Omega.{arith}
-use lib.ListN.{length}
 use Rattle.text.proofs.Reading.{answer, found}
 use Rattle.markup.proofs.Attributes.{parts_found, parts_none, stops_space, stops_attribute}
-use Rattle.markup.proofs.Before.{Tells, tells-end, tells-stop, tells_more, tells_here}
+use Rattle.markup.proofs.Before.{tells-end, tells-stop, tells_more, tells_here}
 use borrow.Author.Rules.{rules}
 use Rattle.markup.proofs.marks.is_before.Goals as goal
 

@@ -1,13 +1,8 @@
 -- `markup::marks::is_before` meets its contract. The loop's invariant: an answer from here is an answer from the start.
 use Prim.Native.Nat.{◌-◌, ◌≤◌}
-use mathlib.Core.Path.{sym, ◌∙◌}
 use mathlib.Core.Bool.{Bool}
-use native.Mathlib.Omega.{arith}
 use lib.ListN.{length}
-use Rattle.text.proofs.Reading.{answer, found}
-use Rattle.markup.proofs.Attributes.{parts_found, parts_none, stops_space, stops_attribute}
-use Rattle.markup.proofs.Before.{Tells, tells-end, tells-stop, tells_more, tells_here}
-use borrow.Author.Rules.{rules}
+use Rattle.markup.proofs.Before.{Tells}
 use Rattle.markup.proofs.marks.is_before.Given as goal
 
 abbrev pub invariant-loop-i : goal.invariant-loop-i

@@ -1,11 +1,8 @@
 -- `markup::marks::mix` meets its contract. The loop's invariant: the number made of what is left, from here on, is the name's.
 use Prim.Native.Nat.{◌-◌, ◌≤◌, ◌<◌}
-use mathlib.Core.Path.{◌≡◌, refl, sym, ◌∙◌}
-use native.Mathlib.Omega.{arith}
-use borrow.Author.Rules.{rules}
+use mathlib.Core.Path.{◌≡◌}
 use lib.ListN.{length, drop}
 use Rattle.markup.specs.Marks.{mix_of}
-use Rattle.markup.proofs.Marking.{mix_more, mix_end}
 use Rattle.markup.proofs.marks.mix.Given as goal
 
 abbrev pub invariant-loop-i : goal.invariant-loop-i

@@ -1,6 +1,5 @@
 -- `markup::marks::mix_byte` meets its contract.
 use native.Mathlib.Omega.{arith}
-use borrow.Author.Rules.{rules}
 use Rattle.markup.proofs.marks.mix_byte.Goals as goal
 
 pub returns : goal.returns

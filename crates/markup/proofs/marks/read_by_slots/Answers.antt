@@ -1,13 +1,12 @@
-use Prim.Native.Nat.{◌-◌}
-use mathlib.Core.Path.{◌≡◌, ◌∙◌}
+use mathlib.Core.Path.{◌∙◌}
 use mathlib.Core.Bool.{Bool, false}
 use native.Mathlib.Omega.{arith}
-use lib.ListN.{length, length-replicate, length-set}
+use lib.ListN.{length-replicate, length-set}
 use Rattle.text.proofs.Reading.{answer, found}
 use Rattle.markup.specs.Attributes.{sure, unsure}
 use Rattle.markup.proofs.Attributes.{parts_found, name-some, parts_none, stops_space, stops_attribute}
-use Rattle.markup.proofs.Begun.{Begun, begun-start, begun-end}
-use Rattle.markup.proofs.Slots.{HasSlot, slot_more}
+use Rattle.markup.proofs.Begun.{begun-start, begun-end}
+use Rattle.markup.proofs.Slots.{slot_more}
 use borrow.Author.Rules.{rules}
 use Rattle.markup.proofs.marks.read_by_slots.Goals as goal
 

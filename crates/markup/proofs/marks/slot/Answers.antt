@@ -1,6 +1,5 @@
 -- `markup::marks::slot` meets its contract.
 use native.Mathlib.Omega.{arith}
-use borrow.Author.Rules.{rules}
 use Rattle.markup.proofs.marks.slot.Goals as goal
 
 pub returns : goal.returns

@@ -1,5 +1,4 @@
 -- `markup::scan::is_name_start` meets its contract.
-use borrow.Author.Rules.{rules}
 use Rattle.markup.proofs.scan.is_name_start.Goals as goal
 
 pub returns : goal.returns

@@ -1,7 +1,6 @@
 -- `markup::scan::read_byte` meets its contract.
 use borrow.Author.Tests.{eq-eqb, ne_eqb}
 use Rattle.text.proofs.Reading.{one_yes, one_no, one_end}
-use borrow.Author.Rules.{rules}
 use Rattle.markup.proofs.scan.read_byte.Goals as goal
 
 pub returns-then-s-at : goal.returns-then-s-at

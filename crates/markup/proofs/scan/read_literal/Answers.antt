@@ -1,9 +1,5 @@
-use Prim.Native.Nat.{ℕ, ◌+◌, ◌-◌, ◌≤◌}
+use Prim.Native.Nat.{◌+◌}
 use native.Mathlib.Omega.{arith}
-use lib.ListN.{length, drop}
-use Rattle.rules.specs.Parsers.{literal}
-use Rattle.text.specs.Reads.{Reads}
-use Rattle.text.specs.declared.Read.{Read}
 use Rattle.text.proofs.Reading.{literal_more, literal-not, literal-end, found, answer, not, fewer}
 use borrow.Author.Rules.{rules}
 use Rattle.markup.proofs.scan.read_literal.Goals as goal

@@ -1,12 +1,9 @@
 -- `markup::scan::read_literal` meets its contract. The loop's invariant: an answer on what is left of the bytes is an answer on all of them.
 use Prim.Native.Nat.{ℕ, ◌+◌, ◌-◌, ◌≤◌}
-use native.Mathlib.Omega.{arith}
 use lib.ListN.{length, drop}
 use Rattle.rules.specs.Parsers.{literal}
 use Rattle.text.specs.Reads.{Reads}
 use Rattle.text.specs.declared.Read.{Read}
-use Rattle.text.proofs.Reading.{literal_more, literal-not, literal-end, found, answer, not, fewer}
-use borrow.Author.Rules.{rules}
 use Rattle.markup.proofs.scan.read_literal.Given as goal
 
 abbrev pub invariant-loop-i : goal.invariant-loop-i

@@ -3,7 +3,6 @@ use mathlib.Core.Path.{sym, ◌∙◌}
 use Rattle.rules.specs.Markup.{name}
 use Rattle.text.specs.Reads.{upto}
 use Rattle.text.proofs.Reading.{one_yes, one_no, one_end, good, then, then_not, last}
-use borrow.Author.Rules.{rules}
 use Rattle.markup.proofs.scan.read_name.Goals as goal
 
 pub returns-then-is_name_start : goal.returns-then-is_name_start

@@ -1,7 +1,6 @@
 -- `markup::scan::read_some_space` meets its contract.
 use Rattle.rules.specs.Markup.{some_space}
 use Rattle.text.proofs.Reading.{some_yes, some_no}
-use borrow.Author.Rules.{rules}
 use Rattle.markup.proofs.scan.read_some_space.Goals as goal
 
 pub returns-then-at-end : goal.returns-then-at-end

@@ -1,14 +1,9 @@
 -- `markup::scan::skip_space` meets its contract. The loop's invariant: an answer from here is an answer from the start.
 use Prim.Native.Nat.{ℕ, ◌≤◌, ◌-◌}
-use mathlib.Core.Path.{sym, ◌∙◌}
-use native.Mathlib.Omega.{arith}
-use borrow.Author.Tests.{not-true, not-false}
 use lib.ListN.{length}
 use Rattle.rules.specs.Parsers.{many}
 use Rattle.rules.specs.Markup.{is_space}
 use Rattle.text.specs.Reads.{Good}
-use Rattle.text.proofs.Reading.{many_more, many_no, many-end}
-use borrow.Author.Rules.{rules}
 use Rattle.markup.proofs.scan.skip_space.Given as goal
 
 abbrev pub invariant-loop-i : goal.invariant-loop-i

@@ -1,10 +1,6 @@
-use Prim.Native.Nat.{◌-◌, ◌≤◌}
 use mathlib.Core.Path.{sym, ◌∙◌}
 use native.Mathlib.Omega.{arith}
-use lib.ListN.{length}
 use Rattle.text.proofs.Reading.{answer, found}
-use Rattle.markup.specs.Attributes.{Answers}
-use Rattle.markup.specs.declared.tag.Found.{Found}
 use Rattle.markup.proofs.Attributes.{parts_found, parts_none, stops_space, stops_attribute, find-end, find_more, find_here}
 use borrow.Author.Rules.{rules}
 use Rattle.markup.proofs.tag.find_attribute.Goals as goal

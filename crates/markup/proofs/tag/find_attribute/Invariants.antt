@@ -1,13 +1,8 @@
 -- `markup::tag::find_attribute` meets its contract. The loop's invariant: an answer from here is an answer from the start.
 use Prim.Native.Nat.{◌-◌, ◌≤◌}
-use mathlib.Core.Path.{sym, ◌∙◌}
-use native.Mathlib.Omega.{arith}
 use lib.ListN.{length}
-use Rattle.text.proofs.Reading.{answer, found}
 use Rattle.markup.specs.Attributes.{Answers}
 use Rattle.markup.specs.declared.tag.Found.{Found}
-use Rattle.markup.proofs.Attributes.{parts_found, parts_none, stops_space, stops_attribute, find-end, find_more, find_here}
-use borrow.Author.Rules.{rules}
 use Rattle.markup.proofs.tag.find_attribute.Given as goal
 
 abbrev pub invariant-loop-j : goal.invariant-loop-j

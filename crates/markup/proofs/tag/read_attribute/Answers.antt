@@ -3,7 +3,6 @@ use Rattle.rules.specs.Markup.{attribute}
 use Rattle.text.proofs.Reading.{answer, found, none_of, then, then_not}
 use Rattle.markup.specs.Attributes.{no_parts}
 use Rattle.markup.proofs.Attributes.{parts_good}
-use borrow.Author.Rules.{rules}
 use Rattle.markup.proofs.tag.read_attribute.Goals as goal
 
 pub returns-in_default : goal.returns-in_default

@@ -3,7 +3,6 @@ use Rattle.rules.specs.Markup.{tag_attributes}
 use Rattle.text.proofs.Reading.{enough}
 use Rattle.markup.specs.Attributes.{distinct_attributes}
 use Rattle.markup.proofs.Attributes.{told-sure}
-use borrow.Author.Rules.{rules}
 use Rattle.markup.proofs.tag.read_attributes.Goals as goal
 
 pub returns-in-Sure : goal.returns-in-Sure

@@ -1,10 +1,7 @@
-use Prim.Native.Nat.{◌-◌, ◌≤◌}
 use native.Mathlib.Omega.{arith}
-use lib.ListN.{length}
 use Rattle.rules.specs.Markup.{tag_attributes}
-use Rattle.text.specs.declared.Read.{Read}
 use Rattle.text.proofs.Reading.{answer, found, enough}
-use Rattle.markup.specs.Attributes.{distinct_attributes, ReadsDistinct}
+use Rattle.markup.specs.Attributes.{distinct_attributes}
 use Rattle.markup.proofs.Attributes.{parts_found, parts_none, told-sure, stops_space, stops_attribute, distinct-end, distinct_again, distinct_more}
 use borrow.Author.Rules.{rules}
 use Rattle.markup.proofs.tag.read_by_search.Goals as goal

@@ -1,13 +1,8 @@
 -- `markup::tag::read_by_search` meets its contract. The loop's invariant: an answer from here is an answer from the start.
 use Prim.Native.Nat.{◌-◌, ◌≤◌}
-use native.Mathlib.Omega.{arith}
 use lib.ListN.{length}
-use Rattle.rules.specs.Markup.{tag_attributes}
 use Rattle.text.specs.declared.Read.{Read}
-use Rattle.text.proofs.Reading.{answer, found, enough}
-use Rattle.markup.specs.Attributes.{distinct_attributes, ReadsDistinct}
-use Rattle.markup.proofs.Attributes.{parts_found, parts_none, told-sure, stops_space, stops_attribute, distinct-end, distinct_again, distinct_more}
-use borrow.Author.Rules.{rules}
+use Rattle.markup.specs.Attributes.{ReadsDistinct}
 use Rattle.markup.proofs.tag.read_by_search.Given as goal
 
 abbrev pub invariant-loop-j : goal.invariant-loop-j

@@ -2,7 +2,6 @@
 use native.Mathlib.Omega.{arith}
 use Rattle.rules.specs.Markup.{end_tag}
 use Rattle.text.proofs.Reading.{answer, found, fewer, not, then, then_not}
-use borrow.Author.Rules.{rules}
 use Rattle.markup.proofs.tag.read_end_tag.Goals as goal
 
 pub returns-in_default : goal.returns-in_default

@@ -2,7 +2,6 @@
 use Rattle.text.proofs.Reading.{answer, found}
 use Rattle.markup.specs.Tags.{head}
 use Rattle.markup.proofs.Tags.{no_less, no_name}
-use borrow.Author.Rules.{rules}
 use Rattle.markup.proofs.tag.read_head.Goals as goal
 
 pub returns-in_default : goal.returns-in_default

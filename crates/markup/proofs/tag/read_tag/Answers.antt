@@ -2,7 +2,6 @@
 use Rattle.text.proofs.Reading.{answer, found}
 use Rattle.markup.specs.Tags.{empty_tag, open_tag, no_tag}
 use Rattle.markup.proofs.Tags.{head_found, head-none, no_attributes, no_end}
-use borrow.Author.Rules.{rules}
 use Rattle.markup.proofs.tag.read_tag.Goals as goal
 
 pub returns-in_default : goal.returns-in_default

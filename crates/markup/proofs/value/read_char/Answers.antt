@@ -1,7 +1,6 @@
 -- `markup::value::read_char` meets its contract.
 use Rattle.text.proofs.Reading.{answer}
 use Rattle.markup.proofs.Characters.{char-outside, char-inside, char_here, char-past}
-use borrow.Author.Rules.{rules}
 use Rattle.markup.proofs.value.read_char.Goals as goal
 
 pub returns-in-At : goal.returns-in-At

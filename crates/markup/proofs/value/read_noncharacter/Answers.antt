@@ -2,7 +2,6 @@
 use mathlib.Core.Path.{sym}
 use Rattle.rules.specs.Markup.{noncharacter}
 use Rattle.text.proofs.Reading.{answer, first, second}
-use borrow.Author.Rules.{rules}
 use Rattle.markup.proofs.value.read_noncharacter.Goals as goal
 
 pub returns-in-At : goal.returns-in-At

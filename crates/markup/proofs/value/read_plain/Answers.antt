@@ -2,7 +2,6 @@
 use mathlib.Core.Path.{sym, ◌∙◌}
 use Rattle.text.proofs.Reading.{one_no, one_end}
 use Rattle.markup.proofs.Characters.{char-one, char_no}
-use borrow.Author.Rules.{rules}
 use Rattle.markup.proofs.value.read_plain.Goals as goal
 
 pub returns-then-is_plain : goal.returns-then-is_plain

@@ -1,6 +1,4 @@
 -- `markup::value::read_reference` meets its contract.
-use mathlib.Core.Path.{refl}
-use borrow.Author.Rules.{rules}
 use Rattle.rules.specs.Markup.{reference}
 use Rattle.markup.proofs.Characters.{char_here, char-past}
 use Rattle.markup.proofs.value.read_reference.Goals as goal

@@ -1,10 +1,6 @@
-use Prim.Native.Nat.{◌-◌}
 use native.Mathlib.Omega.{arith}
-use lib.ListN.{length}
 use Rattle.text.proofs.Reading.{answer, found}
-use Rattle.markup.specs.Values.{TextOn}
 use Rattle.markup.proofs.Characters.{char-answer, char_good, char-none, text-end, text-not, on_none, on_more}
-use borrow.Author.Rules.{rules}
 use Rattle.markup.proofs.value.read_text.Goals as goal
 
 pub loop-e-init : goal.loop-e-init

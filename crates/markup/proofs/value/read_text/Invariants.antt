@@ -1,12 +1,8 @@
 -- `markup::value::read_text` meets its contract. The loop's invariant: what is passed is characters, so that an answer from here is an answer
 -- from the start.
 use Prim.Native.Nat.{◌-◌}
-use native.Mathlib.Omega.{arith}
 use lib.ListN.{length}
-use Rattle.text.proofs.Reading.{answer, found}
 use Rattle.markup.specs.Values.{TextOn}
-use Rattle.markup.proofs.Characters.{char-answer, char_good, char-none, text-end, text-not, on_none, on_more}
-use borrow.Author.Rules.{rules}
 use Rattle.markup.proofs.value.read_text.Given as goal
 
 abbrev pub invariant-loop-e : goal.invariant-loop-e

@@ -1,7 +1,6 @@
 -- `markup::value::read_value` meets its contract.
 use Rattle.rules.specs.Markup.{value}
 use Rattle.text.proofs.Reading.{answer, found, then, then_not, enough}
-use borrow.Author.Rules.{rules}
 use Rattle.markup.proofs.value.read_value.Goals as goal
 
 pub returns-in_default : goal.returns-in_default

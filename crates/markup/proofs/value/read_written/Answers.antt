@@ -1,7 +1,6 @@
 -- `markup::value::read_written` meets its contract.
 use Rattle.text.proofs.Reading.{answer, found}
 use Rattle.markup.proofs.Characters.{written_yes, written_no}
-use borrow.Author.Rules.{rules}
 use Rattle.markup.proofs.value.read_written.Goals as goal
 
 pub returns-in-At : goal.returns-in-At

@@ -1,11 +1,6 @@
-use Prim.Native.Nat.{◌-◌}
 use mathlib.Core.Path.{sym, ◌∙◌}
 use native.Mathlib.Omega.{arith}
-use borrow.Author.Tests.{not-false}
-use lib.ListN.{length}
-use Rattle.markup.specs.Values.{TextOn}
 use Rattle.markup.proofs.Characters.{on_none, on_simple}
-use borrow.Author.Rules.{rules}
 use Rattle.markup.proofs.value.skip_simple.Goals as goal
 
 pub loop-i-init : goal.loop-i-init

@@ -1,12 +1,7 @@
 -- `markup::value::skip_simple` meets its contract. The loop's invariant: what is passed is characters.
 use Prim.Native.Nat.{◌-◌}
-use mathlib.Core.Path.{sym, ◌∙◌}
-use native.Mathlib.Omega.{arith}
-use borrow.Author.Tests.{not-false}
 use lib.ListN.{length}
 use Rattle.markup.specs.Values.{TextOn}
-use Rattle.markup.proofs.Characters.{on_none, on_simple}
-use borrow.Author.Rules.{rules}
 use Rattle.markup.proofs.value.skip_simple.Given as goal
 
 abbrev pub invariant-loop-i : goal.invariant-loop-i

@@ -3,7 +3,6 @@ use mathlib.Core.Path.{◌∙◌}
 use native.Mathlib.Omega.{arith}
 use Rattle.rules.proofs.Calendar.{days_by_division_lem}
 use Rattle.printing.proofs.Dates.{in_year, date_found}
-use borrow.Author.Rules.{rules}
 use Rattle.printing.proofs.date.date_of.Goals as goal
 
 pub overflow_sub-passed : goal.overflow_sub-passed

@@ -1,7 +1,6 @@
 -- `printing::date::month_of` meets its contract.
 use native.Mathlib.Omega.{arith}
 use Rattle.printing.proofs.Dates.{next_month, this_month, last_month}
-use borrow.Author.Rules.{rules}
 use Rattle.printing.proofs.date.month_of.Goals as goal
 
 pub returns-then-days_before_month-day : goal.returns-then-days_before_month-day

@@ -1,7 +1,6 @@
 -- `printing::date::year_of` meets its contract.
 use native.Mathlib.Omega.{arith}
 use Rattle.printing.proofs.Dates.{next-year, this_year}
-use borrow.Author.Rules.{rules}
 use Rattle.printing.proofs.date.year_of.Goals as goal
 
 pub returns-then-days_before_year-days : goal.returns-then-days_before_year-days

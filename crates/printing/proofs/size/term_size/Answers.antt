@@ -1,7 +1,6 @@
 -- `printing::size::term_size` meets its contract.
 use native.Mathlib.Omega.{arith}
 use Rattle.printing.proofs.Terms.{term_size}
-use borrow.Author.Rules.{rules}
 use Rattle.printing.proofs.size.term_size.Goals as goal
 
 pub returns : goal.returns

@@ -8,7 +8,6 @@ use Rattle.rules.proofs.Pieces.{timestamp-length}
 use Rattle.writer.proofs.Placing.{put_both}
 use Rattle.printing.specs.Terms.{side_of}
 use Rattle.printing.proofs.Terms.{valued, opening_length}
-use borrow.Author.Rules.{rules}
 use Rattle.printing.proofs.term.put_bound.Goals as goal
 
 pub put_infinite-requires : goal.put_infinite-requires

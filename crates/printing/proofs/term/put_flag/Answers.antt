@@ -4,7 +4,6 @@ use mathlib.Core.List.{flat_map}
 use Rattle.rules.specs.Printing.{flag_text}
 use Rattle.writer.proofs.Placing.{put-none}
 use Rattle.printing.proofs.Terms.{only_closed}
-use borrow.Author.Rules.{rules}
 use Rattle.printing.proofs.term.put_flag.Goals as goal
 
 pub put-requires : goal.put-requires

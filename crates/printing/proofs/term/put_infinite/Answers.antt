@@ -1,7 +1,6 @@
 -- `printing::term::put_infinite` meets its contract.
 use mathlib.Core.List.{flat_map}
 use Rattle.rules.specs.Printing.{bound_text}
-use borrow.Author.Rules.{rules}
 use Rattle.printing.proofs.term.put_infinite.Goals as goal
 
 pub put-requires : goal.put-requires

@@ -1,6 +1,5 @@
 -- `printing::term::put_opening` meets its contract.
 use Rattle.printing.specs.Terms.{opening_text}
-use borrow.Author.Rules.{rules}
 use Rattle.printing.proofs.term.put_opening.Goals as goal
 
 pub put-requires : goal.put-requires

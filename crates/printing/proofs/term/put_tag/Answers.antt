@@ -4,7 +4,6 @@ use Rattle.rules.specs.Invariants.{low, high}
 use Rattle.printing.specs.Terms.{tag_text}
 use Rattle.writer.proofs.Placing.{put_both}
 use Rattle.printing.proofs.Terms.{flag-any, tag-length}
-use borrow.Author.Rules.{rules}
 use Rattle.printing.proofs.term.put_tag.Goals as goal
 
 pub put-a-requires : goal.put-a-requires

@@ -4,7 +4,6 @@ use Rattle.rules.specs.Printing.{term_text}
 use Rattle.writer.proofs.Placing.{put_both}
 use Rattle.printing.specs.Terms.{stretch_of, tag_text}
 use Rattle.printing.proofs.Terms.{term_sizes, bounds_writable}
-use borrow.Author.Rules.{rules}
 use Rattle.printing.proofs.term.put_term.Goals as goal
 
 pub put_tag-a-requires : goal.put_tag-a-requires

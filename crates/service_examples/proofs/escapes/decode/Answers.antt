@@ -1,4 +1,4 @@
-use Rattle.std.proofs.Common.{◌≡◌, ◌-◌, ◌≤◌, length, sym, length-take-le, rules}
+use Rattle.std.proofs.Common.{sym, length-take-le, rules}
 use Rattle.service_examples.proofs.escapes.decode.Goals as goal
 
 pub returns : goal.returns

@@ -1,5 +1,5 @@
 -- `service_examples::escapes::put` meets its contract. The measure is what is left of the text.
-use Rattle.std.proofs.Common.{◌≡◌, ◌-◌, ◌≤◌, length, rules}
+use Rattle.std.proofs.Common.{◌≡◌, ◌-◌, ◌≤◌, length}
 use Rattle.service_examples.proofs.escapes.put.Given as goal
 
 abbrev pub invariant-loop-i : goal.invariant-loop-i

@@ -1,5 +1,5 @@
 -- `service_examples::lines::position` meets its contract.
-use Rattle.std.proofs.Common.{◌-◌, ◌≤◌, length, rules}
+use Rattle.std.proofs.Common.{◌-◌, ◌≤◌, length}
 use Rattle.service_examples.proofs.lines.position.Given as goal
 
 abbrev pub invariant-loop-i : goal.invariant-loop-i

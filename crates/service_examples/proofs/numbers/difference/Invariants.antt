@@ -1,5 +1,5 @@
 -- `service_examples::numbers::difference` meets its contract.
-use Rattle.std.proofs.Common.{◌-◌, ◌≤◌, rules}
+use Rattle.std.proofs.Common.{◌-◌, ◌≤◌}
 use Rattle.service_examples.proofs.numbers.difference.Given as goal
 
 abbrev pub invariant-loop-k : goal.invariant-loop-k

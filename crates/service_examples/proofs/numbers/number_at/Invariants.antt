@@ -1,5 +1,5 @@
 -- `service_examples::numbers::number_at` is safe and ends.
-use Rattle.std.proofs.Common.{◌-◌, ◌≤◌, rules}
+use Rattle.std.proofs.Common.{◌≤◌}
 use Rattle.service_examples.proofs.numbers.number_at.Given as goal
 
 abbrev pub invariant-loop-k : goal.invariant-loop-k

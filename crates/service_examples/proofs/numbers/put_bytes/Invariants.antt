@@ -1,5 +1,5 @@
 -- `service_examples::numbers::put_bytes` meets its contract.
-use Rattle.std.proofs.Common.{◌≡◌, ◌-◌, ◌≤◌, length, rules}
+use Rattle.std.proofs.Common.{◌≡◌, ◌-◌, ◌≤◌, length}
 use Rattle.service_examples.proofs.numbers.put_bytes.Given as goal
 
 abbrev pub invariant-loop-i : goal.invariant-loop-i

@@ -1,5 +1,5 @@
 -- `service_examples::numbers::read` is safe and ends. There are no more numbers than bytes that were passed.
-use Rattle.std.proofs.Common.{◌-◌, ◌≤◌, length, rules}
+use Rattle.std.proofs.Common.{◌-◌, ◌≤◌, length}
 use Rattle.service_examples.proofs.numbers.read.Given as goal
 
 abbrev pub invariant-loop-i : goal.invariant-loop-i

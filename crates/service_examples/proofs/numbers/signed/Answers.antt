@@ -1,5 +1,5 @@
 -- `service_examples::numbers::signed` is safe: -1 less a number below 2^63 fits.
-use Rattle.std.proofs.Common.{ℕ, zero, suc, ◌-◌, ◌^◌, ◌<◌, pos, negsuc, ◌-ℤ◌, arith, w64, SFits, rules}
+use Rattle.std.proofs.Common.{ℕ, zero, suc, ◌-◌, ◌^◌, ◌<◌, pos, negsuc, ◌-ℤ◌, arith, w64, SFits}
 use mir.ValLaws.{to_z-of_z}
 use Rattle.service_examples.proofs.numbers.signed.Goals as goal
 

@@ -1,5 +1,5 @@
 -- `service_examples::services::difference` is safe and ends.
-use Rattle.std.proofs.Common.{◌-◌, ◌≤◌, rules}
+use Rattle.std.proofs.Common.{◌-◌, ◌≤◌}
 use Rattle.service_examples.proofs.services.difference.Given as goal
 
 abbrev pub invariant-loop-i : goal.invariant-loop-i

@@ -1,5 +1,5 @@
 -- `service_examples::services::list` meets what it calls.
-use Rattle.std.proofs.Common.{sym, arith, length-take-le, rules}
+use Rattle.std.proofs.Common.{sym, arith, length-take-le}
 use Rattle.service_examples.proofs.services.list.Goals as goal
 
 pub slice_bounds-rigcactus_list-end : goal.slice_bounds-rigcactus_list-end

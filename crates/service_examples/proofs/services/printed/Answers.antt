@@ -1,5 +1,5 @@
 -- `service_examples::services::printed` meets what it calls.
-use Rattle.std.proofs.Common.{sym, arith, length-take-le, rules}
+use Rattle.std.proofs.Common.{sym, arith, length-take-le}
 use Rattle.service_examples.proofs.services.printed.Goals as goal
 
 pub slice_bounds-rigcactus_print-end : goal.slice_bounds-rigcactus_print-end

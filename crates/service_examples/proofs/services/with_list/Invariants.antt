@@ -1,5 +1,5 @@
 -- `service_examples::services::with_list` is safe and ends.
-use Rattle.std.proofs.Common.{◌-◌, ◌≤◌, rules}
+use Rattle.std.proofs.Common.{◌-◌, ◌≤◌}
 use Rattle.service_examples.proofs.services.with_list.Given as goal
 
 abbrev pub invariant-loop-k : goal.invariant-loop-k

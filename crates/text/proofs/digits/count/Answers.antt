@@ -1,13 +1,9 @@
-use Prim.Native.Nat.{◌+◌, ◌-◌, ◌≤◌}
-use mathlib.Core.Path.{◌≡◌, refl, sym, ◌∙◌}
-use mathlib.Core.Bool.{true}
+use Prim.Native.Nat.{◌+◌}
+use mathlib.Core.Path.{refl, sym, ◌∙◌}
 use native.Mathlib.Omega.{arith}
-use borrow.Author.Tests.{not-true, not-false}
-use lib.ListN.{length, take, drop}
 use Rattle.rules.specs.Basics.{every, is_digit}
 use Rattle.text.proofs.Following.{every_more}
 use Rattle.text.proofs.Numerals.{none-at-end, none-at}
-use borrow.Author.Rules.{rules}
 use Rattle.text.proofs.digits.count.Goals as goal
 
 pub loop-n-init : goal.loop-n-init

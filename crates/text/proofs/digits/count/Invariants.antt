@@ -1,14 +1,9 @@
 -- `text::digits::count` meets its contract. The loop's invariant: the bytes passed are digits.
 use Prim.Native.Nat.{◌+◌, ◌-◌, ◌≤◌}
-use mathlib.Core.Path.{◌≡◌, refl, sym, ◌∙◌}
+use mathlib.Core.Path.{◌≡◌}
 use mathlib.Core.Bool.{true}
-use native.Mathlib.Omega.{arith}
-use borrow.Author.Tests.{not-true, not-false}
 use lib.ListN.{length, take, drop}
 use Rattle.rules.specs.Basics.{every, is_digit}
-use Rattle.text.proofs.Following.{every_more}
-use Rattle.text.proofs.Numerals.{none-at-end, none-at}
-use borrow.Author.Rules.{rules}
 use Rattle.text.proofs.digits.count.Given as goal
 
 abbrev pub invariant-loop-n : goal.invariant-loop-n

@@ -1,14 +1,11 @@
 use Rattle.text.proofs.Numerals.{digits-short, decimal_more, passed-fits, other_byte, all-passed}
 use Rattle.text.proofs.Following.{every_more}
 use Rattle.rules.proofs.Tests.{is_from-true_lem}
-use Rattle.rules.specs.Basics.{every, is_digit, decimal_from, decimal}
-use lib.ListN.{get_or, take, drop}
-use borrow.Author.Tests.{not-true, not-false}
+use Rattle.rules.specs.Basics.{every, is_digit, decimal_from}
+use lib.ListN.{get_or}
 use native.Mathlib.Omega.{arith}
-use mathlib.Core.Bool.{true}
-use mathlib.Core.Path.{◌≡◌, refl, sym, ◌∙◌}
-use Prim.Native.Nat.{◌+◌, ◌-◌, ◌≤◌}
-use borrow.Author.Rules.{rules}
+use mathlib.Core.Path.{refl, sym, ◌∙◌}
+use Prim.Native.Nat.{◌+◌}
 use Rattle.text.proofs.digits.read.Goals as goal
 
 pub overflow_sub-s : goal.overflow_sub-s

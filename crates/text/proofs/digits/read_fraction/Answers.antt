@@ -3,7 +3,6 @@ use Prim.Native.Nat.{◌+◌, ◌-◌, ◌*◌, ◌^◌}
 use mathlib.Core.Path.{◌∙◌, ap}
 use native.Mathlib.Omega.{arith}
 use Rattle.text.proofs.Numerals.{none-at-end, no_byte, byte_at, no_point, no_digit, no_digit_counted, fraction-none, fraction_digits, decimal-first}
-use borrow.Author.Rules.{rules}
 use Rattle.text.proofs.digits.read_fraction.Goals as goal
 
 pub returns-then-s-at : goal.returns-then-s-at

@@ -1,10 +1,8 @@
-use Prim.Native.Nat.{◌-◌, ◌≤◌}
 use mathlib.Core.Path.{◌≡◌, refl, sym, ◌∙◌, ap}
 use native.Mathlib.Omega.{arith}
 use lib.ListN.{take, drop}
 use Rattle.rules.specs.Basics.{decimal_from, decimal}
 use Rattle.text.proofs.Numerals.{digit_at, decimal-fits, decimal_more}
-use borrow.Author.Rules.{rules}
 use Rattle.text.proofs.digits.value.Goals as goal
 
 pub loop-k-init : goal.loop-k-init

@@ -1,11 +1,8 @@
 -- `text::digits::value` meets its contract. The loop's invariant: the total is what the digits passed write.
 use Prim.Native.Nat.{◌-◌, ◌≤◌}
-use mathlib.Core.Path.{◌≡◌, refl, sym, ◌∙◌, ap}
-use native.Mathlib.Omega.{arith}
+use mathlib.Core.Path.{◌≡◌}
 use lib.ListN.{take, drop}
-use Rattle.rules.specs.Basics.{decimal_from, decimal}
-use Rattle.text.proofs.Numerals.{digit_at, decimal-fits, decimal_more}
-use borrow.Author.Rules.{rules}
+use Rattle.rules.specs.Basics.{decimal}
 use Rattle.text.proofs.digits.value.Given as goal
 
 abbrev pub invariant-loop-k : goal.invariant-loop-k

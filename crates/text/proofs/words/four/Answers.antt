@@ -2,7 +2,6 @@
 use Rattle.text.proofs.Lanes.{word_four}
 use mathlib.Core.Path.{sym}
 use native.Mathlib.Omega.{arith}
-use borrow.Author.Rules.{rules}
 use Rattle.text.proofs.words.four.Goals as goal
 
 pub returns : goal.returns

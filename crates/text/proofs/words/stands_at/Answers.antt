@@ -1,12 +1,10 @@
-use Prim.Native.Nat.{◌+◌, ◌-◌, ◌≤◌}
+use Prim.Native.Nat.{◌+◌}
 use mathlib.Core.Path.{◌≡◌, refl, sym, ◌∙◌}
 use native.Mathlib.Nat.{add-zero}
 use native.Mathlib.Omega.{arith}
-use lib.ListN.{length, drop, length-drop}
-use Rattle.rules.specs.Basics.{begins}
+use lib.ListN.{length-drop}
 use Rattle.text.proofs.Sameness.{begins_shorter}
 use Rattle.text.proofs.Standing.{words_same, words_differ, rests}
-use borrow.Author.Rules.{rules}
 use Rattle.text.proofs.words.stands_at.Goals as goal
 
 pub returns-then-s-at : goal.returns-then-s-at

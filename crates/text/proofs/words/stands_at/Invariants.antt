@@ -1,13 +1,8 @@
 -- `text::words::stands_at` meets its contract. The loop's invariant: the text stands there if what is left of it stands as far on.
 use Prim.Native.Nat.{◌+◌, ◌-◌, ◌≤◌}
-use mathlib.Core.Path.{◌≡◌, refl, sym, ◌∙◌}
-use native.Mathlib.Nat.{add-zero}
-use native.Mathlib.Omega.{arith}
-use lib.ListN.{length, drop, length-drop}
+use mathlib.Core.Path.{◌≡◌}
+use lib.ListN.{length, drop}
 use Rattle.rules.specs.Basics.{begins}
-use Rattle.text.proofs.Sameness.{begins_shorter}
-use Rattle.text.proofs.Standing.{words_same, words_differ, rests}
-use borrow.Author.Rules.{rules}
 use Rattle.text.proofs.words.stands_at.Given as goal
 
 abbrev pub invariant-loop-k : goal.invariant-loop-k

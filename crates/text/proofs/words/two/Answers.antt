@@ -3,7 +3,6 @@ use Rattle.text.proofs.Lanes.{word_two}
 use native.Mathlib.Omega.{arith}
 use mathlib.Core.Path.{sym}
 use Prim.Native.Nat.{◌+◌}
-use borrow.Author.Rules.{rules}
 use Rattle.text.proofs.words.two.Goals as goal
 
 pub overflow_cast-result : goal.overflow_cast-result

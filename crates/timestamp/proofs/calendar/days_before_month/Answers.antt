@@ -3,7 +3,6 @@ use Rattle.timestamp.proofs.Months.{days-before_month}
 use borrow.Author.Tests.{le-leb, lt-leb}
 use mathlib.Core.Path.{sym, ◌∙◌}
 use native.Mathlib.Omega.{arith}
-use borrow.Author.Rules.{rules}
 use Rattle.timestamp.proofs.calendar.days_before_month.Goals as goal
 
 pub returns-then-month-le2 : goal.returns-then-month-le2

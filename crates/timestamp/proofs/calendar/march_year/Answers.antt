@@ -1,7 +1,6 @@
 -- `timestamp::calendar::march_year` meets its contract.
 use native.Mathlib.Omega.{arith}
 use borrow.Author.Tests.{le-leb, lt-leb}
-use borrow.Author.Rules.{rules}
 use Rattle.timestamp.proofs.calendar.march_year.Goals as goal
 
 pub returns-then-month-le2 : goal.returns-then-month-le2

@@ -2,7 +2,6 @@
 use Rattle.timestamp.proofs.Months.{month_length_lem}
 use borrow.Author.Tests.{eq-eqb, ne_eqb}
 use mathlib.Core.Path.{sym, ◌∙◌}
-use borrow.Author.Rules.{rules}
 use Rattle.timestamp.proofs.calendar.month_length.Goals as goal
 
 pub returns-then-month-ne2 : goal.returns-then-month-ne2

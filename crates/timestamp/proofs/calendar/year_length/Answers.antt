@@ -1,6 +1,5 @@
 -- `timestamp::calendar::year_length` meets its contract.
 use mathlib.Core.Path.{refl, sym, ◌∙◌}
-use borrow.Author.Rules.{rules}
 use Rattle.timestamp.proofs.calendar.year_length.Goals as goal
 
 pub returns-then-is_leap : goal.returns-then-is_leap

@@ -1,7 +1,6 @@
 -- `timestamp::form::read_form` meets its contract: what was read, part after part, is the whole text or not.
 use Rattle.timestamp.proofs.Reading.{found, missing, no_year}
 use Rattle.timestamp.proofs.Whole.{whole-written, whole_longer}
-use borrow.Author.Rules.{rules}
 use Rattle.timestamp.proofs.form.read_form.Goals as goal
 
 pub returns-in_default : goal.returns-in_default

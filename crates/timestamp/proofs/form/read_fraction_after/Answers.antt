@@ -1,6 +1,5 @@
 -- `timestamp::form::read_fraction_after` meets its contract.
 use Rattle.timestamp.proofs.Reading.{fraction_early, fraction_late}
-use borrow.Author.Rules.{rules}
 use Rattle.timestamp.proofs.form.read_fraction_after.Goals as goal
 
 pub returns-then-count-lt5 : goal.returns-then-count-lt5

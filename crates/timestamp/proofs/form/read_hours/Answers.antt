@@ -3,7 +3,6 @@ use Prim.Native.Nat.{◌+◌}
 use native.Mathlib.Omega.{arith}
 use lib.ListN.{drop}
 use Rattle.timestamp.proofs.Reading.{found, missing, hours-none, hours_alone, hours_minutes}
-use borrow.Author.Rules.{rules}
 use Rattle.timestamp.proofs.form.read_hours.Goals as goal
 
 pub returns-in_default : goal.returns-in_default

@@ -1,12 +1,9 @@
 use mathlib.Core.Path.{refl, ap}
-use Prim.Native.Nat.{◌-◌}
-use lib.ListN.{length}
 use Rattle.timestamp.specs.declared.form.Parts.{Parts}
 use mathlib.Core.List.{[]}
 use native.Mathlib.Omega.{arith}
-use borrow.Author.Rules.{rules}
 use Rattle.timestamp.proofs.Reading.{found, missing}
-use Rattle.timestamp.proofs.Parting.{PartsTo, counted, parts-stop, parts_last, parts_more}
+use Rattle.timestamp.proofs.Parting.{parts-stop, parts_last, parts_more}
 use Rattle.timestamp.proofs.form.read_parts.Goals as goal
 
 pub loop-p-init : goal.loop-p-init

@@ -5,7 +5,6 @@ use lib.ListN.{drop}
 use Rattle.rules.specs.Timestamp.{plus, minus}
 use Rattle.text.proofs.Numerals.{none-at-end, byte_at, no_byte}
 use Rattle.timestamp.proofs.Reading.{found_hours, missing_hours, zone-plus, zone-minus, zone-none, zone-plus-none, zone-minus-none}
-use borrow.Author.Rules.{rules}
 use Rattle.timestamp.proofs.form.read_zone.Goals as goal
 
 pub returns-then-s-at : goal.returns-then-s-at

@@ -1,6 +1,5 @@
 -- `timestamp::form::read_zone_after` meets its contract.
 use Rattle.timestamp.proofs.Reading.{zone_early, zone_late}
-use borrow.Author.Rules.{rules}
 use Rattle.timestamp.proofs.form.read_zone_after.Goals as goal
 
 pub returns-then-count-lt3 : goal.returns-then-count-lt3

@@ -2,7 +2,6 @@
 use mathlib.Core.Path.{ap}
 use mathlib.Core.List.{[], ◌∷◌}
 use lib.ListN.{length-append}
-use borrow.Author.Rules.{rules}
 use Rattle.timestamp.specs.declared.form.Parts.{Parts}
 use Rattle.timestamp.proofs.Parting.{place_next}
 use Rattle.timestamp.proofs.form.with_next.Goals as goal

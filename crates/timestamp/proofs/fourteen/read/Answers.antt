@@ -4,7 +4,6 @@ use Rattle.text.specs.Words.{PairsOf}
 use lib.ListN.{take}
 use native.Mathlib.Omega.{arith}
 use mathlib.Core.Path.{subst}
-use borrow.Author.Rules.{rules}
 use Rattle.timestamp.proofs.fourteen.read.Goals as goal
 
 pub returns-then-s-ne14 : goal.returns-then-s-ne14

@@ -1,6 +1,5 @@
 -- `totals::damage::is_bad` meets its contract.
 use Rattle.totals.proofs.Damaged.{bad-before, bad-itself}
-use Rattle.std.proofs.Common.{rules}
 use Rattle.totals.proofs.damage.is_bad.Goals as goal
 
 pub returns-then-is_currency-is_in_range : goal.returns-then-is_currency-is_in_range

@@ -1,6 +1,5 @@
 -- `totals::damage::is_currency` meets its contract.
 use Rattle.totals.proofs.Arithmetic.{no_currency, three_capitals}
-use Rattle.std.proofs.Common.{rules}
 use Rattle.totals.proofs.damage.is_currency.Goals as goal
 
 pub returns-then-n-gt16777215 : goal.returns-then-n-gt16777215

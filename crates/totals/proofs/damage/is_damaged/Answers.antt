@@ -1,5 +1,4 @@
-use Rattle.std.proofs.Common.{◌≡◌, ℕ, ◌-◌, ◌<◌, ◌≤◌, false, length, sym, ◌∙◌, arith, rules}
-use Rattle.totals.specs.Tables.{is_bad}
+use Rattle.std.proofs.Common.{◌≡◌, length, sym, ◌∙◌, arith}
 use Rattle.totals.proofs.Rows.{length_mapped}
 use Rattle.totals.proofs.Damaged.{damaged_early, not_early, damaged-row, undamaged-rows, not-bad_more}
 use Rattle.totals.proofs.damage.is_damaged.Goals as goal

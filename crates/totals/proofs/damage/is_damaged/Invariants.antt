@@ -1,8 +1,6 @@
 -- `totals::damage::is_damaged` meets its contract. The loop's invariant: none of the first k rows is bad.
-use Rattle.std.proofs.Common.{◌≡◌, ℕ, ◌-◌, ◌<◌, ◌≤◌, false, length, sym, ◌∙◌, arith, rules}
+use Rattle.std.proofs.Common.{◌≡◌, ℕ, ◌-◌, ◌<◌, ◌≤◌, false}
 use Rattle.totals.specs.Tables.{is_bad}
-use Rattle.totals.proofs.Rows.{length_mapped}
-use Rattle.totals.proofs.Damaged.{damaged_early, not_early, damaged-row, undamaged-rows, not-bad_more}
 use Rattle.totals.proofs.damage.is_damaged.Given as goal
 
 abbrev pub invariant-loop-k : goal.invariant-loop-k

@@ -1,5 +1,5 @@
 -- `totals::damage::is_over_counted` meets its contract.
-use Rattle.std.proofs.Common.{arith, rules}
+use Rattle.std.proofs.Common.{arith}
 use Rattle.totals.proofs.Arithmetic.{over_one, none_over}
 use Rattle.totals.proofs.damage.is_over_counted.Goals as goal
 

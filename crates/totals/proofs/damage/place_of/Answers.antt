@@ -1,5 +1,4 @@
-use Rattle.std.proofs.Common.{◌≡◌, ◌+◌, ◌-◌, ◌≤◌, length, take, drop, arith}
-use Rattle.totals.specs.Tables.{place_of}
+use Rattle.std.proofs.Common.{◌≡◌, length, arith}
 use Rattle.totals.proofs.Places.{searching, found, not_yet, nowhere}
 use Rattle.totals.proofs.Rows.{length_mapped}
 use Rattle.totals.proofs.damage.place_of.Goals as goal

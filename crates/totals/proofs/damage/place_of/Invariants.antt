@@ -1,8 +1,6 @@
 -- `totals::damage::place_of` meets its contract. The loop's invariant: the first k rows are of other currencies.
-use Rattle.std.proofs.Common.{◌≡◌, ◌+◌, ◌-◌, ◌≤◌, length, take, drop, arith}
+use Rattle.std.proofs.Common.{◌≡◌, ◌+◌, ◌-◌, ◌≤◌, take, drop}
 use Rattle.totals.specs.Tables.{place_of}
-use Rattle.totals.proofs.Places.{searching, found, not_yet, nowhere}
-use Rattle.totals.proofs.Rows.{length_mapped}
 use Rattle.totals.proofs.damage.place_of.Given as goal
 
 abbrev pub invariant-loop-k : goal.invariant-loop-k

@@ -1,6 +1,5 @@
 -- `totals::entry::is_money` meets its contract.
 use Rattle.totals.proofs.Entering.{is_mo, is-other}
-use Rattle.std.proofs.Common.{rules}
 use Rattle.totals.proofs.entry.is_money.Goals as goal
 
 pub returns-in-Mo : goal.returns-in-Mo

@@ -1,5 +1,5 @@
 -- `totals::entry::read` meets its contract.
-use Rattle.std.proofs.Common.{sym, ap, ◌∙◌, subst, arith, rules}
+use Rattle.std.proofs.Common.{sym, ap, ◌∙◌, subst, arith}
 use Rattle.form.specs.Amounts.{amount_of, Small}
 use Rattle.totals.proofs.Entering.{null-read, no_amount-read, amount-read}
 use Rattle.totals.proofs.entry.read.Goals as goal

@@ -1,6 +1,6 @@
 use Rattle.std.proofs.Common.{ap, not}
-use Rattle.std.proofs.Common.{◌-◌, refl, arith, rules}
-use Rattle.totals.proofs.Owners.{SoFar, begin, stray, more, none_stray}
+use Rattle.std.proofs.Common.{refl, arith}
+use Rattle.totals.proofs.Owners.{begin, stray, more, none_stray}
 use Rattle.totals.proofs.part.has_stray.Goals as goal
 
 pub loop-k-init : goal.loop-k-init

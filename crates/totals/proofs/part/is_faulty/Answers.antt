@@ -1,5 +1,4 @@
 -- `totals::part::is_faulty` meets its contract.
-use Rattle.std.proofs.Common.{rules}
 use Rattle.totals.proofs.Shared.{faulty-many, faulty-is}
 use Rattle.totals.proofs.part.is_faulty.Goals as goal
 

@@ -1,7 +1,7 @@
-use Rattle.std.proofs.Common.{◌+◌, ◌-◌, ◌*◌, refl, arith, rules}
+use Rattle.std.proofs.Common.{◌+◌, ◌*◌, refl, arith}
 use Rattle.totals.proofs.Rows.{length_mapped}
 use Rattle.totals.proofs.Owners.{bits_at}
-use Rattle.totals.proofs.Taking.{SoFar, begin, skip, more, all_taken, too_many, at-most_four, counts_taken}
+use Rattle.totals.proofs.Taking.{begin, skip, more, all_taken, too_many, at-most_four, counts_taken}
 use Rattle.totals.proofs.part.part.Goals as goal
 
 pub offset_bounds-numbers-from : goal.offset_bounds-numbers-from

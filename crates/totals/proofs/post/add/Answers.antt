@@ -1,10 +1,9 @@
 -- `totals::post::add` meets its contract.
-use Rattle.std.proofs.Common.{◌≡◌, length, sym, refl, ap, ◌∙◌, arith, rules}
+use Rattle.std.proofs.Common.{◌≡◌, length, sym, refl, ap, ◌∙◌, arith}
 use Rattle.totals.proofs.Rows.{length_mapped}
 use Rattle.totals.proofs.Posting.{refused_as, place_few, no_row, no_total, summed, added_as}
 use Rattle.rules.specs.Totals.{is_in_range}
 use Rattle.totals.specs.Readings.{with_row}
-use borrow.Author.Tests.{not-true, not-false}
 use Rattle.totals.proofs.post.add.Goals as goal
 
 pub place_of-at-requires : goal.place_of-at-requires

@@ -1,5 +1,5 @@
 -- `totals::post::enter` meets its contract.
-use Rattle.std.proofs.Common.{refl, rules}
+use Rattle.std.proofs.Common.{refl}
 use Rattle.totals.proofs.post.enter.Goals as goal
 
 pub returns : goal.returns

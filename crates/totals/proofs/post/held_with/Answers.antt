@@ -1,5 +1,5 @@
 -- `totals::post::held_with` meets its contract.
-use Rattle.std.proofs.Common.{rules, le-ltb, lt-ltb}
+use Rattle.std.proofs.Common.{le-ltb, lt-ltb}
 use Rattle.totals.proofs.post.held_with.Goals as goal
 
 pub returns-then-at-t : goal.returns-then-at-t

@@ -1,5 +1,5 @@
 -- `totals::post::post` meets its contract.
-use Rattle.std.proofs.Common.{refl, subst, rules}
+use Rattle.std.proofs.Common.{refl, subst}
 use Rattle.totals.specs.Readings.{Readable}
 use Rattle.totals.proofs.Posting.{refused_as, null_as}
 use Rattle.totals.proofs.post.post.Goals as goal

@@ -1,5 +1,5 @@
 -- `totals::post::total_at` meets its contract.
-use Rattle.std.proofs.Common.{rules, le-ltb, lt-ltb}
+use Rattle.std.proofs.Common.{le-ltb, lt-ltb}
 use Rattle.totals.proofs.post.total_at.Goals as goal
 
 pub returns-then-at-t : goal.returns-then-at-t

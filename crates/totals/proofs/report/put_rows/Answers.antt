@@ -1,6 +1,6 @@
-use Rattle.std.proofs.Common.{◌≡◌, ◌-◌, length, arith, length-set}
+use Rattle.std.proofs.Common.{◌≡◌, length, arith, length-set}
 use Rattle.totals.proofs.Rows.{length_mapped}
-use Rattle.totals.proofs.Putting.{SoFar, begin, more, all-put}
+use Rattle.totals.proofs.Putting.{begin, more, all-put}
 use Rattle.totals.proofs.report.put_rows.Goals as goal
 
 pub loop-k-init : goal.loop-k-init

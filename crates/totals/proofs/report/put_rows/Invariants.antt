@@ -1,7 +1,6 @@
 -- `totals::report::put_rows` meets its contract. The loop's invariant: the first k rows are written.
-use Rattle.std.proofs.Common.{◌≡◌, ◌-◌, length, arith, length-set}
-use Rattle.totals.proofs.Rows.{length_mapped}
-use Rattle.totals.proofs.Putting.{SoFar, begin, more, all-put}
+use Rattle.std.proofs.Common.{◌-◌}
+use Rattle.totals.proofs.Putting.{SoFar}
 use Rattle.totals.proofs.report.put_rows.Given as goal
 
 abbrev pub invariant-loop-k : goal.invariant-loop-k

@@ -1,6 +1,6 @@
-use Rattle.std.proofs.Common.{◌≡◌, ◌-◌, length, arith}
+use Rattle.std.proofs.Common.{◌≡◌, length, arith}
 use Rattle.totals.proofs.Rows.{length_mapped}
-use Rattle.totals.proofs.Sharing.{RestSoFar, begin_rest, more_rest, all_rest}
+use Rattle.totals.proofs.Sharing.{begin_rest, more_rest, all_rest}
 use Rattle.totals.proofs.share.put_rest.Goals as goal
 
 pub loop-i-init : goal.loop-i-init

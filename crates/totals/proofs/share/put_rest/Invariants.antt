@@ -1,7 +1,6 @@
 -- `totals::share::put_rest` meets its contract. The loop's invariant: the first rows are put, and the others are to come.
-use Rattle.std.proofs.Common.{◌≡◌, ◌-◌, length, arith}
-use Rattle.totals.proofs.Rows.{length_mapped}
-use Rattle.totals.proofs.Sharing.{RestSoFar, begin_rest, more_rest, all_rest}
+use Rattle.std.proofs.Common.{◌-◌}
+use Rattle.totals.proofs.Sharing.{RestSoFar}
 use Rattle.totals.proofs.share.put_rest.Given as goal
 
 abbrev pub invariant-loop-i : goal.invariant-loop-i

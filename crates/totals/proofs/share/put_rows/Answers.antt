@@ -1,6 +1,6 @@
-use Rattle.std.proofs.Common.{◌≡◌, ◌-◌, length, refl, arith, rules}
+use Rattle.std.proofs.Common.{◌≡◌, length, refl, arith}
 use Rattle.totals.proofs.Rows.{length_mapped}
-use Rattle.totals.proofs.Sharing.{SoFar, begin, put-room, other-next, own_next, put_other, put_own, put-none, rest-room, all-put}
+use Rattle.totals.proofs.Sharing.{begin, put-room, other-next, own_next, put_other, put_own, put-none, rest-room, all-put}
 use Rattle.totals.proofs.share.put_rows.Goals as goal
 
 pub loop-i-init : goal.loop-i-init

@@ -1,7 +1,6 @@
 -- `totals::share::put_rows` meets its contract. The loop's invariant: the first i rows are read, j are put, and the others are to come.
-use Rattle.std.proofs.Common.{◌≡◌, ◌-◌, length, refl, arith, rules}
-use Rattle.totals.proofs.Rows.{length_mapped}
-use Rattle.totals.proofs.Sharing.{SoFar, begin, put-room, other-next, own_next, put_other, put_own, put-none, rest-room, all-put}
+use Rattle.std.proofs.Common.{◌-◌}
+use Rattle.totals.proofs.Sharing.{SoFar}
 use Rattle.totals.proofs.share.put_rows.Given as goal
 
 abbrev pub invariant-loop-i : goal.invariant-loop-i

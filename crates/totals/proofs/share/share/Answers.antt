@@ -1,5 +1,5 @@
 -- `totals::share::share` meets its contract.
-use Rattle.std.proofs.Common.{arith, rules}
+use Rattle.std.proofs.Common.{arith}
 use Rattle.totals.proofs.Taking.{at-most_four}
 use Rattle.totals.proofs.Shared.{held-few, all-few, part_put}
 use Rattle.totals.proofs.share.share.Goals as goal
