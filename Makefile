@@ -37,7 +37,7 @@ INSTALL = install
 prefix = $(abspath $(PREFIX))
 version = 0.4.0
 records = $(wildcard tests/records/*.txt)
-proved = $(shell find crates \( -name '*.rt' -o -name '*.antt' \) -not -path '*/must-fail/*') crates.txt
+proved = $(shell find crates \( -name '*.rt' -o -name '*.antt' \) -not -path '*/must-fail/*' -not -path '*/out/*') crates.txt
 # The services that the archive has. Adding one here has tests/services.rs try it.
 services = rigcactus_cut rigcactus_tick rigcactus_check rigcactus_list rigcactus_compare rigcactus_print rigcactus_totals_start \
 	rigcactus_totals_open rigcactus_totals_add rigcactus_totals_report
@@ -60,12 +60,14 @@ all: $(archive) $(program)
 $(archive): $(proved)
 	@mkdir -p target
 	@echo 'proving and building $@'
-	@rt staticlib rigcactus > target/staticlib.out 2>&1 || { cat target/staticlib.out; exit 1; }
+	@cd crates/rigcactus_c && rt lib > ../../target/staticlib.out 2>&1 || { cat ../../target/staticlib.out; exit 1; }
+	@mkdir -p $(@D) && cp crates/rigcactus_c/out/librigcactus_c.a $@
 
 $(markup_archive): $(proved)
 	@mkdir -p target
 	@echo 'proving and building $@'
-	@rt staticlib markup_bench > target/staticlib.out 2>&1 || { cat target/staticlib.out; exit 1; }
+	@cd crates/markup_bench && rt lib > ../../target/staticlib.out 2>&1 || { cat ../../target/staticlib.out; exit 1; }
+	@mkdir -p $(@D) && cp crates/markup_bench/out/libmarkup_bench.a $@
 
 $(program): $(host_sources) $(host_headers) $(header) $(archive)
 	@mkdir -p $(@D)
