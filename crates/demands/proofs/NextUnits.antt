@@ -10,7 +10,7 @@ use lib.ListN.{length, get_or, get_or-eq_default}
 use Rattle.rules.specs.Basics.{every}
 use Rattle.rules.specs.Calendar.{is_leap, year_length, month_lengths, month_length, days_of_months, days_before, minute, hour, day}
 use Rattle.rules.specs.Timestamp.{Written, month_of, day_of, hour_of, minute_of, is_date, is_clock, start_of, unit_length}
-use Rattle.rules.proofs.Tests.{passes, passed, both_true, is_from-true_lem}
+use Rattle.rules.proofs.Tests.{passes, passed, both_true, is_from-true}
 use Rattle.rules.proofs.Calendar.{months_make_year, month_ends}
 use Rattle.rules.proofs.Dates.{month_most}
 use Rattle.demands.specs.NextUnits.{begun, month_after, day_after, hour_after, minute_after, unit_after, written_after}
@@ -33,8 +33,8 @@ is-date : (w : Written) → is_date w ≡ true → IsMonth w.year (month_of w) �
 is-date w e =
     let (f, d) = both_true _ _ e in
     let (y, m) = both_true _ _ f in
-    let (ml, mh) = is_from-true_lem 1 12 _ m in
-    (((is_from-true_lem 1 9999 _ y).0, ml, mh), is_from-true_lem 1 _ _ d)
+    let (ml, mh) = is_from-true 1 12 _ m in
+    (((is_from-true 1 9999 _ y).0, ml, mh), is_from-true 1 _ _ d)
 
 is-time : (w : Written) → is_clock w ≡ true → IsTime (hour_of w) (minute_of w)
 is-time w e =

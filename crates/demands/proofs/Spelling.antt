@@ -13,9 +13,9 @@ use Rattle.rules.specs.Basics.{every, is_digit, decimal, digits_of}
 use Rattle.rules.specs.Parsers.{Parsed, bad, ok, next, else, pure, guard, ◌>>=◌, one, times, up_to, byte, finish, whole}
 use Rattle.rules.specs.Timestamp.{Zone, no_zone, plus, minus, Written, digits, two_digits, point, hours, zone, timestamp}
 use Rattle.rules.proofs.Tests.{clash, every_true}
-use Rattle.rules.proofs.Beginnings.{up_to-read_lem}
+use Rattle.rules.proofs.Beginnings.{up_to-read}
 use Rattle.rules.proofs.Parsers.{next-ok, map-ok, cons_ok, else-ok, one_ok, byte-ok, whole-ok}
-use Rattle.rules.proofs.Digits.{decimal-below, decimal_injective, digits_of-length_lem, digits_of-digits_lem, digits_of-decimal_lem}
+use Rattle.rules.proofs.Digits.{decimal-below, decimal_injective, digits_of-length, digits_of-digits, digits_of-decimal}
 use Rattle.rules.proofs.Dates.{digits-read}
 use Rattle.rules.proofs.Ticks.{Form, form}
 use Rattle.demands.specs.Totals.{AreDigits, pointed}
@@ -37,7 +37,7 @@ digits-ok n s {v} {r} e =
     let (ds, f, g) = map-ok (times n is_digit s) decimal e in
     let (a, b, d) = times-ok n s f in
     let l : v < 10 ^ n = subst (λ k. k < 10 ^ n) g (subst (λ k. decimal ds < 10 ^ k) b (decimal-below ds d)) in
-    let z : digits_of n v ≡ ds = decimal_injective (digits_of n v) ds (digits_of-length_lem n v ∙ sym b) (digits_of-digits_lem n v) d (digits_of-decimal_lem n v l ∙ sym g) in
+    let z : digits_of n v ≡ ds = decimal_injective (digits_of n v) ds (digits_of-length n v ∙ sym b) (digits_of-digits n v) d (digits_of-decimal n v l ∙ sym g) in
     (a ∙ ap (λ u. u ++ r) (sym z), l)
 
 -- one and others after it, or nothing
@@ -62,11 +62,11 @@ parts-ok (suc n) s {ps} {r} e = elim (several (digits 2 s) (two_digits n) s e) [
   | none z y ↦ rw z (y, refl)
 ]
 
-up_to-text_lem : (n : ℕ) (p : ℕ → Bool) (s : List ℕ) {cs r : List ℕ} → up_to n p s ≡ ok cs r → s ≡ cs ++ r
+up_to-text : (n : ℕ) (p : ℕ → Bool) (s : List ℕ) {cs r : List ℕ} → up_to n p s ≡ ok cs r → s ≡ cs ++ r
 unfolding up_to
-up_to-text_lem zero p s {cs} {r} e = let z : cs ≡ [] = cc in let y : s ≡ r = cc in rw z y
-up_to-text_lem (suc n) p s e = elim (several (one p s) (up_to n p) s e) [
-  | more c t l f g z ↦ rw (← z) ((one_ok p s f).0 ∙ ap (λ u. c ∷ u) (up_to-text_lem n p t g))
+up_to-text zero p s {cs} {r} e = let z : cs ≡ [] = cc in let y : s ≡ r = cc in rw z y
+up_to-text (suc n) p s e = elim (several (one p s) (up_to n p) s e) [
+  | more c t l f g z ↦ rw (← z) ((one_ok p s f).0 ∙ ap (λ u. c ∷ u) (up_to-text n p t g))
   | none z y ↦ rw z y
 ]
 
@@ -74,7 +74,7 @@ point-text : (s : List ℕ) {ds r : List ℕ} → point s ≡ ok ds r → s ≡ 
 unfolding point
 point-text s {ds} {r} e = next-ok (byte 46 s) _ e λ b t f g.
     let (d, u, l, h, k, z) = cons_ok (one is_digit t) (up_to 3 is_digit) g in
-    rw (← z) (byte-ok 46 s f ∙ ap (λ v. 46 ∷ v) ((one_ok is_digit t h).0 ∙ ap (λ v. d ∷ v) (up_to-text_lem 3 is_digit u k)))
+    rw (← z) (byte-ok 46 s f ∙ ap (λ v. 46 ∷ v) ((one_ok is_digit t h).0 ∙ ap (λ v. d ∷ v) (up_to-text 3 is_digit u k)))
 
 -- after a test, or nothing
 data Guarded {A : Type 0} (b : Bool) (x : Parsed A) (d : A) (s : List ℕ) (a : A) (r : List ℕ) : Type 0 where
@@ -202,7 +202,7 @@ fraction-read n [] {s} a o z = go (leb 5 n)
 fraction-read n (d ∷ f) a (inl e) z = clash (cc)
 fraction-read n (d ∷ f) a (inr e) z =
     let (g, h) = every_true is_digit d f a.digits in
-    rw (e, g, up_to-read_lem 3 is_digit f _ (omega (arith, a.few)) h (no_digits (zone-first z).0).1) refl
+    rw (e, g, up_to-read 3 is_digit f _ (omega (arith, a.few)) h (no_digits (zone-first z).0).1) refl
 
 zone-read : (n : ℕ) {s : List ℕ} {z : Zone} → SpellsZone s z → (z ≡ no_zone) ⊎ (3 ≤ n) → else (next (guard (leb 3 n) s) (λ u. zone)) (ok no_zone s) ≡ ok z []
 unfolding zone hours one

@@ -15,7 +15,7 @@ use Rattle.rules.specs.LentLists.{unsigned}
 use Rattle.rules.specs.Services.{low_bytes}
 use Rattle.rules.specs.Totals.{is_in_range}
 use Rattle.rules.specs.TotalNumbers.{total_number, total_in, currency_number, currency_in}
-use Rattle.rules.proofs.Tests.{clash, both_true, every_true, is_from-true_lem, same_true}
+use Rattle.rules.proofs.Tests.{clash, both_true, every_true, is_from-true, same_true}
 use Rattle.rules.proofs.LentLists.{unsigned-low}
 use Rattle.rules.proofs.TotalNumbers.{total-read, total-small, currency-read, currency-written}
 use Rattle.demands.specs.Totals.{IsCapital, AreLetters, IsTotal, of_sign}
@@ -30,7 +30,7 @@ letters_of (x ∷ y ∷ z ∷ []) h =
     let (f, g) = every_true (is_from 65 90) x (y ∷ z ∷ []) h in
     let (i, j) = every_true (is_from 65 90) y (z ∷ []) g in
     let k = (every_true (is_from 65 90) z [] j).0 in
-    (x, y, z, refl, is_from-true_lem 65 90 x f, is_from-true_lem 65 90 y i, is_from-true_lem 65 90 z k, omega arith)
+    (x, y, z, refl, is_from-true 65 90 x f, is_from-true 65 90 y i, is_from-true 65 90 z k, omega arith)
 letters_of (x ∷ y ∷ z ∷ w ∷ c) h = clash (omega (arith, eqb-true (length (x ∷ y ∷ z ∷ w ∷ c)) 3 (both_true (eqb (length (x ∷ y ∷ z ∷ w ∷ c)) 3) _ h).0))
 
 pub letters_in : (n : ℕ) → is_currency (currency_in n) ≡ true → AreLetters (currency_in n) n

@@ -22,10 +22,10 @@ use Rattle.rules.specs.Types.{MO, has_type}
 use Rattle.rules.specs.Check.{element_of, check}
 use Rattle.rules.specs.Totals.{is_in_range, money, entry_of, not_money, reading}
 use Rattle.rules.specs.TotalDays.{Call, reading_of}
-use Rattle.rules.proofs.Tests.{clash, every_true, is_from-true_lem}
+use Rattle.rules.proofs.Tests.{clash, every_true, is_from-true}
 use Rattle.rules.proofs.Precedence.{check-answered}
-use Rattle.rules.proofs.Beginnings.{up_to-read_lem}
-use Rattle.rules.proofs.Parsers.{next-ok, map-ok, else-ok, one_ok, up_to-ok_lem, whole-ok}
+use Rattle.rules.proofs.Beginnings.{up_to-read}
+use Rattle.rules.proofs.Parsers.{next-ok, map-ok, else-ok, one_ok, up_to-ok, whole-ok}
 use Rattle.rules.proofs.Digits.{decimal-append, decimal-below}
 use Rattle.rules.proofs.Ticks.{point-ok, fraction_in_second}
 use Rattle.rules.proofs.TotalReading.{is-null, is-money, entry_cases}
@@ -79,21 +79,21 @@ amount-read negative (d ∷ ds) fs h k = go negative fs k
     first = every_true is_digit d ds h.digits
 
     no_sign : eqb d 45 ≡ false
-    no_sign = ne_eqb d 45 (λ e. omega (arith, is_from-true_lem 48 57 d first.0))
+    no_sign = ne_eqb d 45 (λ e. omega (arith, is_from-true 48 57 d first.0))
 
     go : (negative : Bool) (fs : List ℕ) → AreDigits 0 4 fs
         → whole amount_text (sign_written negative ++ d ∷ ds ++ pointed fs) ≡ some (of_sign negative (decimal (d ∷ ds ++ fs) * 10 ^ (4 - length fs)))
     go true [] k =
-        rw (first.0, up_to-read_lem 11 is_digit ds [] (omega (arith, h.few)) first.1 refl) (ap (λ n. some (neg_ℤ (pos n))) (scaled (d ∷ ds) [] (omega arith)))
+        rw (first.0, up_to-read 11 is_digit ds [] (omega (arith, h.few)) first.1 refl) (ap (λ n. some (neg_ℤ (pos n))) (scaled (d ∷ ds) [] (omega arith)))
     go false [] k =
-        rw (no_sign, first.0, up_to-read_lem 11 is_digit ds [] (omega (arith, h.few)) first.1 refl) (ap (λ n. some (pos n)) (scaled (d ∷ ds) [] (omega arith)))
+        rw (no_sign, first.0, up_to-read 11 is_digit ds [] (omega (arith, h.few)) first.1 refl) (ap (λ n. some (pos n)) (scaled (d ∷ ds) [] (omega arith)))
     go true (f ∷ fs) k =
         let (i, j) = every_true is_digit f fs k.digits in
-        rw (first.0, up_to-read_lem 11 is_digit ds (46 ∷ f ∷ fs) (omega (arith, h.few)) first.1 refl, i, rw append-nil at (up_to-read_lem 3 is_digit fs [] (omega (arith, k.few)) j refl))
+        rw (first.0, up_to-read 11 is_digit ds (46 ∷ f ∷ fs) (omega (arith, h.few)) first.1 refl, i, rw append-nil at (up_to-read 3 is_digit fs [] (omega (arith, k.few)) j refl))
         (ap (λ n. some (neg_ℤ (pos n))) (scaled (d ∷ ds) (f ∷ fs) k.few))
     go false (f ∷ fs) k =
         let (i, j) = every_true is_digit f fs k.digits in
-        rw (no_sign, first.0, up_to-read_lem 11 is_digit ds (46 ∷ f ∷ fs) (omega (arith, h.few)) first.1 refl, i, rw append-nil at (up_to-read_lem 3 is_digit fs [] (omega (arith, k.few)) j refl))
+        rw (no_sign, first.0, up_to-read 11 is_digit ds (46 ∷ f ∷ fs) (omega (arith, h.few)) first.1 refl, i, rw append-nil at (up_to-read 3 is_digit fs [] (omega (arith, k.few)) j refl))
         (ap (λ n. some (pos n)) (scaled (d ∷ ds) (f ∷ fs) k.few))
 
 -- an amount that is read is of at most 16 digits, and so within the range
@@ -111,7 +111,7 @@ amount-small text {z} e =
     next-ok (one is_digit s) _ e₁ λ d t g e₂.
     next-ok (up_to 11 is_digit t) _ e₂ λ ds u h e₃.
     let (fs, i, y) = map-ok (else (point u) (ok [] u)) (λ fs. sign (pos (decimal (d ∷ ds) * 10_000 + ten_thousandths fs))) e₃ in
-    let (few, all) = up_to-ok_lem 11 is_digit t h in
+    let (few, all) = up_to-ok 11 is_digit t h in
     let l = decimal-below (d ∷ ds) (rw (one_ok is_digit s g).1 all) in
     let m = pow-le-pow_right {n = 10} (omega arith) {i = length (d ∷ ds)} {j = 12} (omega arith) in
     let n = decimal (d ∷ ds) * 10_000 + ten_thousandths fs in

@@ -13,7 +13,7 @@ use Rattle.rules.specs.Basics.{is_from}
 use Rattle.rules.specs.Refusal.{Refusal, VALUE, DATE, CLOCK, ZONE, Outcome, answered, refused, faults_of}
 use Rattle.rules.specs.Parsers.{whole}
 use Rattle.rules.specs.Timestamp.{Zone, no_zone, plus, minus, Written, timestamp, month_of, hour_of, minute_of, second_of, is_date, is_clock, is_offset_time, is_zone, Moment, moment_of, read_timestamp}
-use Rattle.rules.proofs.Tests.{clash, both_true, is_from-true_lem}
+use Rattle.rules.proofs.Tests.{clash, both_true, is_from-true}
 use Rattle.rules.proofs.Ticks.{read-wrong-form, read_right_form}
 use Rattle.demands.specs.WrongTimes.{Spells, Outside, ImpossibleDate, no_year, no_month, no_day, ImpossibleClock, no_hour, no_minute, no_second, OverOffset, ImpossibleOffset, no_plus, no_minus, IsWrongBy, wrong_form, wrong_date, wrong_clock, wrong_zone}
 use Rattle.demands.proofs.Spelling.{spells}
@@ -26,8 +26,8 @@ is-outside : (low high n : ℕ) → is_from low high n ≡ false → Outside low
 is-outside low high n e = elim (one-false (leb low n) (leb n high) e) [ inl f ↦ inl (leb-false low n f) | inr f ↦ inr (leb-false n high f) ]
 
 not-outside : (low high n : ℕ) → is_from low high n ≡ true → Outside low high n → ⊥
-not-outside low high n e (inl h) = omega (arith, is_from-true_lem low high n e, h)
-not-outside low high n e (inr h) = omega (arith, is_from-true_lem low high n e, h)
+not-outside low high n e (inl h) = omega (arith, is_from-true low high n e, h)
+not-outside low high n e (inr h) = omega (arith, is_from-true low high n e, h)
 
 module _ (w : Written) where
   is_no_date : is_date w ≡ false → ImpossibleDate w

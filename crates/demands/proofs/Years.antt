@@ -14,7 +14,7 @@ use Rattle.rules.specs.Timestamp.{no_zone, Written, timestamp, shift_of, tick_at
 use Rattle.rules.specs.Refusal.{answered}
 use Rattle.rules.specs.Parsers.{whole}
 use Rattle.rules.specs.Dates.{year_at, date_text, timestamp_text}
-use Rattle.rules.proofs.Digits.{digits_of-length_lem}
+use Rattle.rules.proofs.Digits.{digits_of-length}
 use Rattle.rules.proofs.Calendar.{days_by_division_lem, months_in_year, month_ends}
 use Rattle.rules.proofs.Ticks.{read-answered}
 use Rattle.rules.proofs.TickOrder.{tick-from-start}
@@ -80,7 +80,7 @@ year_of t y m d q =
 -- a timestamp begins with its year
 year-first : (t : ℕ) → take 4 (timestamp_text (pos t)) ≡ digits_of 4 (year_at (t / day)).unit
 unfolding date_text
-year-first t = let y = (year_at (t / day)).unit in simp append_assoc (take_at (digits_of 4 y) _ 4 (digits_of-length_lem 4 y))
+year-first t = let y = (year_at (t / day)).unit in simp append_assoc (take_at (digits_of 4 y) _ 4 (digits_of-length 4 y))
 
 printed_years : (t : ℕ) → t < days_by_division 10_000 * day → (y : ℕ) × IsYearOf y t × (take 4 (timestamp_text (pos t)) ≡ digits_of 4 y)
 printed_years t h = let q = date_of (t / day) (omega arith) in ((year_at (t / day)).unit, year_of t _ _ _ q, year-first t)
@@ -88,7 +88,7 @@ printed_years t h = let q = date_of (t / day) (omega arith) in ((year_at (t / da
 -- it is read without fault, and its tick is that of its start
 module _ (s : Services) (p : Demand2 s) (y : ℕ) (l : 1 ≤ y) (h : y ≤ 9999) where
   faultless : time_faults (pos 0) (digits_of 4 y) ≡ []
-  faultless = rw (year_alone 840 y l h, le-ltb 16_384 (length (digits_of 4 y)) (omega (arith, digits_of-length_lem 4 y)))
+  faultless = rw (year_alone 840 y l h, le-ltb 16_384 (length (digits_of 4 y)) (omega (arith, digits_of-length 4 y)))
 
   year_ticks : (before : ℤ) → (s.tick_says (pos 0) (digits_of 4 y) ≡ 4 * 2 ^ 8) × (s.tick_leaves (pos 0) (digits_of 4 y) before ≡ pos (days_by_division y * day))
   year_ticks before =

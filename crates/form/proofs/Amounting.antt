@@ -24,7 +24,7 @@ use Rattle.rules.proofs.Parsers.{more_ok, more, done}
 use Rattle.text.specs.Numbers.{Counted, FractionAt}
 use Rattle.text.specs.declared.digits.Fraction.{Fraction}
 use Rattle.text.proofs.Reading.{here}
-use Rattle.text.proofs.Numerals.{none-at-end, byte_at, no_byte, no_digit_counted, counted-up_to_lem, decimal-first}
+use Rattle.text.proofs.Numerals.{none-at-end, byte_at, no_byte, no_digit_counted, counted-up_to, decimal-first}
 use Rattle.form.specs.Amounts.{sign_of, code_of, SignAt}
 
 -- the sign
@@ -52,7 +52,7 @@ module _ (t : List ℕ) (at : ℕ) (g : SignAt t at) (n : ℕ) (c : Counted t at
   -- a digit and those after it
   first_digit : (n ≡ 0 → ⊥) → (d : ℕ) × (u : List ℕ) × (ds : List ℕ) × (one is_digit (drop at t) ≡ ok d u) × (up_to 11 is_digit u ≡ ok ds (drop (at + n) t)) × (d ∷ ds ≡ written)
   unfolding up_to
-  first_digit h = elim (more_ok (one is_digit (drop at t)) (up_to 11 is_digit) (drop at t) (counted-up_to_lem t at 12 n c)) [
+  first_digit h = elim (more_ok (one is_digit (drop at t)) (up_to 11 is_digit) (drop at t) (counted-up_to t at 12 n c)) [
     | more d u ds e f z ↦ (d, u, ds, e, f, z)
     | done z ↦ absurd (omega (arith, ap length z, length-take-le n (drop at t) (rw length-drop (omega (arith, c.high)))))
   ]

@@ -12,7 +12,7 @@ use lib.Seq.{take_all}
 use Rattle.rules.specs.Basics.{every, split, is_digit, decimal}
 use Rattle.rules.specs.Parsers.{bad, one}
 use Rattle.rules.specs.Forms.{is_plain_number, is_oid, is_root}
-use Rattle.rules.proofs.Tests.{clash, both_true, is_from-true_lem, every_true}
+use Rattle.rules.proofs.Tests.{clash, both_true, is_from-true, every_true}
 use Rattle.rules.proofs.Digits.{decimal-from}
 use Rattle.rules.proofs.Unreferenced.{plain_digits, oid_numbers}
 use Rattle.text.specs.Numbers.{Counted}
@@ -55,7 +55,7 @@ more_digits [] z o e = absurd (z refl)
 more_digits (c ∷ []) z o e = absurd (o refl)
 more_digits (c ∷ d ∷ n) z o e =
     let (f, g) = every_true is_digit c (d ∷ n) e in
-    let (l, u) = is_from-true_lem 48 57 c f in
+    let (l, u) = is_from-true 48 57 c f in
     rw (g, le-leb c 57 u, and-true (leb 49 c), and-true (leb 49 c)) (not-zero c l)
 
 module _ (n : List ℕ) (k : ℕ) (c : Counted n 0 (length n) k) where
@@ -81,7 +81,7 @@ unfolding is_plain_number
 long-number [] e h = absurd (omega arith)
 long-number (c ∷ []) e h = absurd (omega arith)
 long-number (c ∷ d ∷ n) e h =
-    let (l, u) = is_from-true_lem 49 57 c (both_true _ _ e).0 in
+    let (l, u) = is_from-true 49 57 c (both_true _ _ e).0 in
     omega (arith, decimal-from c (d ∷ n) l, pow-le-pow_right {n = 10} (omega arith) {i = 2} {j = length (d ∷ n)} (omega arith))
 
 pub at-most-long : (n : List ℕ) (most : ℕ) → is_plain_number n ≡ true → most < 100 → 2 < length n → false ≡ leb (decimal n) most

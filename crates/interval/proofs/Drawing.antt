@@ -10,9 +10,9 @@ use Rattle.interval.specs.declared.Op.TheVariants.{Union, Intersection, Differen
 use Rattle.interval.specs.Meaning.{op_of, Ticked, AllTicked, used, Canonical, Holds, applied}
 use Rattle.interval.specs.Edges.{top, low_edge, high_edge, edges, Rising, Climbs, rank, padded, Inputs, Edged, Merged, Drawn}
 use Rattle.interval.proofs.Ranks.{le-or-lt, rank_more, rank_below, rank-append, rank-take, rising_climbs, climbs_rising, rising_next, below_at}
-use Rattle.interval.proofs.Places.{spot, spot_below, is_in-within_lem, rising_canonical}
+use Rattle.interval.proofs.Places.{spot, spot_below, is_in-within, rising_canonical}
 use Rattle.interval.proofs.Sweep.{padded-length}
-use Rattle.interval.proofs.Items.{edges-snoc, ticked-snoc, is_in-edges_lem, edges_climb, edges_few, edges-padded}
+use Rattle.interval.proofs.Items.{edges-snoc, ticked-snoc, is_in-edges, edges_climb, edges_few, edges-padded}
 
 module _ (n : ℕ) (l : List ℕ) (d : Edged n l) where
   edged_climbs : Climbs 0 l
@@ -91,12 +91,12 @@ drawn-holds op a b r n l ca cb fit m d =
       canonical = record { fits = omega (arith, few); ticked = d.ticked; rises = rising_canonical (used r) 0 d.ticked rises };
       places = λ x.
           let short : rank l (suc (spot x)) ≤ 2 * r.count = omega (arith, rank_more l (suc (spot x)) top (spot_below x), edged-rank n l m.edged, d.fewest) in
-          let e0 = is_in-within_lem (used r) 0 d.ticked rises x in
+          let e0 = is_in-within (used r) 0 d.ticked rises x in
           let e1 = d.edges_are in
           let e2 = rank-take l (2 * r.count) (suc (spot x)) short in
           let e3 = m.agrees (spot x) (spot_below x) in
-          let e4 = is_in-edges_lem a ca x in
-          let e5 = is_in-edges_lem b cb x in
+          let e4 = is_in-edges a ca x in
+          let e5 = is_in-edges b cb x in
           cc;
       short = few;
     }

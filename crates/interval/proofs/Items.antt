@@ -9,7 +9,7 @@ use Rattle.interval.specs.declared.Stretches.{Stretches}
 use Rattle.interval.specs.Meaning.{interval_of, Ticked, AllTicked, used, stretches_of, Canonical}
 use Rattle.interval.specs.Edges.{top, low_edge, high_edge, edges, Rising, Climbs, rank, within, padded}
 use Rattle.interval.proofs.Ranks.{rank-length, rank-append, rising_climbs}
-use Rattle.interval.proofs.Places.{spot, spot_below, is_in-within_lem, canonical_rising}
+use Rattle.interval.proofs.Places.{spot, spot_below, is_in-within, canonical_rising}
 use Rattle.interval.proofs.Sweep.{length-snoc, store, padded-length}
 
 -- what owning an array of structs tells of its list, for `search`
@@ -53,9 +53,9 @@ module _ (s : Stretches) where
     pub edges_rise : Rising 0 (edges (used s))
     edges_rise = canonical_rising (used s) c.ticked c.rises
 
-    pub is_in-edges_lem : (x : Place) → is_in (stretches_of s) x ≡ within (padded (edges (used s))) (spot x)
-    is_in-edges_lem x =
-        is_in-within_lem (used s) 0 c.ticked edges_rise x
+    pub is_in-edges : (x : Place) → is_in (stretches_of s) x ≡ within (padded (edges (used s))) (spot x)
+    is_in-edges x =
+        is_in-within (used s) 0 c.ticked edges_rise x
         ∙ sym (rw (rank-append (edges (used s)) (65 - length (edges (used s))) (suc (spot x)) (spot_below x)) refl)
 
     pub edges_climb : Climbs 0 (padded (edges (used s)))
@@ -92,10 +92,10 @@ module _ (s : Stretches) where
           rw (e, edges-snoc l v) (store_pair (edges l) k (low_edge v.low) (high_edge v.high) n (omega arith))
 
       -- whether a place is in an item, or in one that follows it
-      pub is_in-next_lem : (x : Place) → is_in (map interval_of (drop k (used s))) x ≡ holds (interval_of (get_or s.items k nowhere)) x || is_in (map interval_of (drop (k + 1) (used s))) x
+      pub is_in-next : (x : Place) → is_in (map interval_of (drop k (used s))) x ≡ holds (interval_of (get_or s.items k nowhere)) x || is_in (map interval_of (drop (k + 1) (used s))) x
       unfolding exists
-      is_in-next_lem x = rw (drop-cons (used s) k nowhere (rw used-length h), used-at, add-one)
+      is_in-next x = rw (drop-cons (used s) k nowhere (rw used-length h), used-at, add-one)
 
-    pub is_in-past_lem : (k : ℕ) (x : Place) → s.count ≤ k → is_in (map interval_of (drop k (used s))) x ≡ false
+    pub is_in-past : (k : ℕ) (x : Place) → s.count ≤ k → is_in (map interval_of (drop k (used s))) x ≡ false
     unfolding exists
-    is_in-past_lem k x h = rw (drop_of_length-le (used s) {i = k} (rw used-length h))
+    is_in-past k x h = rw (drop_of_length-le (used s) {i = k} (rw used-length h))

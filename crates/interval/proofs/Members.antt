@@ -10,7 +10,7 @@ use Rattle.interval.specs.Meaning.{interval_of, place_of, Ticked, used, Canonica
 use Rattle.interval.specs.Edges.{low_edge, high_edge, number_of, is_within}
 use Rattle.interval.proofs.Ranks.{le-or-lt}
 use Rattle.interval.proofs.Places.{spot, spot_tick, spot_gap, holds-edges, rising_canonical}
-use Rattle.interval.proofs.Items.{nowhere, used-ticked, is_in-next_lem}
+use Rattle.interval.proofs.Items.{nowhere, used-ticked, is_in-next}
 
 pub within_place : (v : Interval) → Ticked v.low → Ticked v.high → (n : ℕ) (gap : Bool) → n < 2 ^ 60
     → is_within v (number_of n gap) ≡ holds (interval_of v) (place_of n gap)
@@ -23,11 +23,11 @@ module _ (s : Stretches) (long : length s.items ≡ 32) (c : Canonical s) (n : �
   found = let t = used-ticked s long c.fits k lt c.ticked in within_place (get_or s.items k nowhere) t.0 t.1 n gap h
 
   pub contains_here : (x : ℕ) → x ≡ number_of n gap → is_within (get_or s.items k nowhere) x ≡ true → is_in (map interval_of (drop k (used s))) (place_of n gap) ≡ true
-  contains_here x e w = is_in-next_lem s long c.fits k lt (place_of n gap) ∙ rw (← found, ← e, w) refl
+  contains_here x e w = is_in-next s long c.fits k lt (place_of n gap) ∙ rw (← found, ← e, w) refl
 
   pub contains_next : (x : ℕ) → x ≡ number_of n gap → is_within (get_or s.items k nowhere) x ≡ false
       → is_in (map interval_of (drop k (used s))) (place_of n gap) ≡ is_in (map interval_of (drop (k + 1) (used s))) (place_of n gap)
-  contains_next x e w = is_in-next_lem s long c.fits k lt (place_of n gap) ∙ rw (← found, ← e, w) refl
+  contains_next x e w = is_in-next s long c.fits k lt (place_of n gap) ∙ rw (← found, ← e, w) refl
 
 -- an interval whose first edge is not below its second has no place
 pub outside : (v : Interval) (x : ℕ) → high_edge v.high ≤ low_edge v.low → is_within v x ≡ false

@@ -91,12 +91,12 @@ pub holds-edges : (v : Interval) → Ticked v.low → Ticked v.high → (x : Pla
     → holds (interval_of v) x ≡ leb (low_edge v.low) (spot x) && ltb (spot x) (high_edge v.high)
 holds-edges v t u x = half_open (interval_of v) x ∙ ap₂ ◌&&◌ (since_edge v.low t x) (until-edge v.high u x)
 
-pub is_in-within_lem : (l : List Interval) (b : ℕ) → AllTicked l → Rising b (edges l) → (x : Place) → is_in (map interval_of l) x ≡ within (edges l) (spot x)
+pub is_in-within : (l : List Interval) (b : ℕ) → AllTicked l → Rising b (edges l) → (x : Place) → is_in (map interval_of l) x ≡ within (edges l) (spot x)
 unfolding exists
-is_in-within_lem [] b t r x = refl
-is_in-within_lem (v ∷ l) b t r x =
+is_in-within [] b t r x = refl
+is_in-within (v ∷ l) b t r x =
     let e = high_edge v.high in
-    ap₂ ◌||◌ (holds-edges v t.0 t.1 x) (is_in-within_lem l (suc e) t.2 r.1.1 x)
+    ap₂ ◌||◌ (holds-edges v t.0 t.1 x) (is_in-within l (suc e) t.2 r.1.1 x)
     ∙ sym (within-cons (low_edge v.low) e b (spot x) (edges l) r)
 
 pub rising_canonical : (l : List Interval) (b : ℕ) → AllTicked l → Rising b (edges l) → Rises (map interval_of l)

@@ -15,7 +15,7 @@ use Rattle.interval.specs.declared.Stretches.{Stretches}
 use Rattle.interval.specs.Meaning.{bound_of, interval_of, used, stretches_of, Canonical, SaysSame}
 use Rattle.interval.specs.Edges.{edges, padded, within, SaysEqual}
 use Rattle.interval.proofs.Places.{spot}
-use Rattle.interval.proofs.Items.{is_in-edges_lem}
+use Rattle.interval.proofs.Items.{is_in-edges}
 
 -- a canonical set's stretches are those of its places
 pub are_stretches : {p : Place → Bool} (s : Stretches) → Canonical s → ((x : Place) → is_in (stretches_of s) x ≡ p x) → AreStretches p (stretches_of s)
@@ -63,6 +63,6 @@ items_one (v ∷ l) (w ∷ k) e =
 -- sets have the same places exactly if their edges are equal
 pub says_same : (a b : Stretches) (r : Bool) → Canonical a → Canonical b → SaysEqual (padded (edges (used a))) (padded (edges (used b))) r → SaysSame a b r
 says_same a b r c d s = record {
-  same = λ e x. is_in-edges_lem a c x ∙ ap (λ (l : List ℕ). within l (spot x)) (s.equal e) ∙ sym (is_in-edges_lem b d x);
+  same = λ e x. is_in-edges a c x ∙ ap (λ (l : List ℕ). within l (spot x)) (s.equal e) ∙ sym (is_in-edges b d x);
   other = λ e h. s.other e (ap (λ (l : List Interval). padded (edges l)) (items_one (used a) (used b) (same-stretches a b c d h)));
 }

@@ -15,10 +15,10 @@ use Rattle.interval.proofs.Ranks.{le-or-lt}
 use Rattle.interval.proofs.Items.{nowhere}
 
 -- ---- numbers
-pub low_bytes-length_lem : (n k : ℕ) → length (low_bytes n k) ≡ n
+pub low_bytes-length : (n k : ℕ) → length (low_bytes n k) ≡ n
 unfolding low_bytes
-low_bytes-length_lem zero k = refl
-low_bytes-length_lem (suc n) k = ap suc (low_bytes-length_lem n (k / 256))
+low_bytes-length zero k = refl
+low_bytes-length (suc n) k = ap suc (low_bytes-length n (k / 256))
 
 -- one more byte of eight is stored, and none is left
 pub byte_stored : (at k n : ℕ) (out : List ℕ) → k < 8 → at + k < length out
@@ -51,12 +51,12 @@ bound_bytes_lem (Closed n) t = ap (low_bytes 8 2 ++◌) (append-nil (eight_bytes
 pub bound_length : (b : Bound) → Ticked b → length (bound_bytes b) ≡ 16
 bound_length b t =
     ap length (bound_bytes_lem b t)
-    ∙ omega (arith, length-append (low_bytes 8 (kind_of b)) (low_bytes 8 (bits_of b)), low_bytes-length_lem 8 (kind_of b), low_bytes-length_lem 8 (bits_of b))
+    ∙ omega (arith, length-append (low_bytes 8 (kind_of b)) (low_bytes 8 (bits_of b)), low_bytes-length 8 (kind_of b), low_bytes-length 8 (bits_of b))
 
 pub bound_placed : (b : Bound) → Ticked b → (at : ℕ) (old : List ℕ) → at + 16 ≤ length old
     → placed (at + 8) (low_bytes 8 (bits_of b)) (placed at (low_bytes 8 (kind_of b)) old) ≡ placed at (bound_bytes b) old
 bound_placed b t at old h =
-    rw (bound_bytes_lem b t) (placed-both at 8 (low_bytes 8 (kind_of b)) (low_bytes 8 (bits_of b)) old (low_bytes-length_lem 8 (kind_of b)) (omega arith))
+    rw (bound_bytes_lem b t) (placed-both at 8 (low_bytes 8 (kind_of b)) (low_bytes 8 (bits_of b)) old (low_bytes-length 8 (kind_of b)) (omega arith))
 
 -- ---- lists
 abbrev pub list_bytes : List Interval → List ℕ

@@ -10,7 +10,7 @@ use lib.Dec.{eqb, ltb}
 use Rattle.rules.specs.Basics.{is_some, same}
 use Rattle.rules.specs.Refusal.{Refusal, earlier, first_of}
 use Rattle.rules.specs.Markup.{Attribute, lookup, is_distinct}
-use Rattle.rules.proofs.Precedence.{earlier_assoc, earlier_comm, earlier-none_right, first_of-append_lem}
+use Rattle.rules.proofs.Precedence.{earlier_assoc, earlier_comm, earlier-none_right, first_of-append}
 use Rattle.rules.proofs.Tests.{clash, both_true, same_true}
 use Rattle.element.specs.Names.{known, name_at, number_of, is_known}
 use Rattle.element.proofs.Numbers.{has-number}
@@ -81,9 +81,9 @@ module _ (f : Attribute → List Refusal) where
       go : (b : Bool) → is_known a.name ≡ b → lookup a.name l ≡ none → first_of (flat_map f l) ≡ earlier (unknown l) (below l known)
           → first_of (flat_map f (a ∷ l)) ≡ earlier (cond b (unknown l) (earlier (first_of (f a)) (unknown l))) (below (a ∷ l) known)
       go true z d h =
-          rw (first_of-append_lem (f a) (flat_map f l), h, more_below a l d known (omega arith), z) (swap (first_of (f a)) (unknown l) (below l known))
+          rw (first_of-append (f a) (flat_map f l), h, more_below a l d known (omega arith), z) (swap (first_of (f a)) (unknown l) (below l known))
       go false z d h =
-          rw (first_of-append_lem (f a) (flat_map f l), h, more_below a l d known (omega arith), z) (sym (earlier_assoc (first_of (f a)) (unknown l) (below l known)))
+          rw (first_of-append (f a) (flat_map f l), h, more_below a l d known (omega arith), z) (sym (earlier_assoc (first_of (f a)) (unknown l) (below l known)))
 
   -- the first of some faults, with those of the numbers below one, and that of this number
   module _ (l : List Attribute) (n : ℕ) (start : Option Refusal) {so_far : Option Refusal} (h : so_far ≡ earlier start (below l n)) where

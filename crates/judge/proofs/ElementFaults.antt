@@ -10,7 +10,7 @@ use Rattle.rules.specs.Markup.{Nodes, node, Element}
 use Rattle.rules.specs.Types.{Kind, Child, line_of}
 use Rattle.rules.specs.Judge.{Standing, attribute_faults, lacks, breaks_null, element_faults, kind_of, standing_of, child_faults}
 use Rattle.rules.specs.Invariants.{is_null}
-use Rattle.rules.proofs.Precedence.{first_of-append_lem, earlier_assoc, earlier_comm}
+use Rattle.rules.proofs.Precedence.{first_of-append, earlier_assoc, earlier_comm}
 use Rattle.datatype.specs.Tables.{Step, step_among}
 use Rattle.judge.specs.Faults.{judged, child_judged}
 use Rattle.judge.proofs.AttributeFaults.{picked}
@@ -34,11 +34,11 @@ pub own_first : (shift : ℕ) (p : Standing) (k : Kind) (v : Element) {x y z : O
 own_first shift p k v e f g = rw (e, f, g) (go (flat_map (attribute_faults shift p k) v.attrs) (SHAPE when exists (lacks v.attrs) (line_of k).columns) _)
   where
     go : (a b c : List Refusal) → earlier (first_of a) (earlier (first_of b) (first_of c)) ≡ first_of (a ++ b ++ c)
-    go a b c = sym (first_of-append_lem (a ++ b) c ∙ ap (λ (z : Option Refusal). earlier z (first_of c)) (first_of-append_lem a b) ∙ earlier_assoc (first_of a) (first_of b) (first_of c))
+    go a b c = sym (first_of-append (a ++ b) c ∙ ap (λ (z : Option Refusal). earlier z (first_of c)) (first_of-append a b) ∙ earlier_assoc (first_of a) (first_of b) (first_of c))
 
 with_more : (a c w : List Refusal) → earlier (first_of (a ++ c)) (first_of w) ≡ first_of (a ++ w ++ c)
 with_more a c w =
-    rw (first_of-append_lem a c, first_of-append_lem (a ++ w) c, first_of-append_lem a w)
+    rw (first_of-append a c, first_of-append (a ++ w) c, first_of-append a w)
     (earlier_assoc (first_of a) (first_of c) (first_of w) ∙ ap (earlier (first_of a)) (earlier_comm (first_of c) (first_of w)) ∙ sym (earlier_assoc (first_of a) (first_of w) (first_of c)))
 
 -- an element's faults are its own and those of its children
@@ -62,7 +62,7 @@ child-and-rest shift k null stage v j =
       picked here step (λ t. judged shift (standing_of t.kind) (kind_of t.kind v.attrs) v) (SHAPE ∷ []) (line_of k).children,
       picked here step (λ t. t.to) stage (line_of k).children,
     )
-    (first_of-append_lem _ _)
+    (first_of-append _ _)
   where
     here : Child → Bool
     here c = same c.name v.name && is_from c.from c.upto stage

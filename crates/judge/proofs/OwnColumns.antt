@@ -17,13 +17,13 @@ use Rattle.element.proofs.Asked.{present}
 use Rattle.datatype.specs.Tables.{form_among}
 
 -- the attribute of a number is on the line, and is there
-abbrev pub field_own : Kind → List Attribute → ℕ → Bool
-field_own k l n = is_some (form_among (line_of k).columns (name_at n)) && is_some (lookup (name_at n) l)
+abbrev pub own_at : Kind → List Attribute → ℕ → Bool
+own_at k l n = is_some (form_among (line_of k).columns (name_at n)) && is_some (lookup (name_at n) l)
 
 -- that of one of so many numbers, from one on
 unfoldable pub own_from : Kind → List Attribute → (n more : ℕ) → Bool
 own_from k l n zero = false
-own_from k l n (suc more) = field_own k l n || own_from k l (suc n) more
+own_from k l n (suc more) = own_at k l n || own_from k l (suc n) more
 
 -- the columns of a line stand in the order of their numbers
 pub own_numbers : (k : Kind) (l : List Attribute) → own_from k l 0 known ≡ exists (carries l) (line_of k).columns
@@ -45,11 +45,11 @@ module _ (k : Kind) (l : List Attribute) (n : ℕ) where
   unfolding own_from
   own_end h = let z : known - n ≡ 0 = omega (arith, h) in rw z
 
-  pub own_found : n < known → field_own k l n ≡ true → own_from k l n (known - n) ≡ true
+  pub own_found : n < known → own_at k l n ≡ true → own_from k l n (known - n) ≡ true
   unfolding own_from
   own_found h e = let z : known - n ≡ suc (known - suc n) = omega (arith, h) in rw (z, e)
 
-  pub own_passed : n < known → field_own k l n ≡ false → own_from k l n (known - n) ≡ own_from k l (n + 1) (known - (n + 1))
+  pub own_passed : n < known → own_at k l n ≡ false → own_from k l n (known - n) ≡ own_from k l (n + 1) (known - (n + 1))
   unfolding own_from
   own_passed h e =
       let z : known - n ≡ suc (known - suc n) = omega (arith, h) in
@@ -58,5 +58,5 @@ module _ (k : Kind) (l : List Attribute) (n : ℕ) where
 
   -- as the line and the tag tell
   pub own_told : {s : List ℕ} {q : ℕ} {o : Option Form} {a b : Bool} → o ≡ form_among (line_of k).columns (name_at n) → a ≡ is_some o
-      → Place s (lookup (name_at n) l) q → (a && not (eqb q 0)) ≡ b → field_own k l n ≡ b
+      → Place s (lookup (name_at n) l) q → (a && not (eqb q 0)) ≡ b → own_at k l n ≡ b
   own_told c d p e = rw (← c, ← d, ← present p) e

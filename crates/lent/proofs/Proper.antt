@@ -5,7 +5,7 @@ use borrow.Author.Tests.{eqb-false, not-false}
 use Rattle.rules.specs.Basics.{exists}
 use Rattle.rules.specs.LentLists.{Row as PageRow, rows_of, is_kind, stretch_in, stretches_in, has_part_stretch, has_too_many, has_bad_kind, has_end_tick, has_inner_end, has_no_place, is_unparted, any_neighbours, is_improper, numbers_in, is_improper_list}
 use Rattle.rules.proofs.Tests.{both_true, neither, clash}
-use Rattle.rules.proofs.LentLists.{numbers_from-length_lem}
+use Rattle.rules.proofs.LentLists.{numbers_from-length}
 use Rattle.lent.specs.declared.Row.{Row}
 use Rattle.lent.specs.Rows.{row_at, row_of, is_faulty, is_clash}
 use Rattle.lent.proofs.Numbers.{kind-signed}
@@ -70,7 +70,7 @@ list-is : (list : List ℕ) (n : ℕ) → length list ≡ 32 * n → is_improper
 list-is list n h =
     let e : length list % 8 ≡ 0 = omega arith in
     let g : length list / 8 ≡ 4 * n = omega arith in
-    let f : length (numbers_in list) % 4 ≡ 0 = fours (numbers_from-length_lem (length list / 8) list ∙ g) in
+    let f : length (numbers_in list) % 4 ≡ 0 = fours (numbers_from-length (length list / 8) list ∙ g) in
     rw (e, improper_is (numbers_in list), f, rows_in list n h, rows_from_length list 0 n)
   where
     fours : {m : ℕ} → m ≡ 4 * n → m % 4 ≡ 0
@@ -81,7 +81,7 @@ pub improper_part : (list : List ℕ) → (length list % 32 ≡ 0 → ⊥) → i
 improper_part list h = go (eqb (length list % 8) 0) refl
   where
     go : (b : Bool) → eqb (length list % 8) 0 ≡ b → not b || is_improper (numbers_in list) ≡ true
-    go true e = rw (improper_is (numbers_in list), ne_eqb (length (numbers_in list) % 4) 0 (λ f. h (omega (arith, eqb-true, numbers_from-length_lem (length list / 8) list))))
+    go true e = rw (improper_is (numbers_in list), ne_eqb (length (numbers_in list) % 4) 0 (λ f. h (omega (arith, eqb-true, numbers_from-length (length list / 8) list))))
     go false e = refl
 
 pub improper_long : (list : List ℕ) → length list % 32 ≡ 0 → 1024 < length list → is_improper_list list ≡ true

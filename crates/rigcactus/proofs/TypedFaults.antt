@@ -12,7 +12,7 @@ use Rattle.rules.specs.Markup.{Element, document}
 use Rattle.rules.specs.Utf8.{is_utf8}
 use Rattle.rules.specs.Check.{is_offset, shift_by, is_too_long, element_of, record_faults, check}
 use Rattle.rules.proofs.Tests.{clash}
-use Rattle.rules.proofs.Precedence.{first_of-append_lem, earlier_assoc, earlier-none_right, check-refused, check-answered}
+use Rattle.rules.proofs.Precedence.{first_of-append, earlier_assoc, earlier-none_right, check-refused, check-answered}
 use Rattle.judge.specs.Faults.{input_faults}
 use Rattle.rigcactus.specs.Faults.{typed_faults}
 use Rattle.rigcactus.proofs.Checking.{record_input}
@@ -27,7 +27,7 @@ module _ (may : Element → Bool) (shift : ℕ) (input : List ℕ) {b : Bool} {x
   no_document : document input ≡ none → (q : Refusal) → earlier (some MARKUP) (some q) ≡ some MARKUP → earlier first (some q) ≡ first
   unfolding first_of
   no_document d q h =
-      rw (d, first_of-append_lem (TOO_LONG when is_too_long input ++ NOT_UTF_8 when not (is_utf8 input)) (MARKUP ∷ []))
+      rw (d, first_of-append (TOO_LONG when is_too_long input ++ NOT_UTF_8 when not (is_utf8 input)) (MARKUP ∷ []))
       (earlier_assoc (first_of (TOO_LONG when is_too_long input ++ NOT_UTF_8 when not (is_utf8 input))) (some MARKUP) (some q) ∙ ap (earlier (first_of (TOO_LONG when is_too_long input ++ NOT_UTF_8 when not (is_utf8 input)))) h)
 
   typeless : (c : Bool) → earlier first (some TYPE) ≡ first → earlier first (first_of (TYPE when c)) ≡ first
@@ -37,7 +37,7 @@ module _ (may : Element → Bool) (shift : ℕ) (input : List ℕ) {b : Bool} {x
 
   pub fault_allowed : b ≡ true → x ≡ first_of (typed_faults may shift input)
   unfolding first_of rank_in
-  fault_allowed t = fault ∙ sym (first_of-append_lem (input_faults shift input) _ ∙ go (document input) refl)
+  fault_allowed t = fault ∙ sym (first_of-append (input_faults shift input) _ ∙ go (document input) refl)
     where
       go : (o : Option Element) → document input ≡ o → earlier first (first_of (faults_in (λ e. TYPE when not (may e)) (if_some o answered (refused MARKUP)))) ≡ first
       go none d = no_document d MARKUP refl
@@ -48,7 +48,7 @@ module _ (may : Element → Bool) (shift : ℕ) (input : List ℕ) {b : Bool} {x
 
   pub fault-other : b ≡ false → {y : Option Refusal} → y ≡ earlier x (some TYPE) → y ≡ first_of (typed_faults may shift input)
   unfolding first_of rank_in
-  fault-other t {y} h = h ∙ ap (λ (z : Option Refusal). earlier z (some TYPE)) fault ∙ sym (first_of-append_lem (input_faults shift input) _ ∙ go (document input) refl)
+  fault-other t {y} h = h ∙ ap (λ (z : Option Refusal). earlier z (some TYPE)) fault ∙ sym (first_of-append (input_faults shift input) _ ∙ go (document input) refl)
     where
       go : (o : Option Element) → document input ≡ o → earlier first (first_of (faults_in (λ e. TYPE when not (may e)) (if_some o answered (refused MARKUP)))) ≡ earlier first (some TYPE)
       go none d = no_document d MARKUP refl ∙ sym (no_document d TYPE refl)
@@ -61,7 +61,7 @@ module _ (may : Element → Bool) (shift : ℕ) (input : List ℕ) {b : Bool} {x
 module _ (may : Element → Bool) (offset : ℤ) (input : List ℕ) {shift : ℕ} (fine : is_offset offset ≡ true) (by : shift ≡ shift_by offset) where
   pub split : {o : Option Refusal} → o ≡ first_of (typed_faults may shift input)
       → o ≡ earlier (first_of (record_faults offset input)) (first_of (faults_in (λ e. TYPE when not (may e)) (element_of input)))
-  split h = h ∙ first_of-append_lem (input_faults shift input) _ ∙ rw (by, ← record_input offset input fine)
+  split h = h ∙ first_of-append (input_faults shift input) _ ∙ rw (by, ← record_input offset input fine)
 
   -- a record that is accepted has no fault but for its type
   pub type-fault : (e : Element) → check offset input ≡ answered e → {o : Option Refusal} → o ≡ first_of (typed_faults may shift input) → o ≡ first_of (TYPE when not (may e))

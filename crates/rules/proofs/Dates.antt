@@ -19,7 +19,7 @@ use Rattle.rules.specs.Timestamp.{no_zone, plus, Written, digits, two_digits, po
 use Rattle.rules.specs.Dates.{Reached, reached, years_end, year_at, month_at, date_text, clock_text, timestamp_text}
 use Rattle.rules.proofs.Tests.{every_true}
 use Rattle.rules.proofs.Beginnings.{times-read}
-use Rattle.rules.proofs.Digits.{is_digit_lem, digits_of-length_lem, digits_of-digits_lem, digits_of-decimal_lem}
+use Rattle.rules.proofs.Digits.{is_digit_lem, digits_of-length, digits_of-digits, digits_of-decimal}
 use Rattle.rules.proofs.Calendar.{days_of_years_lem, months_make_year, days_of_months_rise, month_ends}
 use Rattle.rules.proofs.Ticks.{read-answered}
 
@@ -119,8 +119,8 @@ date_of days h = go (year_at days) (month_at days) (is-year days) (is_month days
 pub digits-read : (n k : ℕ) (r : List ℕ) → k < 10 ^ n → digits n (digits_of n k ++ r) ≡ ok k r
 unfolding digits
 digits-read n k r h =
-    let t : times n is_digit (digits_of n k ++ r) ≡ ok (digits_of n k) r = rw (digits_of-length_lem n k) at (times-read is_digit (digits_of n k) r (digits_of-digits_lem n k)) in
-    rw (t, digits_of-decimal_lem n k h)
+    let t : times n is_digit (digits_of n k ++ r) ≡ ok (digits_of n k) r = rw (digits_of-length n k) at (times-read is_digit (digits_of n k) r (digits_of-digits n k)) in
+    rw (t, digits_of-decimal n k h)
 
 nothing_read : digits 2 [] ≡ bad
 unfolding digits times one
@@ -181,7 +181,7 @@ full_moment : (shift days y m d h i s f : ℕ) → IsDateOf days y m d → f < 1
     ≡ record { start = days * day + h * hour + i * minute + s * second + f + before_start; precision = 18; next = days * day + h * hour + i * minute + s * second + f + before_start + 1 }
 unfolding start_of unit_length
 full_moment shift days y m d h i s f q l =
-    rw (q.days_are, digits_of-length_lem 4 f, digits_of-decimal_lem 4 f (omega arith), mul-one f)
+    rw (q.days_are, digits_of-length 4 f, digits_of-decimal 4 f (omega arith), mul-one f)
 
 -- a tick of years 0001 to 9999, written as a timestamp, is read as that tick, whatever the offset agreed
 pub timestamp_of_tick : (shift t : ℕ) → t < years_end → read_timestamp shift (timestamp_text (pos t)) ≡ answered (record { start = t + before_start; precision = 18; next = t + before_start + 1 })

@@ -10,35 +10,35 @@ use native.Mathlib.Decide.{dec_le}
 use borrow.Author.Tests.{le-leb}
 use lib.ListN.{length, length-append}
 use Rattle.rules.specs.Basics.{every, is_digit, decimal_from, decimal, digits_of}
-use Rattle.rules.proofs.Tests.{is_from-true_lem, every_true, every_append}
+use Rattle.rules.proofs.Tests.{is_from-true, every_true, every_append}
 
-pub decimal_from-append_lem : (n : ℕ) (a b : List ℕ) → decimal_from n (a ++ b) ≡ decimal_from (decimal_from n a) b
+pub decimal_from-append : (n : ℕ) (a b : List ℕ) → decimal_from n (a ++ b) ≡ decimal_from (decimal_from n a) b
 unfolding decimal_from
-decimal_from-append_lem n [] b = refl
-decimal_from-append_lem n (d ∷ a) b = decimal_from-append_lem (10 * n + (d - 48)) a b
+decimal_from-append n [] b = refl
+decimal_from-append n (d ∷ a) b = decimal_from-append (10 * n + (d - 48)) a b
 
 -- the digits before count by the place of the last of them
-pub decimal_from-is_lem : (n : ℕ) (ds : List ℕ) → decimal_from n ds ≡ n * 10 ^ length ds + decimal ds
+pub decimal_from-is : (n : ℕ) (ds : List ℕ) → decimal_from n ds ≡ n * 10 ^ length ds + decimal ds
 unfolding decimal_from
-decimal_from-is_lem n [] = omega (arith, pow-zero 10)
-decimal_from-is_lem n (d ∷ ds) =
+decimal_from-is n [] = omega (arith, pow-zero 10)
+decimal_from-is n (d ∷ ds) =
     let p = 10 ^ length ds in
     let e = d - 48 in
-    omega (arith, decimal_from-is_lem (10 * n + e) ds, decimal_from-is_lem (10 * 0 + e) ds, add-mul (10 * n) e p, add-mul (10 * 0) e p, mul_assoc 10 n p, mul_left_comm n 10 p, ap (λ x. n * x) (pow-succ' 10 (length ds)))
+    omega (arith, decimal_from-is (10 * n + e) ds, decimal_from-is (10 * 0 + e) ds, add-mul (10 * n) e p, add-mul (10 * 0) e p, mul_assoc 10 n p, mul_left_comm n 10 p, ap (λ x. n * x) (pow-succ' 10 (length ds)))
 
 pub decimal-append : (a b : List ℕ) → decimal (a ++ b) ≡ decimal a * 10 ^ length b + decimal b
-decimal-append a b = decimal_from-append_lem 0 a b ∙ decimal_from-is_lem (decimal a) b
+decimal-append a b = decimal_from-append 0 a b ∙ decimal_from-is (decimal a) b
 
 pub decimal-cons : (d : ℕ) (ds : List ℕ) → decimal (d ∷ ds) ≡ (d - 48) * 10 ^ length ds + decimal ds
 unfolding decimal_from
-decimal-cons d ds = omega (arith, decimal_from-is_lem (10 * 0 + (d - 48)) ds, add-mul (10 * 0) (d - 48) (10 ^ length ds))
+decimal-cons d ds = omega (arith, decimal_from-is (10 * 0 + (d - 48)) ds, add-mul (10 * 0) (d - 48) (10 ^ length ds))
 
 pub decimal-below : (ds : List ℕ) → every is_digit ds ≡ true → decimal ds < 10 ^ length ds
 unfolding decimal_from
 decimal-below [] h = omega (arith, pow-zero 10)
 decimal-below (d ∷ ds) h =
     let (f, g) = every_true is_digit d ds h in
-    let (low, high) = is_from-true_lem 48 57 d f in
+    let (low, high) = is_from-true 48 57 d f in
     let less : d - 48 ≤ 9 = omega arith in
     omega (arith, decimal-cons d ds, decimal-below ds g, mul-le-mul_right (10 ^ length ds) less, pow-succ' 10 (length ds))
 
@@ -71,26 +71,26 @@ decimal_injective (c ∷ a) (d ∷ b) l f g e =
     let x : decimal a < p = rw k at (decimal-below a f₁) in
     let q : (c - 48) * p + decimal a ≡ (d - 48) * p + decimal b = rw k at (sym (decimal-cons c a) ∙ e ∙ decimal-cons d b) in
     let r : c - 48 ≡ d - 48 = omega (arith, place_le _ _ p _ _ x q, place_le _ _ p _ _ (decimal-below b g₁) (sym q)) in
-    let s : c ≡ d = omega (arith, is_from-true_lem 48 57 c f₀, is_from-true_lem 48 57 d g₀) in
+    let s : c ≡ d = omega (arith, is_from-true 48 57 c f₀, is_from-true 48 57 d g₀) in
     let t : decimal a ≡ decimal b = omega (arith, rw r at q) in
     ap₂ ◌∷◌ s (decimal_injective a b k f₁ g₁ t)
 
 -- the digits of a number: how many, that they are digits, and that they write it
-pub digits_of-length_lem : (n k : ℕ) → length (digits_of n k) ≡ n
+pub digits_of-length : (n k : ℕ) → length (digits_of n k) ≡ n
 unfolding digits_of
-digits_of-length_lem zero k = refl
-digits_of-length_lem (suc n) k = omega (arith, length-append (digits_of n (k / 10)) ((48 + k % 10) ∷ []), digits_of-length_lem n (k / 10))
+digits_of-length zero k = refl
+digits_of-length (suc n) k = omega (arith, length-append (digits_of n (k / 10)) ((48 + k % 10) ∷ []), digits_of-length n (k / 10))
 
 pub is_digit_lem : (k : ℕ) → is_digit (48 + k % 10) ≡ true
 is_digit_lem k = rw (le-leb 48 (48 + k % 10) (omega arith), le-leb (48 + k % 10) 57 (omega arith))
 
-pub digits_of-digits_lem : (n k : ℕ) → every is_digit (digits_of n k) ≡ true
+pub digits_of-digits : (n k : ℕ) → every is_digit (digits_of n k) ≡ true
 unfolding digits_of every
-digits_of-digits_lem zero k = refl
-digits_of-digits_lem (suc n) k = every_append is_digit (digits_of n (k / 10)) ((48 + k % 10) ∷ []) (digits_of-digits_lem n (k / 10)) (rw (is_digit_lem k))
+digits_of-digits zero k = refl
+digits_of-digits (suc n) k = every_append is_digit (digits_of n (k / 10)) ((48 + k % 10) ∷ []) (digits_of-digits n (k / 10)) (rw (is_digit_lem k))
 
-pub digits_of-decimal_lem : (n k : ℕ) → k < 10 ^ n → decimal (digits_of n k) ≡ k
+pub digits_of-decimal : (n k : ℕ) → k < 10 ^ n → decimal (digits_of n k) ≡ k
 unfolding digits_of decimal_from
-digits_of-decimal_lem zero k h = omega (arith, pow-zero 10)
-digits_of-decimal_lem (suc n) k h =
-    omega (arith, decimal-append (digits_of n (k / 10)) ((48 + k % 10) ∷ []), digits_of-decimal_lem n (k / 10) (omega (arith, pow-succ' 10 n)))
+digits_of-decimal zero k h = omega (arith, pow-zero 10)
+digits_of-decimal (suc n) k h =
+    omega (arith, decimal-append (digits_of n (k / 10)) ((48 + k % 10) ∷ []), digits_of-decimal n (k / 10) (omega (arith, pow-succ' 10 n)))

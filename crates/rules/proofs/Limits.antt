@@ -21,7 +21,7 @@ use Rattle.rules.specs.Utf8.{is_utf8, cut_length}
 use Rattle.rules.specs.Check.{is_offset, shift_by, is_too_long, element_of, record_faults, check}
 use Rattle.rules.specs.Services.{timing, cutting}
 use Rattle.rules.proofs.Tests.{clash}
-use Rattle.rules.proofs.Precedence.{first-is, earlier_comm, first_of-append_lem, unless_none, unless_refused, check-refused}
+use Rattle.rules.proofs.Precedence.{first-is, earlier_comm, first_of-append, unless_none, unless_refused, check-refused}
 use Rattle.rules.proofs.CheckRefusals.{Pass, pass-append, pass_when, first_passes, read_passes, element-or_markup}
 
 -- agreed offsets are from -840 to 840
@@ -128,9 +128,9 @@ module _ (offset : ℤ) (text : List ℕ) where
 
       turned : first_of (unread ++ outer) ≡ first_of (faults offset text unread unread_later)
       turned =
-          first_of-append_lem unread outer
+          first_of-append unread outer
           ∙ earlier_comm (first_of unread) (first_of outer)
-          ∙ sym (first_of-append_lem outer unread)
+          ∙ sym (first_of-append outer unread)
           ∙ ap first_of (append_assoc (OFFSET when not (is_offset offset)) (TOO_LONG when is_too_long text) unread)
 
   pub tick-offset_limit : timing offset text ≡ refused OFFSET ↔ is_offset offset ≡ false

@@ -20,7 +20,7 @@ use Rattle.rules.specs.Services.{listing, low_bytes, eight_bytes, overwrite, roo
 use Rattle.rules.specs.ListingPromise.{is_clear, is_listed, IsSetOfTimes, fits, Refuses, Lists, PromiseOfSet, ListingPromise}
 use Rattle.rules.proofs.Tests.{clash}
 use Rattle.rules.proofs.Precedence.{number_injective}
-use Rattle.rules.proofs.Ticks.{shift_by-most_lem}
+use Rattle.rules.proofs.Ticks.{shift_by-most}
 use Rattle.rules.proofs.Fitting.{list-fits}
 use Rattle.rules.proofs.Meaning.{set-meaning}
 use Rattle.rules.proofs.Unique.{stretch_listed}
@@ -128,7 +128,7 @@ module _ (offset : ℤ) (record' list : List ℕ) where
 
     enough : length (stretches s) ≤ room_of list → Lists offset record' answer list after (stretches s)
     enough l = lists (stretches s) (listing-answered offset (room_of list) record' e h.accepted h.listed s known h.few l) l
-        (list-fits (shift_by offset) (shift_by-most_lem offset (check-offset offset record' h.accepted)) e known)
+        (list-fits (shift_by offset) (shift_by-most offset (check-offset offset record' h.accepted)) e known)
 
     promise_of : PromiseOfSet offset record' answer list after e
     promise_of = record {

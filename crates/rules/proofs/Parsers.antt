@@ -62,11 +62,11 @@ one_ok p (d ∷ s) {c} {r} e = go _ refl e
 pub byte-ok : (b : ℕ) (s : List ℕ) {c : ℕ} {r : List ℕ} → byte b s ≡ ok c r → s ≡ b ∷ r
 byte-ok b s {c} {r} e = let (f, g) = one_ok (λ c. eqb c b) s e in f ∙ ap (λ x. x ∷ r) (eqb-true c b g)
 
-pub up_to-ok_lem : (n : ℕ) (p : ℕ → Bool) (s : List ℕ) {cs r : List ℕ} → up_to n p s ≡ ok cs r → (length cs ≤ n) × (every p cs ≡ true)
+pub up_to-ok : (n : ℕ) (p : ℕ → Bool) (s : List ℕ) {cs r : List ℕ} → up_to n p s ≡ ok cs r → (length cs ≤ n) × (every p cs ≡ true)
 unfolding up_to every
-up_to-ok_lem zero p s {cs} e = let z : cs ≡ [] = cc in rw z (omega arith, refl)
-up_to-ok_lem (suc n) p s e = elim (more_ok (one p s) (up_to n p) s e) [
-  | more c t ds f g z ↦ let (h, k) = up_to-ok_lem n p t g in rw (← z) (omega arith, rw (one_ok p s f).1 k)
+up_to-ok zero p s {cs} e = let z : cs ≡ [] = cc in rw z (omega arith, refl)
+up_to-ok (suc n) p s e = elim (more_ok (one p s) (up_to n p) s e) [
+  | more c t ds f g z ↦ let (h, k) = up_to-ok n p t g in rw (← z) (omega arith, rw (one_ok p s f).1 k)
   | done z ↦ rw z (omega arith, refl)
 ]
 

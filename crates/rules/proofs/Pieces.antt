@@ -14,16 +14,16 @@ use Rattle.rules.specs.Sets.{Bound, unbounded, open_at, closed_at, Interval}
 use Rattle.rules.specs.Dates.{years_end, date_text, clock_text, timestamp_text}
 use Rattle.rules.specs.Printing.{flag_text, bound_text, term_text, written, record_text, is_writable_bound, is_writable_stretch}
 use Rattle.rules.proofs.Tests.{clash, both_true, every_true}
-use Rattle.rules.proofs.Digits.{digits_of-length_lem}
+use Rattle.rules.proofs.Digits.{digits_of-length}
 use Rattle.rules.proofs.Dates.{years-end}
 
 pub date-length : (days : ℕ) → length (date_text days) ≡ 8
 unfolding date_text
-date-length days = simp (length-append, digits_of-length_lem)
+date-length days = simp (length-append, digits_of-length)
 
 pub clock-length : (t : ℕ) → length (clock_text t) ≡ 11
 unfolding clock_text
-clock-length t = simp (length-append, digits_of-length_lem)
+clock-length t = simp (length-append, digits_of-length)
 
 pub timestamp-length : (t : ℕ) → length (timestamp_text (pos t)) ≡ 24
 timestamp-length t = simp (length-append, date-length, clock-length)

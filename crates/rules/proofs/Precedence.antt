@@ -113,10 +113,10 @@ pub earlier_idem : (a : Option Refusal) → earlier a a ≡ a
 earlier_idem none = refl
 earlier_idem (some a) = rw (le-leb (rank a) (rank a) (omega arith))
 
-pub first_of-append_lem : (a b : List Refusal) → first_of (a ++ b) ≡ earlier (first_of a) (first_of b)
+pub first_of-append : (a b : List Refusal) → first_of (a ++ b) ≡ earlier (first_of a) (first_of b)
 unfolding first_of
-first_of-append_lem [] b = refl
-first_of-append_lem (r ∷ a) b = ap (earlier (some r)) (first_of-append_lem a b) ∙ sym (earlier_assoc (some r) (first_of a) (first_of b))
+first_of-append [] b = refl
+first_of-append (r ∷ a) b = ap (earlier (some r)) (first_of-append a b) ∙ sym (earlier_assoc (some r) (first_of a) (first_of b))
 
 one_of_lem : (P : Refusal → Type 0) (a b : Refusal) → P a → P b → P (lower a b)
 unfolding lower
@@ -214,7 +214,7 @@ module _ {A : Type 0} where
 
   pub unless_unless : (o : Outcome A) (a b : List Refusal) → (o unless a unless b) ≡ (o unless (a ++ b))
   unless_unless o a b =
-      rw (← append_assoc (faults_of o) a b, first_of-append_lem (faults_of (o unless a)) b, first_of_unless o a, first_of-append_lem (faults_of o ++ a) b)
+      rw (← append_assoc (faults_of o) a b, first_of-append (faults_of (o unless a)) b, first_of_unless o a, first_of-append (faults_of o ++ a) b)
       (go (first_of (faults_of o ++ a)) (first_of b))
     where
       go : (x y : Option Refusal) → if_some (earlier x y) refused (if_some x refused o) ≡ if_some (earlier x y) refused o
@@ -229,18 +229,18 @@ earlier_again a b = ap (earlier a) (earlier_comm b a) ∙ sym (earlier_assoc a a
 first_of_again : {A : Type 0} (o : Outcome A) (f : A → List Refusal) (faults : List Refusal) → first_of (faults_of o ++ (faults ++ faults_in f o)) ≡ first_of (faults ++ faults_in f o)
 unfolding first_of
 first_of_again (answered a) f faults = refl
-first_of_again (refused r) f faults = rw (first_of-append_lem faults (r ∷ [])) (earlier_again (some r) (first_of faults))
+first_of_again (refused r) f faults = rw (first_of-append faults (r ∷ [])) (earlier_again (some r) (first_of faults))
 
 module _ (offset : ℤ) (input : List ℕ) where
-  first_of-check_lem : first_of (faults_of (element_of input) ++ record_faults offset input) ≡ first_of (record_faults offset input)
+  first_of-check : first_of (faults_of (element_of input) ++ record_faults offset input) ≡ first_of (record_faults offset input)
   unfolding record_faults
-  first_of-check_lem = simp first_of_again
+  first_of-check = simp first_of_again
 
   pub check-refused : (r : Refusal) → check offset input ≡ refused r ↔ first_of (record_faults offset input) ≡ some r
   unfolding check
   check-refused r =
       let h = unless_refused (element_of input) (record_faults offset input) r in
-      (λ e. sym first_of-check_lem ∙ h.0 e, λ e. h.1 (first_of-check_lem ∙ e))
+      (λ e. sym first_of-check ∙ h.0 e, λ e. h.1 (first_of-check ∙ e))
 
   pub check-answered : (e : Element) → check offset input ≡ answered e ↔ (document input ≡ some e) × (record_faults offset input ≡ [])
   unfolding check

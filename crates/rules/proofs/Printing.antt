@@ -26,11 +26,11 @@ use Rattle.rules.specs.ListingPromise.{is_listed}
 use Rattle.rules.specs.Listing.{set_from, members_of, joined, set_of}
 use Rattle.rules.specs.Dates.{years_end, date_text, clock_text, timestamp_text}
 use Rattle.rules.specs.Printing.{written, record_text, is_writable_bound, is_writable_stretch}
-use Rattle.rules.proofs.Tests.{clash, both_true, is_from-true_lem, every_true, every_append, every_map}
+use Rattle.rules.proofs.Tests.{clash, both_true, is_from-true, every_true, every_append, every_map}
 use Rattle.rules.proofs.Depth.{open_in}
 use Rattle.rules.proofs.Writing.{is_name, is_bare, is_bare_tag, are_bare, is_bare_tree, document_of_write, write_utf8}
 use Rattle.rules.proofs.Stay.{said_of, term_attributes, bound_nodes, term_nodes, stay_of, record_written}
-use Rattle.rules.proofs.Digits.{digits_of-digits_lem}
+use Rattle.rules.proofs.Digits.{digits_of-digits}
 use Rattle.rules.proofs.Pieces.{written-length, record_short}
 use Rattle.rules.proofs.Dates.{years-end, timestamp_of_tick}
 use Rattle.rules.proofs.Children.{faults_as}
@@ -46,11 +46,11 @@ use Rattle.rules.proofs.ListingCases.{listing-answered}
 -- a timestamp holds no byte that has to be referred to
 digit_bare : (c : ℕ) → is_digit c ≡ true → is_bare c ≡ true
 digit_bare c h =
-    let (l, m) = is_from-true_lem 48 57 c h in
+    let (l, m) = is_from-true 48 57 c h in
     rw (le-leb 32 c (omega arith), le-leb c 127 (omega arith), ne_eqb c 34 (λ z. omega arith), ne_eqb c 38 (λ z. omega arith), ne_eqb c 60 (λ z. omega arith))
 
 digits_bare : (n k : ℕ) → every is_bare (digits_of n k) ≡ true
-digits_bare n k = every_map is_digit is_bare digit_bare (digits_of n k) (digits_of-digits_lem n k)
+digits_bare n k = every_map is_digit is_bare digit_bare (digits_of n k) (digits_of-digits n k)
 
 date_bare : (days : ℕ) → every is_bare (date_text days) ≡ true
 unfolding date_text

@@ -25,7 +25,7 @@ use Rattle.rules.specs.Dates.{years_end, timestamp_text}
 use Rattle.rules.specs.Printing.{record_text, is_writable_stretch, is_unwritable, printing}
 use Rattle.rules.proofs.Tests.{clash, neither, every_append}
 use Rattle.rules.proofs.Dates.{timestamp_of_tick}
-use Rattle.rules.proofs.Ticks.{shift_by-most_lem}
+use Rattle.rules.proofs.Ticks.{shift_by-most}
 use Rattle.rules.proofs.Canonical.{Canonical}
 use Rattle.rules.proofs.Drawing.{stretches-canonical}
 use Rattle.rules.proofs.Counting.{stretches-at-most}
@@ -33,7 +33,7 @@ use Rattle.rules.proofs.Members.{set-intervals, clear-set}
 use Rattle.rules.proofs.Fitting.{list-fits}
 use Rattle.rules.proofs.ListingCases.{check_faultless, check-offset, listing-unlisted, listing_unclear, listing_too_many, listing_no_room, listing-answered, listing-faulty, faulty, other_type, unclear, many, a_set, case}
 use Rattle.rules.proofs.ListingPromise.{numbers-length, bytes-length}
-use Rattle.rules.proofs.LentLists.{numbers-written, numbers-read, numbers_from-length_lem}
+use Rattle.rules.proofs.LentLists.{numbers-written, numbers-read, numbers_from-length}
 use Rattle.rules.proofs.ProperLists.{IsProper, proper, stretches_back, not_improper}
 use Rattle.rules.proofs.Pieces.{timestamp-length}
 use Rattle.rules.proofs.Printing.{IsPrintable, record_listed}
@@ -62,7 +62,7 @@ module _ (list : List ℕ) (w : is_unwritable list ≡ false) where
 
   pub listed-length : 32 * length (listed list) ≡ length list
   listed-length =
-      omega (arith, numbers-length (listed list), ap length the_numbers.numbers_are, numbers_from-length_lem (length list / 8) list, whole_numbers)
+      omega (arith, numbers-length (listed list), ap length the_numbers.numbers_are, numbers_from-length (length list / 8) list, whole_numbers)
 
   -- reading the record back lists the same stretches
   pub listed_back : (offset : ℤ) (lent : List ℕ) → is_offset offset ≡ true → length list ≤ length lent
@@ -107,7 +107,7 @@ listing-proper offset room input ss h =
     let (e, s, k, known, z) = listing_gives offset room input ss h in
     let as_many = set-intervals (shift_by offset) e (check_faultless offset input k.accepted) k.listed known in
     rw z at (proper-list (stretches s) (omega (arith, stretches-at-most s, k.few)) (stretches-canonical s)
-    (list-fits (shift_by offset) (shift_by-most_lem offset (check-offset offset input k.accepted)) e known))
+    (list-fits (shift_by offset) (shift_by-most offset (check-offset offset input k.accepted)) e known))
 
 -- and all of it are bytes
 pub low-bytes : (n k : ℕ) → every is_byte (low_bytes n k) ≡ true

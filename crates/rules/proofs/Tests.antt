@@ -21,8 +21,8 @@ pub neither : (a b : Bool) → (a || b) ≡ false → (a ≡ false) × (b ≡ fa
 neither true b e = clash (cc)
 neither false b e = (refl, e)
 
-pub is_from-true_lem : (low high c : ℕ) → is_from low high c ≡ true → (low ≤ c) × (c ≤ high)
-is_from-true_lem low high c e = let (f, g) = both_true _ _ e in (leb-true low c f, leb-true c high g)
+pub is_from-true : (low high c : ℕ) → is_from low high c ≡ true → (low ≤ c) × (c ≤ high)
+is_from-true low high c e = let (f, g) = both_true _ _ e in (leb-true low c f, leb-true c high g)
 
 pub every_true : {A : Type 0} (p : A → Bool) (a : A) (l : List A) → every p (a ∷ l) ≡ true → (p a ≡ true) × (every p l ≡ true)
 unfolding every

@@ -19,8 +19,8 @@ use Rattle.rules.specs.Parsers.{ok, next, else, guard, one, up_to, byte, whole}
 use Rattle.rules.specs.Calendar.{month_length, days_of_years, days_of_months, days_before_year, second, minute, day}
 use Rattle.rules.specs.Timestamp.{Zone, no_zone, plus, minus, Written, digits, two_digits, point, zone, timestamp, month_of, day_of, hour_of, minute_of, second_of, ten_thousandths, is_date, is_clock, is_zone, written_faults, shift_of, start_of, unit_length, Moment, moment_of, is_coarse, read_timestamp}
 use Rattle.rules.specs.Check.{is_offset, shift_by}
-use Rattle.rules.proofs.Tests.{clash, both_true, is_from-true_lem}
-use Rattle.rules.proofs.Parsers.{next-ok, map-ok, cons_ok, else-ok, more, done, more_ok, guard_ok, one_ok, up_to-ok_lem, whole-ok}
+use Rattle.rules.proofs.Tests.{clash, both_true, is_from-true}
+use Rattle.rules.proofs.Parsers.{next-ok, map-ok, cons_ok, else-ok, more, done, more_ok, guard_ok, one_ok, up_to-ok, whole-ok}
 use Rattle.rules.proofs.Digits.{decimal-below}
 use Rattle.rules.proofs.Calendar.{days_of_years-most, year-least, months_make_year, months_in_year, month_ends}
 use Rattle.rules.proofs.Precedence.{when_none, unless_answered}
@@ -68,14 +68,14 @@ pub point-ok : (s : List ℕ) {ds r : List ℕ} → point s ≡ ok ds r → (len
 unfolding point every
 point-ok s e = next-ok (byte 46 s) _ e λ b t f g.
     let (d, u, ds, h, k, z) = cons_ok (one is_digit t) (up_to 3 is_digit) g in
-    let (l, i) = up_to-ok_lem 3 is_digit u k in
+    let (l, i) = up_to-ok 3 is_digit u k in
     rw (← z) (omega arith, rw (one_ok is_digit t h).1 i)
 
-two_digits-ok_lem : (n : ℕ) (s : List ℕ) {ps r : List ℕ} → two_digits n s ≡ ok ps r → length ps ≤ n
+two_digits-ok : (n : ℕ) (s : List ℕ) {ps r : List ℕ} → two_digits n s ≡ ok ps r → length ps ≤ n
 unfolding two_digits
-two_digits-ok_lem zero s {ps} e = let z : ps ≡ [] = cc in rw z (omega arith)
-two_digits-ok_lem (suc n) s e = elim (more_ok (digits 2 s) (two_digits n) s e) [
-  | more a t l f g z ↦ rw (← z) (omega (arith, two_digits-ok_lem n t g))
+two_digits-ok zero s {ps} e = let z : ps ≡ [] = cc in rw z (omega arith)
+two_digits-ok (suc n) s e = elim (more_ok (digits 2 s) (two_digits n) s e) [
+  | more a t l f g z ↦ rw (← z) (omega (arith, two_digits-ok n t g))
   | done z ↦ rw z (omega arith)
 ]
 
@@ -98,7 +98,7 @@ form s {w} e =
     next-ok (else (next (guard (leb 5 (length ps)) s₂) (λ u. point)) (ok [] s₂)) _ e₂ λ f s₃ c e₃.
     let (z, d, q) = map-ok (else (next (guard (leb 3 (length ps)) s₃) (λ u. zone)) (ok no_zone s₃)) _ e₃ in
     let (g, h, k) = fraction-ok (length ps) s₂ c in
-    rw (← q) (record { parts_most = two_digits-ok_lem 5 s₁ b; fraction_most = g; fraction_digits = h; fraction_last = k })
+    rw (← q) (record { parts_most = two_digits-ok 5 s₁ b; fraction_most = g; fraction_digits = h; fraction_last = k })
 
 -- coarser than a second exactly if it stops before ss
 pub coarse_parts : (shift : ℕ) (text : List ℕ) (w : Written) → whole timestamp text ≡ some w → is_coarse (moment_of shift w) ≡ ltb (length w.parts) 5
@@ -135,12 +135,12 @@ possible w e =
     let (hm, s) = both_true _ _ (unless_not CLOCK (is_clock w) clock) in
     let (h, i) = both_true _ _ hm in
     record {
-      year_low = (is_from-true_lem 1 9999 w.year y).0;
-      year_high = (is_from-true_lem 1 9999 w.year y).1;
-      month_low = (is_from-true_lem 1 12 (month_of w) m).0;
-      month_high = (is_from-true_lem 1 12 (month_of w) m).1;
-      day_low = (is_from-true_lem 1 (month_length w.year (month_of w)) (day_of w) d).0;
-      day_high = (is_from-true_lem 1 (month_length w.year (month_of w)) (day_of w) d).1;
+      year_low = (is_from-true 1 9999 w.year y).0;
+      year_high = (is_from-true 1 9999 w.year y).1;
+      month_low = (is_from-true 1 12 (month_of w) m).0;
+      month_high = (is_from-true 1 12 (month_of w) m).1;
+      day_low = (is_from-true 1 (month_length w.year (month_of w)) (day_of w) d).0;
+      day_high = (is_from-true 1 (month_length w.year (month_of w)) (day_of w) d).1;
       hour_high = leb-true (hour_of w) 23 h;
       minute_high = leb-true (minute_of w) 59 i;
       second_high = leb-true (second_of w) 59 s;
@@ -180,9 +180,9 @@ span shift y (m ∷ d ∷ h ∷ i ∷ s ∷ l) f z c p =
     omega (arith, one-le-pow (4 - length f) 10 (omega arith), fraction_in_second f c.fraction_most c.fraction_digits, month_in_years _ p)
 
 -- an offset within -840..840 is taken into account by 1680 minutes at most
-pub shift_by-most_lem : (offset : ℤ) → is_offset offset ≡ true → shift_by offset ≤ 1680
-shift_by-most_lem (pos n) e = omega arith
-shift_by-most_lem (negsuc n) e = omega (arith, ltb-true n 840 e)
+pub shift_by-most : (offset : ℤ) → is_offset offset ≡ true → shift_by offset ≤ 1680
+shift_by-most (pos n) e = omega arith
+shift_by-most (negsuc n) e = omega (arith, ltb-true n 840 e)
 
 module _ (shift : ℕ) (text : List ℕ) (m : Moment) (read : read_timestamp shift text ≡ answered m) where
   -- the timestamp as written, and what is known of it

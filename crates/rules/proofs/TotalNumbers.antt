@@ -14,7 +14,7 @@ use Rattle.rules.specs.LentLists.{is_byte, unsigned}
 use Rattle.rules.specs.Services.{low_bytes}
 use Rattle.rules.specs.Totals.{Row, is_in_range}
 use Rattle.rules.specs.TotalNumbers.{is64, total_number, total_in, currency_number, currency_in, row_numbers}
-use Rattle.rules.proofs.Tests.{clash, neither, both_true, every_true, is_from-true_lem}
+use Rattle.rules.proofs.Tests.{clash, neither, both_true, every_true, is_from-true}
 use Rattle.rules.proofs.LentLists.{unsigned-low, unsigned-below, low_unsigned}
 
 -- a total
@@ -41,7 +41,7 @@ unfolding every
 capitals_bytes [] h = refl
 capitals_bytes (b ∷ c) h =
     let (f, g) = every_true (is_from 65 90) b c h in
-    let l = is_from-true_lem 65 90 b f in
+    let l = is_from-true 65 90 b f in
     rw (lt-ltb b 256 (omega arith), capitals_bytes c g)
 
 three-letters : (c : List ℕ) → is_currency c ≡ true → (length c ≡ 3) × (every is_byte c ≡ true)

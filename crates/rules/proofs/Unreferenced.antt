@@ -16,7 +16,7 @@ use Rattle.rules.specs.Refusal.{VALUE, refused}
 use Rattle.rules.specs.Parsers.{ok, Parser, pure, guard, ◌>>=◌, ◌or◌, one, times, up_to, byte, whole}
 use Rattle.rules.specs.Timestamp.{Zone, no_zone, digits, two_digits, point, hours, zone, timestamp, plus, minus, read_timestamp}
 use Rattle.rules.specs.Forms.{amount_text, is_currency, is_plain_number, is_oid, is_root, is_qualifiers}
-use Rattle.rules.proofs.Tests.{clash, both_true, is_from-true_lem, every_true}
+use Rattle.rules.proofs.Tests.{clash, both_true, is_from-true, every_true}
 use Rattle.rules.proofs.Parsers.{next-ok, else-ok, one_ok, whole-ok}
 use Rattle.rules.proofs.References.{is_referenced}
 
@@ -26,12 +26,12 @@ unreferenced c h i j k l = rw (ne_eqb c 38 h, ne_eqb c 60 i, ne_eqb c 62 j, ne_e
 
 digit_unreferenced : (c : ℕ) → is_digit c ≡ true → is_referenced c ≡ false
 digit_unreferenced c e =
-    let (l, h) = is_from-true_lem 48 57 c e in
+    let (l, h) = is_from-true 48 57 c e in
     unreferenced c (λ z. omega arith) (λ z. omega arith) (λ z. omega arith) (λ z. omega arith) (λ z. omega arith)
 
 capital_unreferenced : (c : ℕ) → is_from 65 90 c ≡ true → is_referenced c ≡ false
 capital_unreferenced c e =
-    let (l, h) = is_from-true_lem 65 90 c e in
+    let (l, h) = is_from-true 65 90 c e in
     unreferenced c (λ z. omega arith) (λ z. omega arith) (λ z. omega arith) (λ z. omega arith) (λ z. omega arith)
 
 -- what all of a list pass, and what none of them is
@@ -176,7 +176,7 @@ plain_digits [] e = refl
 plain_digits (c ∷ []) e = rw e
 plain_digits (c ∷ d ∷ s) e =
     let (f, g) = both_true _ _ e in
-    let (l, h) = is_from-true_lem 49 57 c f in
+    let (l, h) = is_from-true 49 57 c f in
     rw (le-leb 48 c (omega arith), le-leb c 57 h) g
 
 number_unreferenced : (w : List ℕ) → is_plain_number w ≡ true → exists is_referenced w ≡ false

@@ -12,7 +12,7 @@ use Rattle.rules.specs.Basics.{find, every, bytes, is_from, is_digit}
 use Rattle.rules.specs.Parsers.{bad, ok, front, after, one, many, literal, finish}
 use Rattle.rules.specs.Markup.{is_space, space, some_space, is_name_start, is_name_byte, name, noncharacter, char, text, value, Attribute, attribute, attributes, is_distinct, tag_attributes, Nodes, end, node, Element, end_tag, body, element, content, document}
 use Rattle.rules.specs.Utf8.{lead_of, follows, is_utf8}
-use Rattle.rules.proofs.Tests.{clash, both_true, is_from-true_lem, every_true, every_append, every_map}
+use Rattle.rules.proofs.Tests.{clash, both_true, is_from-true, every_true, every_append, every_map}
 use Rattle.rules.proofs.Depth.{open_in, depth_of}
 use Rattle.rules.proofs.Beginnings.{Stops, many_read, literal-read}
 
@@ -79,7 +79,7 @@ bare c h =
     let (f, t) = both_true _ _ h in
     let (g, a) = both_true _ _ f in
     let (i, q) = both_true _ _ g in
-    let (l, m) = is_from-true_lem 32 127 c i in
+    let (l, m) = is_from-true 32 127 c i in
     record { low = l; high = m; no_quote = not-true _ q; no_ampersand = not-true _ a; no_tag = not-true _ t }
 
 char-read : (c : ℕ) (r : List ℕ) → is_bare c ≡ true → char (c ∷ r) ≡ ok c r
@@ -105,8 +105,8 @@ start-high : (c : ℕ) → is_name_start c ≡ true → 65 ≤ c
 start-high c h = go _ _ _ refl refl refl h
   where
     go : (a b d : Bool) → is_from 65 90 c ≡ a → is_from 97 122 c ≡ b → eqb c 95 ≡ d → (a || b || d) ≡ true → 65 ≤ c
-    go true b d e f g h = (is_from-true_lem 65 90 c e).0
-    go false true d e f g h = omega (arith, is_from-true_lem 97 122 c f)
+    go true b d e f g h = (is_from-true 65 90 c e).0
+    go false true d e f g h = omega (arith, is_from-true 97 122 c f)
     go false false true e f g h = omega (arith, eqb-true c 95 g)
     go false false false e f g h = clash (cc)
 
@@ -150,10 +150,10 @@ attributes-length [] r = omega arith
 attributes-length (a ∷ as') r =
     (omega (arith, ap length (attribute-text a as' r), attributes-length as' r, length-append a.name (61 ∷ 34 ∷ a.value ++ 34 ∷ (flat_map attribute_text as' ++ r)), length-append a.value (34 ∷ (flat_map attribute_text as' ++ r))))
 
-tag_attributes-read_lem : (as' : List Attribute) (r : List ℕ) → every is_bare_attribute as' ≡ true → is_distinct as' ≡ true → Stops is_space r
+tag_attributes-read : (as' : List Attribute) (r : List ℕ) → every is_bare_attribute as' ≡ true → is_distinct as' ≡ true → Stops is_space r
     → tag_attributes (flat_map attribute_text as' ++ r) ≡ ok as' r
 unfolding tag_attributes
-tag_attributes-read_lem as' r h d k = rw (attributes-read _ as' r (attributes-length as' r) h k, d)
+tag_attributes-read as' r h d k = rw (attributes-read _ as' r (attributes-length as' r) h k, d)
 
 -- attributes begin with white space, or what follows them begins
 attributes-stop : (p : ℕ → Bool) (as' : List Attribute) (r : List ℕ) → p 32 ≡ false → Stops p r → Stops p (flat_map attribute_text as' ++ r)
@@ -161,9 +161,9 @@ unfolding flat_map
 attributes-stop p [] r h k = k
 attributes-stop p (a ∷ as') r h k = h
 
-end_tag-read_lem : (n r : List ℕ) → end_tag n (60 ∷ 47 ∷ n ++ 62 ∷ r) ≡ ok 62 r
+end_tag-read : (n r : List ℕ) → end_tag n (60 ∷ 47 ∷ n ++ 62 ∷ r) ≡ ok 62 r
 unfolding end_tag literal one many front after
-end_tag-read_lem n r = rw (literal-read n (62 ∷ r))
+end_tag-read n r = rw (literal-read n (62 ∷ r))
 
 body_stops : (p : ℕ → Bool) (n : List ℕ) (kids : Nodes) (inner r : List ℕ) → p 47 ≡ false → p 62 ≡ false → Stops p (body_text n kids inner ++ r)
 body_stops p n end inner r h k = h
@@ -180,7 +180,7 @@ start-read n as' kids inner r h =
     let (g, a) = both_true _ _ f in
     let tail = body_text n kids inner ++ r in (
       name-read n (flat_map attribute_text as' ++ tail) g (attributes-stop is_name_byte as' tail refl (body_stops is_name_byte n kids inner r refl refl)),
-      tag_attributes-read_lem as' tail a d (body_stops is_space n kids inner r refl refl),
+      tag_attributes-read as' tail a d (body_stops is_space n kids inner r refl refl),
       many_read is_space [] tail refl (body_stops is_space n kids inner r refl refl),
     )
 
@@ -194,7 +194,7 @@ body-read n end f d r h = refl
 body-read n (node m attrs kids rest) f d r h =
     let inner = nodes_text (node m attrs kids rest) in
     let e : inner ++ bytes "</" ++ n ++ 62 ∷ [] ++ r ≡ inner ++ 60 ∷ 47 ∷ (n ++ 62 ∷ r) = simp append_assoc in
-    ap (λ s. body n (content f d) (62 ∷ s)) e ∙ rw (h (n ++ 62 ∷ r), end_tag-read_lem n r)
+    ap (λ s. body n (content f d) (62 ∷ s)) e ∙ rw (h (n ++ 62 ∷ r), end_tag-read n r)
 
 element-text : (n : List ℕ) (as' : List Attribute) (kids : Nodes) (inner r : List ℕ)
     → element_text n as' kids inner ++ r ≡ 60 ∷ n ++ (flat_map attribute_text as' ++ (body_text n kids inner ++ r))
@@ -281,8 +281,8 @@ start-most : (c : ℕ) → is_name_start c ≡ true → c ≤ 122
 start-most c h = go _ _ _ refl refl refl h
   where
     go : (a b d : Bool) → is_from 65 90 c ≡ a → is_from 97 122 c ≡ b → eqb c 95 ≡ d → (a || b || d) ≡ true → c ≤ 122
-    go true b d e f g h = omega (arith, is_from-true_lem 65 90 c e)
-    go false true d e f g h = (is_from-true_lem 97 122 c f).1
+    go true b d e f g h = omega (arith, is_from-true 65 90 c e)
+    go false true d e f g h = (is_from-true 97 122 c f).1
     go false false true e f g h = omega (arith, eqb-true c 95 g)
     go false false false e f g h = clash (cc)
 
@@ -291,7 +291,7 @@ name-byte_ascii c h = le-leb c 127 (go _ _ _ _ _ refl refl refl refl refl h)
   where
     go : (a b d e f : Bool) → is_name_start c ≡ a → is_digit c ≡ b → eqb c 46 ≡ d → eqb c 45 ≡ e → eqb c 58 ≡ f → (a || b || d || e || f) ≡ true → c ≤ 127
     go true b d e f i j k l m h = omega (arith, start-most c i)
-    go false true d e f i j k l m h = omega (arith, is_from-true_lem 48 57 c j)
+    go false true d e f i j k l m h = omega (arith, is_from-true 48 57 c j)
     go false false true e f i j k l m h = omega (arith, eqb-true c 46 k)
     go false false false true f i j k l m h = omega (arith, eqb-true c 45 l)
     go false false false false true i j k l m h = omega (arith, eqb-true c 58 m)

@@ -10,7 +10,7 @@ use native.Mathlib.Omega.{arith}
 use borrow.Author.Tests.{leb-true, ltb-true}
 use Rattle.rules.specs.Basics.{if_some, every, find}
 use Rattle.rules.specs.Utf8.{Range, in_range, Lead, tail, leads, lead_of, follows, is_utf8, longest, cut_length}
-use Rattle.rules.proofs.Tests.{both_true, is_from-true_lem}
+use Rattle.rules.proofs.Tests.{both_true, is_from-true}
 use Rattle.text.proofs.Leads.{inside, below, above}
 
 abbrev is_tail : ℕ → Bool
@@ -41,12 +41,12 @@ find-every p q (b ∷ l) a e f = go (p b) refl f (both_true (q b) (every q l) e)
 in_tail : (r : Range) (c : ℕ) → is_tail_range r ≡ true → in_range c r ≡ true → is_tail c ≡ true
 in_tail r c e f =
     let h = both_true (leb 0x80 r.low) (leb r.high 0xBF) e in
-    let k = is_from-true_lem r.low r.high c f in
+    let k = is_from-true r.low r.high c f in
     inside 0x80 0xBF c (omega (arith, leb-true 0x80 r.low h.0)) (omega (arith, leb-true r.high 0xBF h.1))
 
 no_tail : (r : Range) (c : ℕ) (a b : Bool) → ltb r.high 0x80 ≡ a → ltb 0xBF r.low ≡ b → a || b ≡ true → in_range c r ≡ true → is_tail c ≡ false
-no_tail r c true b p q e f = let k = is_from-true_lem r.low r.high c f in below 0x80 0xBF c (omega (arith, ltb-true r.high 0x80 p))
-no_tail r c false true p q e f = let k = is_from-true_lem r.low r.high c f in above 0x80 0xBF c (omega (arith, ltb-true 0xBF r.low q))
+no_tail r c true b p q e f = let k = is_from-true r.low r.high c f in below 0x80 0xBF c (omega (arith, ltb-true r.high 0x80 p))
+no_tail r c false true p q e f = let k = is_from-true r.low r.high c f in above 0x80 0xBF c (omega (arith, ltb-true 0xBF r.low q))
 no_tail r c false false p q e f = absurd (false≢true e)
 
 boundary_from : (l : List Range) (s : List ℕ) (n : ℕ) → every is_tail_range l ≡ true → follows l s ≡ true → n < length s

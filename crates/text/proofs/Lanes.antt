@@ -13,7 +13,7 @@ use lib.ListN.{length, get_or, take, drop, length-drop}
 use lib.Seq.{drop-drop}
 use Rattle.rules.specs.Basics.{every, is_digit, decimal_from, decimal}
 use Rattle.rules.specs.LentLists.{is_byte, unsigned}
-use Rattle.rules.proofs.Tests.{every_true, is_from-true_lem, passes, passed}
+use Rattle.rules.proofs.Tests.{every_true, is_from-true, passes, passed}
 use Rattle.text.proofs.Numerals.{decimal_more}
 use Rattle.text.proofs.Reading.{here}
 
@@ -136,7 +136,7 @@ left_ten : (b : ℕ) → b < 256 → ltb (left b) 10 ≡ is_digit b
 left_ten b h = go (is_digit b) refl (passed 256 _ b left_computed h)
   where
     go : (x : Bool) → is_digit b ≡ x → cond x (eqb (left b) (b - 48)) (not (ltb (left b) 10)) ≡ true → ltb (left b) 10 ≡ x
-    go true e f = let (low, high) = is_from-true_lem 48 57 b e in lt-ltb (left b) 10 (omega (arith, left_digit b h e))
+    go true e f = let (low, high) = is_from-true 48 57 b e in lt-ltb (left b) 10 (omega (arith, left_digit b h e))
     go false e f = not-true _ f
 
 abbrev pub leftovers : List ℕ → List ℕ

@@ -14,9 +14,9 @@ use lib.Seq.{drop-cons, drop-drop, take-suc, get_or-drop, length-take-le}
 use Rattle.rules.specs.Basics.{every, is_digit, decimal_from, decimal}
 use Rattle.rules.specs.Parsers.{bad, ok, next, pure, ◌>>=◌, ◌or◌, one, byte, times, up_to}
 use Rattle.rules.specs.Timestamp.{digits, point}
-use Rattle.rules.proofs.Tests.{clash, is_from-true_lem, every_true}
+use Rattle.rules.proofs.Tests.{clash, is_from-true, every_true}
 use Rattle.rules.proofs.Parsers.{else-ok}
-use Rattle.rules.proofs.Digits.{decimal_from-append_lem, decimal-below}
+use Rattle.rules.proofs.Digits.{decimal_from-append, decimal-below}
 use Rattle.text.specs.Numbers.{Counted, NumberAt, FractionAt}
 use Rattle.text.specs.declared.digits.Number.TheVariants.{Is}
 
@@ -80,8 +80,8 @@ module _ (s : List ℕ) (at most n : ℕ) (c : Counted s at most n) where
   no_digit_counted e h = rw e at stops (omega arith)
 
   -- as many digits as there are, up to `most`
-  pub counted-up_to_lem : up_to most is_digit (drop at s) ≡ ok (take n (drop at s)) (drop (at + n) s)
-  counted-up_to_lem = rw (← drop-drop n at s) (up_to_run is_digit most n (drop at s) c.few fits c.digits stops)
+  pub counted-up_to : up_to most is_digit (drop at s) ≡ ok (take n (drop at s)) (drop (at + n) s)
+  counted-up_to = rw (← drop-drop n at s) (up_to_run is_digit most n (drop at s) c.few fits c.digits stops)
 
   -- fewer digits than are wanted
   pub counted-bad : n < most → digits most (drop at s) ≡ bad
@@ -103,7 +103,7 @@ pub decimal_more : (s : List ℕ) (at k : ℕ) → at + k < length s
     → decimal (take (k + 1) (drop at s)) ≡ decimal (take k (drop at s)) * 10 + (get_or s (at + k) 0 - 48)
 unfolding decimal_from
 decimal_more s at k h =
-    rw (add-one k, take-suc (drop at s) k 0 (rw length-drop (omega arith)), get_or-drop at s k 0, decimal_from-append_lem 0 (take k (drop at s)) (get_or s (at + k) 0 ∷ []))
+    rw (add-one k, take-suc (drop at s) k 0 (rw length-drop (omega arith)), get_or-drop at s k 0, decimal_from-append 0 (take k (drop at s)) (get_or s (at + k) 0 ∷ []))
     (omega arith)
 
 -- of n digits the first k, and the one after them
@@ -124,7 +124,7 @@ every-at p (c ∷ l) (suc n) (suc k) h g e = every-at p l n k (omega arith) (ome
 
 module _ (s : List ℕ) (at n : ℕ) (high : at + n ≤ length s) (e : every is_digit (take n (drop at s)) ≡ true) where
   pub digit_at : (k : ℕ) → k < n → (48 ≤ get_or s (at + k) 0) × (get_or s (at + k) 0 ≤ 57)
-  digit_at k h = is_from-true_lem 48 57 (get_or s (at + k) 0) (rw (← get_or-drop at s k 0) (every-at is_digit (drop at s) n k h (rw length-drop (omega arith)) e))
+  digit_at k h = is_from-true 48 57 (get_or s (at + k) 0) (rw (← get_or-drop at s k 0) (every-at is_digit (drop at s) n k h (rw length-drop (omega arith)) e))
 
   -- the first k digits write less than one and k zeros
   pub decimal-first : (k : ℕ) → k ≤ n → decimal (take k (drop at s)) < 10 ^ k
@@ -191,7 +191,7 @@ point_run s (c ∷ u) r (suc n) e h l f = rw (e, first_of 3 is_digit (c ∷ u) c
 pub point-digits : (s : List ℕ) (at n : ℕ) → byte 46 (drop at s) ≡ ok 46 (drop (at + 1) s) → Counted s (at + 1) 4 n → 1 ≤ n
     → (point or pure []) (drop at s) ≡ ok (take n (drop (at + 1) s)) (drop (at + 1 + n) s)
 point-digits s at n e c h =
-    point_run (drop at s) (drop (at + 1) s) _ n e h (rw length-drop (omega (arith, c.high))) (counted-up_to_lem s (at + 1) 4 n c)
+    point_run (drop at s) (drop (at + 1) s) _ n e h (rw length-drop (omega (arith, c.high))) (counted-up_to s (at + 1) 4 n c)
 
 -- so many digits after a point, in ten-thousandths
 pub scaled : (value count k : ℕ) → count ≡ k → k ≤ 4 → value < 10 ^ count → (value * 10 ^ (4 - k) ≡ value * 10 ^ (4 - count)) × (value * 10 ^ (4 - k) < 10_000)

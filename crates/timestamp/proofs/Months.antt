@@ -8,7 +8,7 @@ use borrow.Author.Tests.{leb-true, leb-false, le-leb, lt-leb, eqb-true, ne_eqb}
 use lib.Dec.{eqb, leb}
 use lib.ListN.{get_or}
 use Rattle.rules.specs.Calendar.{is_leap, year_length, month_length, days_of_years, days_of_months, days_before_year, days_by_division, days_before}
-use Rattle.rules.proofs.Tests.{clash, is_from-true_lem, passes, passed}
+use Rattle.rules.proofs.Tests.{clash, is_from-true, passes, passed}
 use Rattle.rules.specs.Basics.{is_from}
 use Rattle.rules.proofs.Calendar.{days_by_division_lem}
 use Rattle.timestamp.specs.Moments.{InRange}
@@ -101,8 +101,8 @@ month_least y m h l = leb-true 28 _ (in_months least_test refl refl (is_leap y) 
 
 pub first-days : (y m d : ℕ) → is_from 1 12 m ≡ true → is_from 1 28 d ≡ true → is_from 1 (month_length y m) d ≡ true
 first-days y m d e f =
-    let (a, b) = is_from-true_lem 1 12 m e in
-    let (low, high) = is_from-true_lem 1 28 d f in
+    let (a, b) = is_from-true 1 12 m e in
+    let (low, high) = is_from-true 1 28 d f in
     rw (le-leb 1 d low, le-leb d (month_length y m) (omega (arith, month_least y m a b))) refl
 
 pub last_days : (n d : ℕ) → is_from 1 28 d ≡ false → is_from 29 n d ≡ is_from 1 n d

@@ -11,7 +11,7 @@ use lib.ListN.{length, get_or}
 use Rattle.rules.specs.Basics.{every, is_from}
 use Rattle.rules.specs.Calendar.{is_leap, year_length, month_lengths, month_length, days_before}
 use Rattle.rules.specs.Timestamp.{is_offset_time, is_zone, unit_length}
-use Rattle.rules.proofs.Tests.{both_true, is_from-true_lem, every_true}
+use Rattle.rules.proofs.Tests.{both_true, is_from-true, every_true}
 use Rattle.rules.proofs.Calendar.{days_of_years-most, months_in_year}
 use Rattle.timestamp.specs.Written.{zone_of, SmallZone}
 use Rattle.timestamp.specs.Moments.{InRange, is_date_of, is_clock_of, unit_ticks}
@@ -37,9 +37,9 @@ pub date-range : (y m d : ℕ) → is_date_of y m d ≡ true → InRange y m d
 date-range y m d e =
     let (ym, dd) = both_true (is_from 1 9999 y && is_from 1 12 m) (is_from 1 (month_length y m) d) e in
     let (yy, mm) = both_true (is_from 1 9999 y) (is_from 1 12 m) ym in
-    let a = is_from-true_lem 1 9999 y yy in
-    let b = is_from-true_lem 1 12 m mm in
-    let c = is_from-true_lem 1 (month_length y m) d dd in
+    let a = is_from-true 1 9999 y yy in
+    let b = is_from-true 1 12 m mm in
+    let c = is_from-true 1 (month_length y m) d dd in
     record { from_year = a.0; to_year = a.1; from_month = b.0; to_month = b.1; from_day = c.0; to_day = omega (arith, month_most y m) }
 
 pub clock-range : (h m s : ℕ) → is_clock_of h m s ≡ true → (h ≤ 23) × (m ≤ 59) × (s ≤ 59)

@@ -1,6 +1,6 @@
 use Rattle.std.proofs.Common.{◌≡◌, length, sym, refl, ◌∙◌, arith, rules}
 use Rattle.interval.specs.Meaning.{place_of}
-use Rattle.interval.proofs.Items.{length_mapped, used-ticked, is_in-past_lem}
+use Rattle.interval.proofs.Items.{length_mapped, used-ticked, is_in-past}
 use Rattle.interval.proofs.Members.{contains_here, contains_next}
 use Rattle.interval.proofs.contains.Goals as goal
 
@@ -43,4 +43,4 @@ loop-k-preserved c =
 pub returns : goal.returns
 returns c =
     let g : length c.args.s.items ≡ 32 = search length_mapped in
-    sym (c.loop-k.invariant.2 ∙ is_in-past_lem c.args.s g c.requires.fact_1.fits c.loop-k.k (place_of c.args.n c.args.gap) (search rules))
+    sym (c.loop-k.invariant.2 ∙ is_in-past c.args.s g c.requires.fact_1.fits c.loop-k.k (place_of c.args.n c.args.gap) (search rules))
