@@ -1,7 +1,7 @@
 //! Holds README.md and docs/ against the tree: what they name in backquotes or by a link is there, and the lists that they keep of what the
 //! tree has leave nothing out. The edits, which documents name, are held to the code that they change, and the code of dates to having no
 //! step for each year. docs/TESTING.md says what is checked.
-//! Run in the top folder of the repository; docs/CHANGES.md, the history, is held to its links alone.
+//! Run in the top folder of the repository; docs/CHANGES.md, the history, and docs/PORT.md are held to their links alone.
 
 use std::collections::{BTreeMap, BTreeSet};
 use std::fs;
@@ -29,7 +29,7 @@ impl Findings {
     }
 }
 
-const HISTORY: &str = "docs/CHANGES.md";
+const HISTORY: [&str; 2] = ["docs/CHANGES.md", "docs/PORT.md"];
 const PROVED: &str = "docs/PROVED.md";
 const RULES: &str = "docs/RULES.md";
 const DECISIONS: &str = "docs/DECISIONS.md";
@@ -46,7 +46,7 @@ fn main() {
     let documents: BTreeMap<&str, Document> = names.map(|f| (f.as_str(), Document::read(f))).collect();
     for (name, document) in &documents {
         check_links(&tree, name, document, &mut findings);
-        if *name != HISTORY {
+        if !HISTORY.contains(name) {
             check_names(&tree, name, document, &mut findings);
         }
     }
@@ -231,7 +231,7 @@ fn check_specs(tree: &Tree, architecture: &Document, findings: &mut Findings) {
 fn check_counts(tree: &Tree, documents: &BTreeMap<&str, Document>, findings: &mut Findings) {
     let due = (tree.edits.values().filter(|gate| **gate).count(), tree.edits.len());
     let mut found = 0;
-    for (name, document) in documents.iter().filter(|(name, _)| **name != HISTORY) {
+    for (name, document) in documents.iter().filter(|(name, _)| !HISTORY.contains(*name)) {
         for (line, counts) in document.counts_after("The gate tries") {
             found += 1;
             findings.unless(counts == due, &format!("{name}:{line}"), || format!("{counts:?} edits, and the tree has {due:?}"));

@@ -133,7 +133,9 @@ impl Tree {
                 "fn" | "extern" => {
                     let exported = word == "extern";
                     let name = words.nth(if exported { 2 } else { 0 }).unwrap_or("");
-                    let path = format!("{module}{within}::{name}");
+                    // A crate NAME_c only exports: its functions stand for those of NAME that they call.
+                    let of = if exported { module.trim_end_matches("_c") } else { module };
+                    let path = format!("{of}{within}::{name}");
                     self.items.insert(path.clone());
                     self.functions.insert(path.clone());
                     if exported {

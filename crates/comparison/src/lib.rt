@@ -6,7 +6,7 @@ ghost use Rattle.rules.specs.Basics.{if_some};
 ghost use Rattle.rules.specs.Refusal.{TYPE, answered};
 ghost use Rattle.rules.specs.Markup.{Element};
 ghost use Rattle.rules.specs.Comparison.{answer, ◌also◌, comparer_of};
-ghost use Rattle.rules.specs.Services.{compared as isCompared, refused_second, compare_checked};
+ghost use Rattle.rules.specs.Services.{compared as as_compared, refused_second, compare_checked};
 ghost use Rattle.element.specs.Tags.{TagOf, TagIn};
 ghost use Rattle.datatype.specs.Meaning.{kind_meant};
 ghost use Rattle.datatype.specs.Records.{RecordOf};
@@ -105,7 +105,7 @@ fn compare_kind(s: &[u8], a: Tag, t: &[u8], b: Tag, kind: Kind, shift: u64) -> C
     requires fact_1 { TagIn s.now a }
     requires fact_2 { TagIn t.now b }
     requires fact_3 { shift ≤ 1680 }
-    ensures { (v w : Element) (after rest : List ℕ) → TagOf s.now 8 v after a → TagOf t.now 8 w rest b → compared_meant result ≡ if_some (comparer_of (kind_meant kind)) (λ f. isCompared (f shift v w)) (refused_second TYPE) }
+    ensures { (v w : Element) (after rest : List ℕ) → TagOf s.now 8 v after a → TagOf t.now 8 w rest b → compared_meant result ≡ if_some (comparer_of (kind_meant kind)) (λ f. as_compared (f shift v w)) (refused_second TYPE) }
 {
     match kind {
         Kind::Ts => Compared::Is(times::compare_times(s, a, t, b, shift)),

@@ -68,8 +68,8 @@ module _ (numbers : List ℕ) (lent : Lent 103 numbers) (p : Sound (shared_in nu
         let r = row_in (currency_at numbers i) (total_at numbers i) in
         let many : length new_rows ≡ held_in numbers = ap length (changed i r e g) ∙ length-set s.rows i _ ∙ held in
         let (_, x-is) = total-is x (total_at numbers i) t in
-        let (sum_is_lem, _) = total-is (x +ℤ z) total u in
-        let e = changed_body i r e g ∙ ap (set (drop 7 numbers) (2 + 3 * i)) (ap (λ y. total_number (y +ℤ z)) x-is ∙ sym sum_is_lem) in
+        let (sum_is, _) = total-is (x +ℤ z) total u in
+        let e = changed_body i r e g ∙ ap (set (drop 7 numbers) (2 + 3 * i)) (ap (λ y. total_number (y +ℤ z)) x-is ∙ sym sum_is) in
         let place : 9 + 3 * i ≡ suc (suc (suc (suc (suc (suc (suc (2 + 3 * i))))))) = omega arith in
         rw (place, ← added-raised (eqb n 1)) (over numbers (recorded_of n (answered (money c z)) s) ∙ ap₂ (λ k l. laid numbers k l one_added (eqb n 1)) many e)
 

@@ -170,10 +170,10 @@ module _ (n : ℕ) where
       let below = count_more k (drop 3 l) in
       rw (e, ← get_or-drop 3 l (3 * k) 0) (omega (arith, first (rows_for n (rows_in (suc k) (drop 3 l))), first (rows_for n (rows_in k (drop 3 l)))))
 
-  how_many_lem : (numbers : List ℕ) (k : ℕ) → how_many_of n numbers k ≡ length (rows_for n (rows_in k (drop 7 numbers)))
+  how_many : (numbers : List ℕ) (k : ℕ) → how_many_of n numbers k ≡ length (rows_for n (rows_in k (drop 7 numbers)))
   unfolding how_many_of rows_in rows_for
-  how_many_lem numbers zero = refl
-  how_many_lem numbers (suc k) = rw (← get_or-drop 7 numbers (3 * k) 0, how_many_lem numbers k) (sym (count_more k (drop 7 numbers)))
+  how_many numbers zero = refl
+  how_many numbers (suc k) = rw (← get_or-drop 7 numbers (3 * k) 0, how_many numbers k) (sym (count_more k (drop 7 numbers)))
 
 -- a table of at most 32 rows has those that its numbers say
 module _ (numbers : List ℕ) (few : length (shared_in numbers).rows ≤ 32) where
@@ -196,4 +196,4 @@ module _ (numbers : List ℕ) (few : length (shared_in numbers).rows ≤ 32) whe
   held-nth i r e = row_is numbers (held_in numbers) i r (rw rows_are at e)
 
   pub own_many : (n : ℕ) → length (rows_for n rows) ≡ how_many_of n numbers (held_in numbers)
-  own_many n = rw (rows_are, how_many_lem n numbers (held_in numbers))
+  own_many n = rw (rows_are, how_many n numbers (held_in numbers))

@@ -27,9 +27,9 @@ IsOfText q = (rank VALUE ≤ rank q) × (rank q < rank RULE)
 abbrev pub IsPart : Refusal → Type 0
 IsPart q = (rank VALUE < rank q) × (rank q < rank RULE)
 
-pub is_part_lem : {r : Refusal} → Memᴰ r part_refusals → IsPart r
+pub is_part : {r : Refusal} → Memᴰ r part_refusals → IsPart r
 unfolding rank_in
-is_part_lem m = elim (Memᴰ.cases_cons m) [
+is_part m = elim (Memᴰ.cases_cons m) [
   | inl e ↦ rw e (omega arith)
   | inr m ↦ elim (Memᴰ.cases_cons m) [ inl e ↦ rw e (omega arith) | inr m ↦ rw (Memᴰ.eq_of_singleton m) (omega arith) ]
 ]

@@ -105,7 +105,7 @@ is-day g e f w =
       null = ap (λ t. t.counts.null) (reached-day g) ∙ sym (said-many _ is_null_answer said-null a);
       add_up =
           omega (arith, ap (λ t. counted t.counts) (reached-day g), counts-add_up a, all-counted a, said-many (λ a. eqb a 21) (λ o. eqb (packed entry_number o) 21) (λ o. refl) a, said-many (λ a. eqb a 25) (λ o. eqb (packed entry_number o) 25) (λ o. refl) a, said-many (λ a. true) (λ o. true) (λ o. refl) a);
-      in_range_lem = (reached-proper g).within;
+      in_range = (reached-proper g).within;
       undamaged = never_damaged g;
     })
 

@@ -41,7 +41,7 @@ use Rattle.demands.proofs.Answers.{iff_trans}
 use Rattle.demands.proofs.TotalsReadings.{reads}
 use Rattle.demands.proofs.WrongTexts.{in_read, is-wrong_by}
 use Rattle.demands.proofs.Retimed.{type-same, alike_top}
-use Rattle.demands.proofs.TimesWithin.{IsOfText, IsPart, is_part_lem, in_when, not_of_text, not_part, is_timed, IsText, time_text, flavor_text, low_text, high_text, record_timed, own_texts, HasFault, among, element-fault, IsClean, fault_in_element, fault_in_children}
+use Rattle.demands.proofs.TimesWithin.{IsOfText, IsPart, is_part, in_when, not_of_text, not_part, is_timed, IsText, time_text, flavor_text, low_text, high_text, record_timed, own_texts, HasFault, among, element-fault, IsClean, fault_in_element, fault_in_children}
 
 -- the faults that don't lie in the element
 abbrev outer_faults : (offset : ℤ) → List ℕ → List Refusal
@@ -186,11 +186,11 @@ money_timeless k r e m = go (reads k) e
     go : {o : Outcome Entry} → Reads k o → o ≡ refused r → ⊥
     go (Reads.faulty {q = q} c f) e =
         let z : q ≡ r = cc in
-        let (d, (a, g, h)) = first_allowed r (is_part_lem m) k.offset k.record' (λ e. has_type e.attrs MO) _ c (rw z at f) in
-        let (b, i, n) = record_fault r (of_part r (is_part_lem m)) k.offset k.record' ((first-is (record_faults k.offset k.record') r).0 ((check-refused k.offset k.record' r).0 d)).0 in
+        let (d, (a, g, h)) = first_allowed r (is_part m) k.offset k.record' (λ e. has_type e.attrs MO) _ c (rw z at f) in
+        let (b, i, n) = record_fault r (of_part r (is_part m)) k.offset k.record' ((first-is (record_faults k.offset k.record') r).0 ((check-refused k.offset k.record' r).0 d)).0 in
         let y : b ≡ a = cc in
-        other-type_of b (part_of_times (shift_by k.offset) b r (is_part_lem m) n) (rw y h)
-    go (Reads.other_type c t) e = let z : r ≡ TYPE = cc in absurd (omega (arith, ap rank z, is_part_lem m))
+        other-type_of b (part_of_times (shift_by k.offset) b r (is_part m) n) (rw y h)
+    go (Reads.other_type c t) e = let z : r ≡ TYPE = cc in absurd (omega (arith, ap rank z, is_part m))
     go (Reads.a_null c t n) e = clash (cc)
     go (Reads.an_amount c t n l v w) e = clash (cc)
 
@@ -464,11 +464,11 @@ unfolding rank_in opened
 wrong-times_kept s two three = record {
   ticks = ticks s two three;
   before_value = λ offset. alike_top (shift_by offset);
-  checks = λ offset input r m. checks s two three offset r (is_part_lem m) input;
+  checks = λ offset input r m. checks s two three offset r (is_part m) input;
   stays = λ offset input e t. iff_trans (two.refused offset input VALUE) (stays-value offset input e t);
-  compares_first = λ offset first second r m. compares_first s two three offset r (is_part_lem m) first second;
-  compares_second = λ offset first second r m. compares_second s two three offset r (is_part_lem m) first second;
-  lists = λ offset input list r m. lists s two three offset r (is_part_lem m) input list;
+  compares_first = λ offset first second r m. compares_first s two three offset r (is_part m) first second;
+  compares_second = λ offset first second r m. compares_second s two three offset r (is_part m) first second;
+  lists = λ offset input list r m. lists s two three offset r (is_part m) input list;
   example = (ticks s two three (pos 0) (bytes "19000229") refl (omega arith) DATE).1 ((is-wrong_by 840 (bytes "19000229") DATE).0 refl);
   numbers = (refl, refl, refl);
   order = (refl, refl, refl, refl);

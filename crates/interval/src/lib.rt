@@ -2,7 +2,7 @@
 #![tactic(auto)]
 
 ghost use Rattle.std.specs.Prelude.{◌≡◌, ◌+◌, ◌^◌, ◌<◌, ◌≤◌, true, false};
-ghost use Rattle.rules.specs.Sets.{holds, is_in, apply as pageApply};
+ghost use Rattle.rules.specs.Sets.{holds, is_in, apply as page_apply};
 ghost use Rattle.interval.specs.Meaning.{Ticked, interval_of, op_of, place_of, stretches_of, Canonical, Holds, applied, SaysSame};
 
 mod edge;
@@ -117,7 +117,7 @@ pub fn contains(s: Stretches, n: u64, gap: bool) -> bool
 
 // Whether a place is in the outcome of an operation, by whether it is in the two sets.
 pub fn apply(op: Op, p: bool, q: bool) -> bool
-    ensures { result ≡ pageApply (op_of op) p q }
+    ensures { result ≡ page_apply (op_of op) p q }
 {
     match op {
         Op::Union => p || q,

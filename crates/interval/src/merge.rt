@@ -1,6 +1,6 @@
 // Union, intersection and difference by one merge of the edges of two sets, from low to high.
 ghost use Rattle.std.specs.Prelude.{◌≡◌, ◌+◌, ◌<◌, ◌≤◌, min, not, [], if◌then◌else◌, slice_index};
-ghost use Rattle.rules.specs.Sets.{apply as pageApply};
+ghost use Rattle.rules.specs.Sets.{apply as page_apply};
 ghost use Rattle.interval.specs.Meaning.{op_of};
 ghost use Rattle.interval.specs.Edges.{odd, passed_at, padded, Inputs, Edged, Merged, Drawn};
 
@@ -16,7 +16,7 @@ fn is_odd(n: usize) -> bool
 // Whether an edge is to be written where i edges of one set, j of the other and n of the outcome are passed: a place is in a set
 // if an odd number of its edges is at or before it.
 fn changes(op: Op, i: usize, j: usize, n: usize) -> bool
-    ensures { pageApply (op_of op) (odd i) (odd j) ≡ (if result then not (odd n) else odd n) }
+    ensures { page_apply (op_of op) (odd i) (odd j) ≡ (if result then not (odd n) else odd n) }
 {
     if apply(op, is_odd(i), is_odd(j)) {
         !is_odd(n)
@@ -47,7 +47,7 @@ fn advance(l: &[u64; 65], i: usize, m: u64) -> usize
 pub fn merge(op: Op, a: &[u64; 65], b: &[u64; 65], out: &mut [u64; 65]) -> usize
     requires fact_1 { Inputs a.now b.now }
     requires fact_2 { out.old ≡ padded [] }
-    ensures { Merged (pageApply (op_of op)) a.now b.now result out.new }
+    ensures { Merged (page_apply (op_of op)) a.now b.now result out.new }
 {
     let mut i = 0;
     let mut j = 0;

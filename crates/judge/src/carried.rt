@@ -7,7 +7,7 @@ ghost use Rattle.rules.specs.Parsers.{ok};
 ghost use Rattle.rules.specs.Markup.{Attribute, Element, value as text_of, lookup};
 ghost use Rattle.rules.specs.Forms.{form_faults};
 ghost use Rattle.rules.specs.Types.{TS, line_of};
-ghost use Rattle.rules.specs.Judge.{is_top, attribute_faults, carries, lacks as lacksOne};
+ghost use Rattle.rules.specs.Judge.{is_top, attribute_faults, carries, lacks as lacks_one};
 ghost use Rattle.refusal.specs.Meaning.{fault_of};
 ghost use Rattle.element.specs.Names.{known, name_at};
 ghost use Rattle.element.specs.Tags.{Place, Tells, count, is_namespace, is_other, TagOf, TagIn};
@@ -141,7 +141,7 @@ pub fn has_own(tag: Tag, kind: Kind) -> bool
 
 // Whether an element of a kind lacks an attribute that has to be there, by its tag.
 pub fn lacks(tag: Tag, kind: Kind) -> bool
-    ensures { (s : List ℕ) (l : List Attribute) → Tells s l tag.places → result ≡ exists (lacksOne l) (line_of (kind_meant kind)).columns }
+    ensures { (s : List ℕ) (l : List Attribute) → Tells s l tag.places → result ≡ exists (lacks_one l) (line_of (kind_meant kind)).columns }
 {
     match kind {
         Kind::DisplayName => !has(tag, VALUE),

@@ -23,7 +23,7 @@ use Rattle.interval.specs.Meaning.{interval_of, used, stretches_of}
 use Rattle.interval.proofs.Unique.{stretches-meant}
 use Rattle.listing.specs.declared.Listed.TheVariants.{Count, Refused}
 use Rattle.listing.specs.declared.set.Evaluated.{Evaluated}
-use Rattle.listing.specs.Sets.{Formed, IsSet, Says, is_set, is-unknown}
+use Rattle.listing.specs.Sets.{Formed, IsSet, Says, is_set, is_unknown}
 use Rattle.listing.specs.Answers.{Answers}
 
 -- the stretches in use are as many as are counted
@@ -54,7 +54,7 @@ module _ (shift : ℕ) (e : Element) (before : List ℕ) (faultless : top_faults
       where
         go : (o : Outcome Expression) → set_of shift e ≡ o → Says o r → (x : Expression) × (set_of shift e ≡ answered x) × IsSet x r
         go (answered x) z (is_set s) = (x, z, s)
-        go (refused q) z (is-unknown s) = clash (cc)
+        go (refused q) z (is_unknown s) = clash (cc)
 
     pub answers-many : 32 < r.count → Answers (expected shift e before) before (Refused TooMany) before
     answers-many l =

@@ -18,13 +18,13 @@ use Rattle.element.specs.Tags.{TagOf}
 use Rattle.element.specs.declared.tag.Tag.{Tag}
 use Rattle.listing.specs.declared.set.Shape.TheVariants.{Single, Members, Other}
 use Rattle.listing.specs.declared.set.Evaluated.{Evaluated}
-use Rattle.listing.specs.Sets.{WritesAs, Formed, IsSet, Says, is_set, is-unknown, SoFar, none_yet, so_far, put, expressed, SaysElement}
+use Rattle.listing.specs.Sets.{WritesAs, Formed, IsSet, Says, is_set, is_unknown, SoFar, none_yet, so_far, put, expressed, SaysElement}
 
 -- an element that writes no set
 pub none_said : {s : List ℕ} {t : Tag} {depth : ℕ} (shift : ℕ) {r : Evaluated} → t.end ≤ length s → Formed r × (r.known ≡ false) × (r.count ≡ 0) × (r.end ≡ t.end)
     → ((v : Element) (after : List ℕ) → TagOf s depth v after t → (q : Refusal) × (set_of shift v ≡ refused q))
     → Formed r × (((t.end ≤ r.end) × (r.end ≤ length s)) × SaysElement s t depth shift r)
-none_said shift w (f, k, n, e) q = (f, ((omega (arith, e), omega (arith, e, w)), λ v after h. (rw (q v after h).1 (is-unknown k), λ y. clash (cc))))
+none_said shift w (f, k, n, e) q = (f, ((omega (arith, e), omega (arith, e, w)), λ v after h. (rw (q v after h).1 (is_unknown k), λ y. clash (cc))))
 
 -- an element, by what it writes
 module _ (shift : ℕ) (v : Element) {b : Bool} (null : b ≡ is_null v.attrs) where
@@ -80,7 +80,7 @@ module _ (shift : ℕ) (op : Op) {a : Evaluated} where
         go : (x : Option Expression) → SoFar x a → members_of shift (op_of op) all ≡ with_left shift (op_of op) x (node v.name v.attrs v.kids left)
             → (o : Outcome Expression) → set_of shift v ≡ o → Says o m → Evaluating shift op r all left
         go x s q (answered y) z (is_set t) = (some (put (op_of op) x y), so_far (join x y s t), q ∙ known_more shift (op_of op) v left z x)
-        go x s q (refused p) z (is-unknown t) = clash (cc)
+        go x s q (refused p) z (is_unknown t) = clash (cc)
 
     pub member-unknown : m.known ≡ false → {r : Evaluated} → r.known ≡ false → Says (members_of shift (op_of op) all) r
     member-unknown k {r} u = let (x, s, q) = e in go x q (set_of shift v) refl says
@@ -88,7 +88,7 @@ module _ (shift : ℕ) (op : Op) {a : Evaluated} where
         go : (x : Option Expression) → members_of shift (op_of op) all ≡ with_left shift (op_of op) x (node v.name v.attrs v.kids left)
             → (o : Outcome Expression) → set_of shift v ≡ o → Says o m → Says (members_of shift (op_of op) all) r
         go x q (answered y) z (is_set t) = clash (cc t.known)
-        go x q (refused p) z (is-unknown t) = subst (λ (o : Outcome Expression). Says o r) (sym (q ∙ unknown_more shift (op_of op) v left z x)) (is-unknown u)
+        go x q (refused p) z (is_unknown t) = subst (λ (o : Outcome Expression). Says o r) (sym (q ∙ unknown_more shift (op_of op) v left z x)) (is_unknown u)
 
   -- no member is left
   pub members_said : (all : Nodes) → Evaluating shift op a all end → (p : ℕ) → Says (members_of shift (op_of op) all) (record { known = a.known; count = a.count; set = a.set; end = p })
@@ -96,5 +96,5 @@ module _ (shift : ℕ) (op : Op) {a : Evaluated} where
   members_said all e p = let (x, s, q) = e in subst (λ (o : Outcome Expression). Says o (record { known = a.known; count = a.count; set = a.set; end = p })) (sym q) (go x s)
     where
       go : (x : Option Expression) → SoFar x a → Says (with_left shift (op_of op) x end) (record { known = a.known; count = a.count; set = a.set; end = p })
-      go none (none_yet k c) = is-unknown k
+      go none (none_yet k c) = is_unknown k
       go (some x) (so_far s) = is_set (record { known = s.known; count = s.count; places = s.places })

@@ -13,7 +13,7 @@ use Rattle.interval.specs.Meaning.{op_of, interval_of, Holds, applied}
 use Rattle.listing.specs.declared.bound.Written.{Written}
 use Rattle.listing.specs.declared.set.Evaluated.{Evaluated}
 use Rattle.listing.specs.Bounds.{written_meant}
-use Rattle.listing.specs.Sets.{Formed, IsSet, Says, is_set, is-unknown, SoFar, none_yet, so_far, put, expressed}
+use Rattle.listing.specs.Sets.{Formed, IsSet, Says, is_set, is_unknown, SoFar, none_yet, so_far, put, expressed}
 
 abbrev made : (known : Bool) (count : ℕ) (set : Stretches) (end : ℕ) → Evaluated
 made k n s e = record { known = k; count = n; set = s; end = e }
@@ -33,7 +33,7 @@ module _ (w : Written) {set : Stretches} (h : Holds (holds (interval_of w.interv
     where
       go : (b : Bool) → Says (expressed (written_meant (record { known = b; interval = w.interval; end = w.end }))) (made b 1 set w.end)
       go true = is_set (record { known = refl; count = refl; places = λ f y. h.places y })
-      go false = is-unknown refl
+      go false = is_unknown refl
 
 -- an interval is written in every set
 some_written : (x : Expression) → 1 ≤ length (intervals x)

@@ -51,7 +51,7 @@ pub record IsSet (x : Expression) (r : Evaluated) : Type 0 where
 -- what an answer says of a set: it is known, or it is not
 pub data Says : Outcome Expression → Evaluated → Type 0 where
   is_set : {x : Expression} {r : Evaluated} → IsSet x r → Says (answered x) r
-  is-unknown : {q : Refusal} {r : Evaluated} → r.known ≡ false → Says (refused q) r
+  is_unknown : {q : Refusal} {r : Evaluated} → r.known ≡ false → Says (refused q) r
 
 -- the set of the members so far: there is none yet, or it is x
 pub data SoFar : Option Expression → Evaluated → Type 0 where

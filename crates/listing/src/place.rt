@@ -1,7 +1,7 @@
 // Whether a place is in the set of times that an element writes: place by place, set within set, with no list.
 ghost use Rattle.std.specs.Prelude.{◌≡◌, cond, List, [], ℕ, ◌^◌, ◌≤◌, ◌<◌, length, drop};
 ghost use Rattle.rules.specs.Markup.{Element};
-ghost use Rattle.rules.specs.Sets.{apply as pageApply};
+ghost use Rattle.rules.specs.Sets.{apply as page_apply};
 ghost use Rattle.rules.specs.Listing.{interval_of};
 ghost use Rattle.rules.specs.ListingPromise.{is_within, together};
 ghost use Rattle.interval.specs.Meaning.{op_of, place_of};
@@ -36,7 +36,7 @@ fn in_none(op: Op) -> bool
 
 // Whether a place is in a set put together with the next one; in the next one, where there was none.
 fn in_both(op: Op, any: bool, first: bool, next: bool) -> bool
-    ensures { result ≡ cond any (pageApply (op_of op) first next) next }
+    ensures { result ≡ cond any (page_apply (op_of op) first next) next }
 {
     if any {
         return apply(op, first, next);

@@ -3,7 +3,7 @@
 
 ghost use Rattle.std.specs.Prelude.{◌≡◌};
 ghost use Rattle.rules.specs.Basics.{if_some};
-ghost use Rattle.rules.specs.Refusal.{number as pageNumber, rank as pageRank, earlier};
+ghost use Rattle.rules.specs.Refusal.{number as page_number, rank as page_rank, earlier};
 ghost use Rattle.refusal.specs.Meaning.{refusal_of, fault_of};
 
 // The page's refusals, in the order of the ladder.
@@ -40,7 +40,7 @@ pub enum Verdict {
 
 // The place on the ladder, from 0. No order goes by the number.
 fn rank(r: Refusal) -> u64
-    ensures { result ≡ pageRank (refusal_of r) }
+    ensures { result ≡ page_rank (refusal_of r) }
 {
     match r {
         Refusal::NoDesk => 0,
@@ -92,7 +92,7 @@ const NUMBERS: [u8; 20] = [
 
 // The number that a caller is told.
 pub fn number(r: Refusal) -> u64
-    ensures { result ≡ pageNumber (refusal_of r) }
+    ensures { result ≡ page_number (refusal_of r) }
 {
     let place = rank(r) as usize;
     NUMBERS[place] as u64

@@ -13,9 +13,9 @@ use mir.ValLaws.{to_z-of_z}
 use Rattle.rules.specs.Timestamp.{before_start}
 use Rattle.rules.specs.Check.{is_offset, shift_by}
 
-pub in_range_lem : (z : ℤ) → (le_z (negsuc 839) z && le_z z (pos 840)) ≡ is_offset z
-in_range_lem (pos n) = refl
-in_range_lem (negsuc n) = and-true _ ∙ sym (leb-suc-suc n 839)
+pub in_range : (z : ℤ) → (le_z (negsuc 839) z && le_z z (pos 840)) ≡ is_offset z
+in_range (pos n) = refl
+in_range (negsuc n) = and-true _ ∙ sym (leb-suc-suc n 839)
 
 -- an offset and 840 more, which is 1680 less the shift
 pub shift_most : (z : ℤ) → is_offset z ≡ true → shift_by z ≤ 1680

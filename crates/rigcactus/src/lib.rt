@@ -3,7 +3,7 @@
 
 ghost use Rattle.std.specs.Prelude.{◌≡◌, Bool, true, List, ℕ, ◌+◌, ◌*◌, ◌^◌, ◌<◌, ◌≤◌};
 ghost use Rattle.rules.specs.Basics.{if_some};
-ghost use Rattle.rules.specs.Refusal.{number as pageNumber, first_of};
+ghost use Rattle.rules.specs.Refusal.{number as page_number, first_of};
 ghost use Rattle.rules.specs.Timestamp.{tick_at};
 ghost use Rattle.rules.specs.Check.{is_offset, shift_by};
 ghost use Rattle.rules.specs.Services.{packed, refused_first, refused_second, answer_number, compared_number};
@@ -65,7 +65,7 @@ fn shift_of(offset: i64) -> u64
 
 // The number of a verdict's refusal, 0 if it is none.
 fn verdict_number(v: Verdict) -> u64
-    ensures { result ≡ if_some (fault_of v) pageNumber 0 }
+    ensures { result ≡ if_some (fault_of v) page_number 0 }
 {
     match v {
         Verdict::Accepted => 0,

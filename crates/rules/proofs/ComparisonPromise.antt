@@ -45,9 +45,9 @@ record OfType (k : Kind) (e : Element) : Type 0 where
   among_all : type_among all_types e.attrs ≡ some k
   comparer : is_some (comparer_of k) ≡ true
 
-of_type_lem : (k : Kind) (e : Element) → compared_type e ≡ some k → OfType k e
+of_type : (k : Kind) (e : Element) → compared_type e ≡ some k → OfType k e
 unfolding every comparer_of
-of_type_lem k e t =
+of_type k e t =
     let (h, c) = found (has_type e.attrs) (λ j. is_some (comparer_of j)) compared_types k refl t in
     record { named = h; among_all = (one_type e.attrs k h c).0; comparer = c }
 
@@ -61,17 +61,17 @@ unfolding comparer_for every
 pair a b = by_first (type_among all_types a.attrs) refl
   where
     by_comparer : (k : Kind) (o : Option Comparer) → type_among all_types a.attrs ≡ some k → has_type b.attrs k ≡ true → comparer_of k ≡ o → Pair a b o
-    by_comparer k none s h c = unlike λ j t u. let o = of_type_lem j a t in clash (cc (o.among_all, o.comparer))
+    by_comparer k none s h c = unlike λ j t u. let o = of_type j a t in clash (cc (o.among_all, o.comparer))
     by_comparer k (some f) s h c =
         let g = (found (has_type a.attrs) (λ j. true) all_types k refl s).0 in
         alike k f (one_type a.attrs k g (rw c)).1 (one_type b.attrs k h (rw c)).1 c
 
     by_second : (k : Kind) (h : Bool) → type_among all_types a.attrs ≡ some k → has_type b.attrs k ≡ h → Pair a b (cond h (comparer_of k) none)
     by_second k true s h = by_comparer k (comparer_of k) s h refl
-    by_second k false s h = unlike λ j t u. let o = of_type_lem j a t in let p = of_type_lem j b u in clash (cc (o.among_all, p.named))
+    by_second k false s h = unlike λ j t u. let o = of_type j a t in let p = of_type j b u in clash (cc (o.among_all, p.named))
 
     by_first : (x : Option Kind) → type_among all_types a.attrs ≡ x → Pair a b (if_some x (λ k. cond (has_type b.attrs k) (comparer_of k) none) none)
-    by_first none s = unlike λ k t u. clash (cc (of_type_lem k a t).among_all)
+    by_first none s = unlike λ k t u. clash (cc (of_type k a t).among_all)
     by_first (some k) s = by_second k (has_type b.attrs k) s refl
 
 comparer_for_sym : (a b : Element) → comparer_for a b ≡ comparer_for b a
@@ -117,7 +117,7 @@ module _ (shift : ℕ) where
           → or_unknown f shift e e ≡ cond (is_complete shift e) Yes Unknown
       known j v c true n = rw n
       known j {f} v c false n =
-          let o = of_type_lem j e v in
+          let o = of_type j e v in
           ap (λ b. cond (b || b) Unknown (f shift e e)) n ∙ comparer_itself j c shift e _ (rw o.among_all at faultless) (type-is e.attrs j o.named) n
 
       go : {o : Option Comparer} → Pair e e o → outcome shift e e o ≡ compared (cond (is_complete shift e) Yes Unknown)
@@ -135,7 +135,7 @@ module _ (shift : ℕ) where
       go : {o : Option Comparer} → Pair a b o → outcome shift a b o ≡ compared Yes → is_complete shift a ≡ true
       go (alike k f t u c) e =
           let (n, y) = not_null (is_null a.attrs) (is_null b.attrs) (f shift a b) (cc) in
-          comparer_yes k c shift a b (type-is a.attrs k (of_type_lem k a t).named) n y
+          comparer_yes k c shift a b (type-is a.attrs k (of_type k a t).named) n y
       go (unlike h) e = clash (cc)
 
 -- the bits of an answer

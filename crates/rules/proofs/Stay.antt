@@ -90,10 +90,10 @@ term_text_lem : (s : Interval) → element_text (bytes "term") (term_attributes 
 unfolding term_text
 term_text_lem s = rw (bounds-text s, flags-text s.low s.high) (assembled (flag_text low s.low) (flag_text high s.high) (bound_text low s.low) (bound_text high s.high))
 
-terms_text_lem : (ss : List Interval) → nodes_text (term_nodes ss) ≡ flat_map term_text ss
+terms_text : (ss : List Interval) → nodes_text (term_nodes ss) ≡ flat_map term_text ss
 unfolding nodes_text term_nodes flat_map
-terms_text_lem [] = refl
-terms_text_lem (s ∷ ss) = ap₂ ◌++◌ (term_text_lem s) (terms_text_lem ss)
+terms_text [] = refl
+terms_text (s ∷ ss) = ap₂ ◌++◌ (term_text_lem s) (terms_text ss)
 
 around : (inner : List ℕ) → 60 ∷ bytes "stay" ++ bytes " xsi:type=\"QSU_TS\"" ++ (62 ∷ inner ++ bytes "</" ++ bytes "stay" ++ 62 ∷ [])
     ≡ bytes "<stay xsi:type=\"QSU_TS\">" ++ inner ++ bytes "</stay>"
@@ -101,5 +101,5 @@ around inner = simp append_assoc
 
 pub record_written : (ss : List Interval) → write (stay_of ss) ≡ record_text ss
 unfolding record_text term_nodes flat_map
-record_written [] = around (nodes_text (term_nodes (written []))) ∙ ap (λ inner. bytes "<stay xsi:type=\"QSU_TS\">" ++ inner ++ bytes "</stay>") (terms_text_lem (written []))
-record_written (s ∷ ss) = around (nodes_text (term_nodes (s ∷ ss))) ∙ ap (λ inner. bytes "<stay xsi:type=\"QSU_TS\">" ++ inner ++ bytes "</stay>") (terms_text_lem (s ∷ ss))
+record_written [] = around (nodes_text (term_nodes (written []))) ∙ ap (λ inner. bytes "<stay xsi:type=\"QSU_TS\">" ++ inner ++ bytes "</stay>") (terms_text (written []))
+record_written (s ∷ ss) = around (nodes_text (term_nodes (s ∷ ss))) ∙ ap (λ inner. bytes "<stay xsi:type=\"QSU_TS\">" ++ inner ++ bytes "</stay>") (terms_text (s ∷ ss))

@@ -111,6 +111,6 @@ pub record IsDay (t : Table) (said : History ℕ) (told : History (Outcome Entry
   pub null : t.counts.null ≡ how_many (λ a. eqb a (2 * 2 ^ 8)) said
   pub add_up : counted t.counts + how_many (λ a. eqb a 21) said + how_many (λ a. eqb a 25) said ≡ how_many (λ a. true) said
   -- "Totals stay within plus or minus 9,000,000,000,000,000,000."
-  pub in_range_lem : exists (λ r. not (is_in_range r.total)) t.rows ≡ false
+  pub in_range : exists (λ r. not (is_in_range r.total)) t.rows ≡ false
   -- it is never damaged
   pub undamaged : is_damaged t ≡ false

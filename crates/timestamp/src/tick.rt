@@ -1,7 +1,7 @@
 // Ticks (the page's term): ten-thousandths of a second, made from dates and clocks.
 ghost use Rattle.std.specs.Prelude.{◌≡◌, ◌+◌, ◌*◌, ◌≤◌, ◌<◌};
 ghost use Rattle.timestamp.specs.Moments.{InRange};
-ghost use Rattle.rules.specs.Calendar.{days_before, second as secondTicks, minute as minuteTicks, hour as hourTicks, day as dayTicks};
+ghost use Rattle.rules.specs.Calendar.{days_before, second as second_ticks, minute as minute_ticks, hour as hour_ticks, day as day_ticks};
 
 use crate::calendar;
 
@@ -24,7 +24,7 @@ impl Tick {
     // The ticks from 0001-01-01 up to a date.
     pub fn of_date(year: u64, month: u64, day: u64) -> Tick
         requires { InRange year month day }
-        ensures { (result.0 ≡ days_before year month day * dayTicks) × (result.0 ≤ 3_652_089 * dayTicks) }
+        ensures { (result.0 ≡ days_before year month day * day_ticks) × (result.0 ≤ 3_652_089 * day_ticks) }
     {
         Tick(calendar::days_before(year, month, day) * Tick::DAY.0)
     }
@@ -32,7 +32,7 @@ impl Tick {
     // The ticks from midnight up to a time of the day.
     pub fn of_clock(hour: u64, minute: u64, second: u64, fraction: u64) -> Tick
         requires { (hour ≤ 23) × ((minute ≤ 59) × ((second ≤ 59) × (fraction < 10_000))) }
-        ensures { (result.0 ≡ hour * hourTicks + minute * minuteTicks + second * secondTicks + fraction) × (result.0 < dayTicks) }
+        ensures { (result.0 ≡ hour * hour_ticks + minute * minute_ticks + second * second_ticks + fraction) × (result.0 < day_ticks) }
     {
         Tick(hour * Tick::HOUR.0 + minute * Tick::MINUTE.0 + second * Tick::SECOND.0 + fraction)
     }
