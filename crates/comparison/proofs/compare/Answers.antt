@@ -13,9 +13,7 @@ returns-then-number c = λ v w x y.
 
 pub returns : goal.returns
 returns c = λ v w x y.
-    let alike = c in
-    let start = alike in
-    let types = type_by_number w.attrs y.kind alike.number.ensures alike.number-2.ensures in
-    types_same start.args.shift v w x.kind (types ∙ eq-eqb _ _ alike.if-number.false)
+    let types = type_by_number w.attrs y.kind c.number.ensures c.number-2.ensures in
+    types_same c.args.shift v w x.kind (types ∙ eq-eqb _ _ c.if-number.false)
     (either_test (c.has.ensures _ v.attrs x.tag.tells) (c.has-2.ensures _ w.attrs y.tag.tells))
     (c.compare_kind.ensures v w x.after y.after x.tag y.tag) c.unknown_if.ensures

@@ -7,7 +7,7 @@ use Rattle.judge.proofs.Walking.{Judges, judged-first, judged-next, judged_last}
 use Rattle.judge.proofs.+judge_content.Goals as goal
 
 pub loop-i-init : goal.loop-i-init
-loop-i-init t c = let start = c in judged-first start.args.shift (kind_meant start.args.kind) c.begin-row.result start.requires.0.end c.begin-row.ensures.0 c.begin-row.ensures.1
+loop-i-init t c = judged-first c.args.shift (kind_meant c.args.kind) c.begin-row.result c.requires.0.end c.begin-row.ensures.0 c.begin-row.ensures.1
 
 pub next_inside-next-requires : goal.next_inside-next-requires
 next_inside-next-requires t c = let tag = c.requires.0 in record { fact_1 = tag.name; fact_2 = tag.past; fact_3 = c.loop-i.invariant.within }
@@ -23,33 +23,31 @@ overflow_sub-depth t c = let n = rw c.in-Child.is at c.next_inside-next.ensures 
 
 pub judge_content-content-requires : goal.judge_content-content-requires
 judge_content-content-requires t c =
-    let at_next = c in let at-inside = at_next in let start = at-inside in
-    let n = rw at_next.in-Child.is at at-inside.next_inside-next.ensures in
-    (omega (arith, n.deep), (c.read-child.ensures.within.0, start.requires.1))
+    let n = rw c.in-Child.is at c.next_inside-next.ensures in
+    (omega (arith, n.deep), (c.read-child.ensures.within.0, c.requires.1))
 
 pub with_child-row-requires : goal.with_child-row-requires
 with_child-row-requires t c = record { fact_1 = c.read-child.ensures.within.0; fact_2 = c.requires.1 }
 
 pub loop-i-smaller : goal.loop-i-smaller
 loop-i-smaller t c =
-    let at_read = c in let at_next = at_read in
-    let less = walk_less (rw at_next.in-Child.is at at_next.next_inside-next.ensures) (at_read.read-child.ensures.within, at_read.read-child.ensures.tells) c.judge_content-content.ensures.within in
+    let less = walk_less (rw c.in-Child.is at c.next_inside-next.ensures) (c.read-child.ensures.within, c.read-child.ensures.tells) c.judge_content-content.ensures.within in
     omega (arith, less, c.with_child-row.ensures.0)
 
 pub loop-i-preserved : goal.loop-i-preserved
 loop-i-preserved t c =
-    let content = c.judge_content-content in let at-asked = c in let at_read = at-asked in let at_next = at_read in
-    let at-inside = at_next in let l = at-inside.loop-i in let a = at-inside.args in
+    let content = c.judge_content-content in
+    let l = c.loop-i in let a = c.args in
     subst (λ (e : ℕ). Walked a.s.now a.tag a.depth e (Judges a.shift (kind_meant a.kind) c.with_child-row.result)) (sym c.with_child-row.ensures.0)
-    (walk_goes (rw at_next.in-Child.is at at-inside.next_inside-next.ensures) (at_read.read-child.ensures.within, at_read.read-child.ensures.tells) l.invariant (content.ensures.within) (λ all left v rest h p.
+    (walk_goes (rw c.in-Child.is at c.next_inside-next.ensures) (c.read-child.ensures.within, c.read-child.ensures.tells) l.invariant (content.ensures.within) (λ all left v rest h p.
     let n = content.ensures.tells v rest h in
-    (n.ends, judged-next a.shift (kind_meant a.kind) l.row c.with_child-row.result all left v (c.with_child-row.ensures.1 (kind_meant a.kind) _ v rest h (at-asked.child_asked-asked.ensures a.shift _ v rest h) n) p)))
+    (n.ends, judged-next a.shift (kind_meant a.kind) l.row c.with_child-row.result all left v (c.with_child-row.ensures.1 (kind_meant a.kind) _ v rest h (c.child_asked-asked.ensures a.shift _ v rest h) n) p)))
 
 pub finish-requires : goal.finish-requires
 finish-requires t c = c.requires.0
 
 pub returns-in-Past : goal.returns-in-Past
 returns-in-Past t c =
-    let at-inside = c in let l = at-inside.loop-i in let a = at-inside.args in
-    let n = rw c.in-Past.is at at-inside.next_inside-next.ensures in
+    let l = c.loop-i in let a = c.args in
+    let n = rw c.in-Past.is at c.next_inside-next.ensures in
     let e = c.finish.ensures.0 in record { within = (omega (arith, l.invariant.from, n.low, e), omega (arith, n.high, e)); tells = judged_last a.shift (kind_meant a.kind) l.row n l.invariant c.finish.result (c.finish.ensures.1 a.shift) }

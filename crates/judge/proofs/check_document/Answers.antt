@@ -7,11 +7,9 @@ type_at-named-requires c = omega (arith, c.read-tag.ensures.within.0.placed 2)
 
 pub returns-in_default : goal.returns-in_default
 returns-in_default c =
-    let at_before = c in
-    no_type c.args.shift c.read-tag.result c.root-at.ensures.tells c.read-tag.ensures.tells at_before.type_at-named.result at_before.type_at-named.ensures c.in_default.is c.refused.result c.refused.ensures
+    no_type c.args.shift c.read-tag.result c.root-at.ensures.tells c.read-tag.ensures.tells c.type_at-named.result c.type_at-named.ensures c.in_default.is c.refused.result c.refused.ensures
 
 pub returns : goal.returns
 returns c =
-    let at_before = c in
-    some-type c.args.shift c.read-tag.result c.root-at.ensures.tells c.read-tag.ensures.tells at_before.type_at-named.result at_before.type_at-named.ensures _ c.in-Is.is c.read-tag.ensures.within.0 c.judge_with-fault.result
+    some-type c.args.shift c.read-tag.result c.root-at.ensures.tells c.read-tag.ensures.tells c.type_at-named.result c.type_at-named.ensures _ c.in-Is.is c.read-tag.ensures.within.0 c.judge_with-fault.result
     (λ v after x. c.judge_with-fault.ensures 8 v after x (c.time_in-time.ensures v.attrs x.tells).0 (c.judge_content-content.ensures.tells v after x))

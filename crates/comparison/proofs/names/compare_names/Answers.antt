@@ -14,9 +14,8 @@ next_inside-second-requires c = let tag = c.requires.fact_2 in record { fact_1 =
 
 pub returns-in_default : goal.returns-in_default
 returns-in_default c = λ n v w after rest g k.
-    let at_second = c in
-    parts_over at_second.loop-p.invariant g k (rw c.in-Child.is at at_second.next_inside-first.ensures)
-    (rw c.in_default.is at at_second.next_inside-second.ensures)
+    parts_over c.loop-p.invariant g k (rw c.in-Child.is at c.next_inside-first.ensures)
+    (rw c.in_default.is at c.next_inside-second.ensures)
 
 pub read-part-requires : goal.read-part-requires
 read-part-requires c = omega (arith, (rw c.in-Child.is at c.next_inside-first.ensures).high)
@@ -41,25 +40,20 @@ past_element-j-requires c = c.read-other.ensures.within.0
 
 pub loop-p-smaller : goal.loop-p-smaller
 loop-p-smaller c =
-    let at_read = c in let at_first = at_read in
-    walk_less (rw at_first.in-Child.is at at_first.next_inside-first.ensures) (at_read.read-part.ensures.within, at_read.read-part.ensures.tells) c.past_element-i.ensures.within
+    walk_less (rw c.in-Child.is at c.next_inside-first.ensures) (c.read-part.ensures.within, c.read-part.ensures.tells) c.past_element-i.ensures.within
 
 pub loop-p-preserved : goal.loop-p-preserved
 loop-p-preserved c =
-    let at_read = c in let at_second = at_read in let at_first = at_second in
-    let at-inside2 = at_first in let at-inside = at-inside2 in
-    let p = part (rw at_first.in-Child.is at at-inside.next_inside-first.ensures) (at_read.read-part.ensures.within, at_read.read-part.ensures.tells) (c.past_element-i.ensures.within, c.past_element-i.ensures.tells) in
-    let q = part (rw at_second.in-Child-second.is at at-inside2.next_inside-second.ensures) (c.read-other.ensures.within, c.read-other.ensures.tells) (c.past_element-j.ensures.within, c.past_element-j.ensures.tells) in
-    parts_more at-inside.loop-p.invariant p q c.compare_parts.ensures c.also-answer.ensures
+    let p = part (rw c.in-Child.is at c.next_inside-first.ensures) (c.read-part.ensures.within, c.read-part.ensures.tells) (c.past_element-i.ensures.within, c.past_element-i.ensures.tells) in
+    let q = part (rw c.in-Child-second.is at c.next_inside-second.ensures) (c.read-other.ensures.within, c.read-other.ensures.tells) (c.past_element-j.ensures.within, c.past_element-j.ensures.tells) in
+    parts_more c.loop-p.invariant p q c.compare_parts.ensures c.also-answer.ensures
 
 pub returns-in_default-second : goal.returns-in_default-second
 returns-in_default-second c = λ n v w after rest g k.
-    let at_second = c in
-    parts_under at_second.loop-p.invariant g k (rw c.in-Past.is at at_second.next_inside-first.ensures)
-    (rw c.in_default-second.is at at_second.next_inside-second.ensures)
+    parts_under c.loop-p.invariant g k (rw c.in-Past.is at c.next_inside-first.ensures)
+    (rw c.in_default-second.is at c.next_inside-second.ensures)
 
 pub returns-in-Past : goal.returns-in-Past
 returns-in-Past c = λ n v w after rest g k.
-    let at_second = c in
-    parts-end at_second.loop-p.invariant g k (rw c.in-Past.is at at_second.next_inside-first.ensures)
-    (rw c.in-Past-second.is at at_second.next_inside-second.ensures)
+    parts-end c.loop-p.invariant g k (rw c.in-Past.is at c.next_inside-first.ensures)
+    (rw c.in-Past-second.is at c.next_inside-second.ensures)

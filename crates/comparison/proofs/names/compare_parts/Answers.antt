@@ -9,8 +9,7 @@ returns-then-has c = λ l m g h. chosen (either_test (c.has.ensures _ l g) (c.ha
 
 pub returns : goal.returns
 returns c = λ l m g h.
-    let neither = c in
     let types = c.same_attribute-types.ensures l m g h in
     let values = c.same_attribute.ensures l m g h in
-    left_over (either_test (neither.has.ensures _ l g) (neither.has-2.ensures _ m h)) _ neither.if-has.false
+    left_over (either_test (c.has.ensures _ l g) (c.has-2.ensures _ m h)) _ c.if-has.false
     (c.answer_if.ensures ∙ ap answer (both_tests types values))

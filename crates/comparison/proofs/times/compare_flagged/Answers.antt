@@ -6,7 +6,6 @@ use Rattle.comparison.proofs.times.compare_flagged.Goals as goal
 
 pub returns : goal.returns
 returns c =
-    let start = c in
     rw (c.also.ensures, c.compare_endpoints.ensures, c.answer_if.ensures)
-    (flags_where start.args.flags (endpoint_meant start.args.a) (endpoint_meant start.args.b)
+    (flags_where c.args.flags (endpoint_meant c.args.a) (endpoint_meant c.args.b)
     (both_tests c.is_valued.ensures c.is_valued-2.ensures))

@@ -7,11 +7,9 @@ use Rattle.comparison.proofs.times.compare_intervals.Goals as goal
 
 pub returns : goal.returns
 returns c = λ v w after rest g h.
-    let flagged = c in
-    let start = flagged in
-    let (xl, xh, xe) = flagged.read_sides-first.ensures.tells v after g in
-    let (yl, yh, ye) = flagged.read_sides-second.ensures.tells w rest h in
-    let low = flagged.same_attribute-lows.ensures v.attrs w.attrs g.tells h.tells in
-    let high = flagged.same_attribute-highs.ensures v.attrs w.attrs g.tells h.tells in
-    c.also.ensures ∙ both-answers (said_sides start.args.shift Low v w low xl yl c.compare_said-low.ensures)
-    (said_sides start.args.shift High v w high xh yh c.compare_said-high.ensures)
+    let (xl, xh, xe) = c.read_sides-first.ensures.tells v after g in
+    let (yl, yh, ye) = c.read_sides-second.ensures.tells w rest h in
+    let low = c.same_attribute-lows.ensures v.attrs w.attrs g.tells h.tells in
+    let high = c.same_attribute-highs.ensures v.attrs w.attrs g.tells h.tells in
+    c.also.ensures ∙ both-answers (said_sides c.args.shift Low v w low xl yl c.compare_said-low.ensures)
+    (said_sides c.args.shift High v w high xh yh c.compare_said-high.ensures)

@@ -11,7 +11,6 @@ time_at-second-requires c = record { fact_1 = c.requires.fact_2.placed 0; fact_2
 
 pub returns : goal.returns
 returns c = λ v w g h.
-    let start = c in
     let a = (c.time_at-first.ensures _ (g.placed 0 (omega arith))).1 in
     let b = (c.time_at-second.ensures _ (h.placed 0 (omega arith))).1 in
-    said_values start.args.shift v w a b c.compare_said.ensures
+    said_values c.args.shift v w a b c.compare_said.ensures

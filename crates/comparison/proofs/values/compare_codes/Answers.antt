@@ -6,10 +6,9 @@ use Rattle.comparison.proofs.values.compare_codes.Goals as goal
 
 pub returns-then-has : goal.returns-then-has
 returns-then-has c = λ n v w g h.
-    let both = c in
     let codes = c.same_attribute-codes.ensures v.attrs w.attrs g h in
     let systems = c.same_attribute.ensures v.attrs w.attrs g h in
-    chosen (both_tests (both.has.ensures _ v.attrs g) (both.has-2.ensures _ w.attrs h)) _ both.if-has.true
+    chosen (both_tests (c.has.ensures _ v.attrs g) (c.has-2.ensures _ w.attrs h)) _ c.if-has.true
     (c.answer_if.ensures ∙ ap answer (both_tests codes systems))
 
 pub returns : goal.returns

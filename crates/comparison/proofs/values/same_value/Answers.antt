@@ -14,8 +14,6 @@ returns-in-Text c = λ l m g h. rw c.in-Text.is (c.same_attribute.ensures l m g 
 
 pub returns-in-Amount : goal.returns-in-Amount
 returns-in-Amount c = λ l m g h.
-    let told = c in
-    let start = told in
-    let a = c.amount_at.ensures.tells _ (g.placed start.args.n start.requires.fact_3) in
-    let b = c.amount_at-in-Amount.ensures.tells _ (h.placed start.args.n start.requires.fact_3) in
-    rw told.in-Amount.is (carried same_amount c.same_amount.ensures a b)
+    let a = c.amount_at.ensures.tells _ (g.placed c.args.n c.requires.fact_3) in
+    let b = c.amount_at-in-Amount.ensures.tells _ (h.placed c.args.n c.requires.fact_3) in
+    rw c.in-Amount.is (carried same_amount c.same_amount.ensures a b)

@@ -21,21 +21,19 @@ slice_bounds-is_same-end c = c.requires.fact_1.past
 
 pub returns-then-not-is_same : goal.returns-then-not-is_same
 returns-then-not-is_same c =
-    let at-if1 = c in
-    let start = at-if1 in record {
+    record {
       settled = (λ h. h);
       tells = λ d v after h.
-          other_name start.args.shift start.args.name.now v start.args.first at-if1.if-first.false
-          (ap (λ (x : List ℕ). same x start.args.name.now) h.named ∙ sym c.is_same.ensures ∙ c.if-not-is_same.true);
+          other_name c.args.shift c.args.name.now v c.args.first c.if-first.false
+          (ap (λ (x : List ℕ). same x c.args.name.now) h.named ∙ sym c.is_same.ensures ∙ c.if-not-is_same.true);
     }
 
 pub returns : goal.returns
 returns c =
-    let at-is-same = c in let at-if1 = at-is-same in
-    let start = at-if1 in record {
+    record {
       settled = (λ h e. clash (cc));
       tells = λ d v after h.
-          seen_now start.args.shift start.args.name.now v start.args.first at-if1.if-first.false
-          (ap (λ (x : List ℕ). same x start.args.name.now) h.named ∙ sym at-is-same.is_same.ensures ∙ c.if-not-is_same.false) c.time_of-time.result.said
+          seen_now c.args.shift c.args.name.now v c.args.first c.if-first.false
+          (ap (λ (x : List ℕ). same x c.args.name.now) h.named ∙ sym c.is_same.ensures ∙ c.if-not-is_same.false) c.time_of-time.result.said
           (c.time_of-time.ensures v.attrs h.tells).1;
     }

@@ -20,35 +20,32 @@ pub after_child-high-requires : goal.after_child-high-requires
 after_child-high-requires c = record { fact_1 = c.read-child.ensures.within.0; fact_2 = c.requires.fact_2 }
 
 pub overflow_sub-depth : goal.overflow_sub-depth
-overflow_sub-depth c = let at_next = c in (rw at_next.in-Child.is at at_next.next_inside-next.ensures).deep
+overflow_sub-depth c = (rw c.in-Child.is at c.next_inside-next.ensures).deep
 
 pub past_element-at-requires : goal.past_element-at-requires
 past_element-at-requires c = c.read-child.ensures.within.0
 
 pub loop-i-smaller : goal.loop-i-smaller
 loop-i-smaller c =
-    let at_read = c in let at_next = at_read in
-    walk_less (rw at_next.in-Child.is at at_next.next_inside-next.ensures) (at_read.read-child.ensures.within, at_read.read-child.ensures.tells) c.past_element-at.ensures.within
+    walk_less (rw c.in-Child.is at c.next_inside-next.ensures) (c.read-child.ensures.within, c.read-child.ensures.tells) c.past_element-at.ensures.within
 
 pub loop-i-preserved : goal.loop-i-preserved
-loop-i-preserved c =
-    let at-after-child = c in let at_read = at-after-child in let at_next = at_read in
-    let at-inside = at_next in let at-loop = at-inside in (
-      at-after-child.after_child-low.ensures.settled at-loop.loop-i.invariant.0,
-      c.after_child-high.ensures.settled at-loop.loop-i.invariant.1,
-      walk_goes (rw at_next.in-Child.is at at-inside.next_inside-next.ensures) (at_read.read-child.ensures.within, at_read.read-child.ensures.tells) at-loop.loop-i.invariant.2 c.past_element-at.ensures.within (λ all k v rest h p. (
-        c.past_element-at.ensures.tells v rest h,
-        sought_goes at-loop.args.shift at-loop.loop-i.low at-loop.loop-i.high v at-after-child.after_child-low.result c.after_child-high.result
-            (at-after-child.after_child-low.ensures.tells _ v rest h) (c.after_child-high.ensures.tells _ v rest h) all k p,
-      )),
-    )
+loop-i-preserved c = (
+  c.after_child-low.ensures.settled c.loop-i.invariant.0,
+  c.after_child-high.ensures.settled c.loop-i.invariant.1,
+  walk_goes (rw c.in-Child.is at c.next_inside-next.ensures) (c.read-child.ensures.within, c.read-child.ensures.tells) c.loop-i.invariant.2 c.past_element-at.ensures.within (λ all k v rest h p. (
+    c.past_element-at.ensures.tells v rest h,
+    sought_goes c.args.shift c.loop-i.low c.loop-i.high v c.after_child-low.result c.after_child-high.result
+        (c.after_child-low.ensures.tells _ v rest h) (c.after_child-high.ensures.tells _ v rest h) all k p,
+  )),
+)
 
 pub returns-in-Past : goal.returns-in-Past
 returns-in-Past c =
-    let at-inside = c in let l = at-inside.loop-i in let n = rw c.in-Past.is at at-inside.next_inside-next.ensures in record {
+    let l = c.loop-i in let n = rw c.in-Past.is at c.next_inside-next.ensures in record {
       within = (omega (arith, l.invariant.2.from, n.low), n.high);
       tells = λ v after h.
           let (p, e) = walk_ends n l.invariant.2 v after h in
-          let (x, y) = sought_ends at-inside.args.shift l.low l.high l.invariant.0 l.invariant.1 v.kids p in
+          let (x, y) = sought_ends c.args.shift l.low l.high l.invariant.0 l.invariant.1 v.kids p in
           (x, y, e);
     }

@@ -13,8 +13,7 @@ overflow_sub-depth c =
 
 pub past_end_tag-requires : goal.past_end_tag-requires
 past_end_tag-requires c =
-    let start = c in
-    record { fact_1 = (content-within (start.args.depth - 1) c.read_content-i.ensures).1; fact_2 = start.requires.name; fact_3 = start.requires.past }
+    record { fact_1 = (content-within (c.args.depth - 1) c.read_content-i.ensures).1; fact_2 = c.requires.name; fact_3 = c.requires.past }
 
 pub returns-then-tag-depth : goal.returns-then-tag-depth
 returns-then-tag-depth c =

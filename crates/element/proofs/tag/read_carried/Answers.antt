@@ -13,38 +13,30 @@ start_at-start-requires c = c.skip_space-i.ensures.high
 
 pub returns-in_default : goal.returns-in_default
 returns-in_default c =
-    let s = c in let all = so_done _ s.loop-number.invariant s.skip_space-i.ensures (rw c.in_default.is at s.start_at-start.ensures) in record { within = all.0; tells = all.1 }
+    let all = so_done _ c.loop-number.invariant c.skip_space-i.ensures (rw c.in_default.is at c.start_at-start.ensures) in record { within = all.0; tells = all.1 }
 
 pub end-end-requires : goal.end-end-requires
 end-end-requires c = omega (arith, (rw c.in-Named.is at c.start_at-start.ensures).1.high)
 
 pub loop-number-smaller-then-places-number-eq0 : goal.loop-number-smaller-then-places-number-eq0
 loop-number-smaller-then-places-number-eq0 c =
-    let e = c in
-    let s = e in
-    let t = turn s.skip_space-i.ensures e.in-Named.is s.start_at-start.ensures e.end-end.ensures.on_1 (e.end-end.ensures.on_2, e.end-end.ensures.tells) in
+    let t = turn c.skip_space-i.ensures c.in-Named.is c.start_at-start.ensures c.end-end.ensures.on_1 (c.end-end.ensures.on_2, c.end-end.ensures.tells) in
     omega (arith, further t)
 
 pub loop-number-preserved-then-places-number-eq0 : goal.loop-number-preserved-then-places-number-eq0
 loop-number-preserved-then-places-number-eq0 c =
-    let e = c in
-    let s = e in
-    let t = turn s.skip_space-i.ensures e.in-Named.is s.start_at-start.ensures e.end-end.ensures.on_1 (e.end-end.ensures.on_2, e.end-end.ensures.tells) in
-    so_step _ s.loop-number.invariant t (put (omega arith) c.if-places-number-eq0.true) (known-counted _ t.number (omega arith))
+    let t = turn c.skip_space-i.ensures c.in-Named.is c.start_at-start.ensures c.end-end.ensures.on_1 (c.end-end.ensures.on_2, c.end-end.ensures.tells) in
+    so_step _ c.loop-number.invariant t (put (omega arith) c.if-places-number-eq0.true) (known-counted _ t.number (omega arith))
 
 pub loop-number-smaller-else-places-number-eq0 : goal.loop-number-smaller-else-places-number-eq0
 loop-number-smaller-else-places-number-eq0 c =
-    let e = c in
-    let s = e in
-    let t = turn s.skip_space-i.ensures e.in-Named.is s.start_at-start.ensures e.end-end.ensures.on_1 (e.end-end.ensures.on_2, e.end-end.ensures.tells) in
+    let t = turn c.skip_space-i.ensures c.in-Named.is c.start_at-start.ensures c.end-end.ensures.on_1 (c.end-end.ensures.on_2, c.end-end.ensures.tells) in
     omega (arith, further t)
 
 pub loop-number-preserved-else-places-number-eq0 : goal.loop-number-preserved-else-places-number-eq0
 loop-number-preserved-else-places-number-eq0 c =
-    let e = c in
-    let s = e in
-    let t = turn s.skip_space-i.ensures e.in-Named.is s.start_at-start.ensures e.end-end.ensures.on_1 (e.end-end.ensures.on_2, e.end-end.ensures.tells) in
-    so_step _ s.loop-number.invariant t (kept (λ h. c.if-places-number-eq0.false)) (known-counted _ t.number (omega arith))
+    let t = turn c.skip_space-i.ensures c.in-Named.is c.start_at-start.ensures c.end-end.ensures.on_1 (c.end-end.ensures.on_2, c.end-end.ensures.tells) in
+    so_step _ c.loop-number.invariant t (kept (λ h. c.if-places-number-eq0.false)) (known-counted _ t.number (omega arith))
 
 pub slice_bounds-begins_with-count : goal.slice_bounds-begins_with-count
 slice_bounds-begins_with-count c = omega (arith, (rw c.in-Named.is at c.start_at-start.ensures).0.low)
@@ -57,29 +49,21 @@ slice_bounds-begins_with-end c = (rw c.in-Named.is at c.start_at-start.ensures).
 
 pub overflow_add-others : goal.overflow_add-others
 overflow_add-others c =
-    let e = c in
-    let s = e in
-    let t = turn s.skip_space-i.ensures e.in-Named.is s.start_at-start.ensures e.end-end.ensures.on_1 (e.end-end.ensures.on_2, e.end-end.ensures.tells) in
-    omega (arith, s.loop-number.invariant.few.0, further t, c.one_if-others.ensures.1)
+    let t = turn c.skip_space-i.ensures c.in-Named.is c.start_at-start.ensures c.end-end.ensures.on_1 (c.end-end.ensures.on_2, c.end-end.ensures.tells) in
+    omega (arith, c.loop-number.invariant.few.0, further t, c.one_if-others.ensures.1)
 
 pub overflow_add-namespaces : goal.overflow_add-namespaces
 overflow_add-namespaces c =
-    let e = c in
-    let s = e in
-    let t = turn s.skip_space-i.ensures e.in-Named.is s.start_at-start.ensures e.end-end.ensures.on_1 (e.end-end.ensures.on_2, e.end-end.ensures.tells) in
-    omega (arith, s.loop-number.invariant.few.1, further t, c.one_if-namespaces.ensures.1)
+    let t = turn c.skip_space-i.ensures c.in-Named.is c.start_at-start.ensures c.end-end.ensures.on_1 (c.end-end.ensures.on_2, c.end-end.ensures.tells) in
+    omega (arith, c.loop-number.invariant.few.1, further t, c.one_if-namespaces.ensures.1)
 
 pub loop-number-smaller : goal.loop-number-smaller
 loop-number-smaller c =
-    let e = c in
-    let s = e in
-    let t = turn s.skip_space-i.ensures e.in-Named.is s.start_at-start.ensures e.end-end.ensures.on_1 (e.end-end.ensures.on_2, e.end-end.ensures.tells) in
+    let t = turn c.skip_space-i.ensures c.in-Named.is c.start_at-start.ensures c.end-end.ensures.on_1 (c.end-end.ensures.on_2, c.end-end.ensures.tells) in
     omega (arith, further t)
 
 pub loop-number-preserved : goal.loop-number-preserved
 loop-number-preserved c =
-    let e = c in
-    let s = e in
-    let t = turn s.skip_space-i.ensures e.in-Named.is s.start_at-start.ensures e.end-end.ensures.on_1 (e.end-end.ensures.on_2, e.end-end.ensures.tells) in
-    so_step _ s.loop-number.invariant t (kept (λ h. absurd (omega arith)))
+    let t = turn c.skip_space-i.ensures c.in-Named.is c.start_at-start.ensures c.end-end.ensures.on_1 (c.end-end.ensures.on_2, c.end-end.ensures.tells) in
+    so_step _ c.loop-number.invariant t (kept (λ h. absurd (omega arith)))
     (other-counted _ _ _ t.number (omega arith) c.begins_with-space.ensures c.one_if-others.ensures c.one_if-namespaces.ensures)

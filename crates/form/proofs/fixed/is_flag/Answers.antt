@@ -10,4 +10,4 @@ returns-then-is c = λ v a h. rw (sym (c.is.ensures v a h) ∙ c.if-is.true)
 
 pub returns : goal.returns
 unfolding one_of exists split
-returns c = λ v a h. let at-if1 = c in rw (sym (at-if1.is.ensures v a h) ∙ at-if1.if-is.false, or-false) (c.is-2.ensures v a h)
+returns c = λ v a h. rw (sym (c.is.ensures v a h) ∙ c.if-is.false, or-false) (c.is-2.ensures v a h)

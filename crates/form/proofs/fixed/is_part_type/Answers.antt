@@ -11,22 +11,19 @@ returns-then-is c = λ v a h. rw (sym (c.is.ensures v a h) ∙ c.if-is.true)
 pub returns-then-is-2 : goal.returns-then-is-2
 unfolding one_of exists split
 returns-then-is-2 c = λ v a h.
-    let at-if1 = c in
-    rw (sym (at-if1.is.ensures v a h) ∙ at-if1.if-is.false, sym (c.is-2.ensures v a h) ∙ c.if-is-2.true)
+    rw (sym (c.is.ensures v a h) ∙ c.if-is.false, sym (c.is-2.ensures v a h) ∙ c.if-is-2.true)
 
 pub returns-then-is-3 : goal.returns-then-is-3
 unfolding one_of exists split
 returns-then-is-3 c = λ v a h.
-    let at-if2 = c in let at-if1 = at-if2 in
-    rw (sym (at-if1.is.ensures v a h) ∙ at-if1.if-is.false, sym (at-if2.is-2.ensures v a h) ∙ at-if2.if-is-2.false, sym (c.is-3.ensures v a h) ∙ c.if-is-3.true)
+    rw (sym (c.is.ensures v a h) ∙ c.if-is.false, sym (c.is-2.ensures v a h) ∙ c.if-is-2.false, sym (c.is-3.ensures v a h) ∙ c.if-is-3.true)
 
 pub returns : goal.returns
 unfolding one_of exists split
 returns c = λ v a h.
-    let at-if3 = c in let at-if2 = at-if3 in let at-if1 = at-if2 in
     rw (
-      sym (at-if1.is.ensures v a h) ∙ at-if1.if-is.false,
-      sym (at-if2.is-2.ensures v a h) ∙ at-if2.if-is-2.false,
-      sym (at-if3.is-3.ensures v a h) ∙ at-if3.if-is-3.false,
+      sym (c.is.ensures v a h) ∙ c.if-is.false,
+      sym (c.is-2.ensures v a h) ∙ c.if-is-2.false,
+      sym (c.is-3.ensures v a h) ∙ c.if-is-3.false,
       or-false,
     ) (c.is-4.ensures v a h)

@@ -6,8 +6,7 @@ returns-in-Always c = λ shift depth v after t. asked_inside shift c.args.stage 
 
 pub returns-in-Typed : goal.returns-in-Typed
 returns-in-Typed c =
-    let start = c in
-    λ shift depth v after t. asked_typed shift start.args.stage v _ (c.step_of-step.ensures depth v after t) c.member_asked.result c.in-Typed.is (c.member_asked.ensures shift start.args.stage v t.tells)
+    λ shift depth v after t. asked_typed shift c.args.stage v _ (c.step_of-step.ensures depth v after t) c.member_asked.result c.in-Typed.is (c.member_asked.ensures shift c.args.stage v t.tells)
 
 pub returns-in-Nothing : goal.returns-in-Nothing
 returns-in-Nothing c = λ shift depth v after t. asked_nothing shift c.args.stage v _ (c.step_of-step.ensures depth v after t) c.refuse.result c.in-Nothing.is c.refuse.ensures

@@ -18,5 +18,4 @@ slice_bounds-next_child-end c = c.requires.past
 
 pub returns : goal.returns
 returns c =
-    let start = c in
-    λ depth v after t. c.next_child.ensures ∙ ap (λ (n : List ℕ). step_among (line_of (kind_meant start.args.kind)).children start.args.stage n) (sym t.named)
+    λ depth v after t. c.next_child.ensures ∙ ap (λ (n : List ℕ). step_among (line_of (kind_meant c.args.kind)).children c.args.stage n) (sym t.named)

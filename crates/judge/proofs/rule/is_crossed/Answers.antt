@@ -14,28 +14,22 @@ returns-in_default c = λ l p. low_unvalued _ c.args.low _ c.in_default.not-Valu
 
 pub returns-in_default-high : goal.returns-in_default-high
 returns-in_default-high c = λ l p.
-    let at_low = c in
-    rw at_low.in-Valued.is (high_unvalued _ (moment_of at_low.in-Valued.l) at_low.args.high c.in_default-high.not-Valued)
+    rw c.in-Valued.is (high_unvalued _ (moment_of c.in-Valued.l) c.args.high c.in_default-high.not-Valued)
 
 pub returns-then-l-h : goal.returns-then-l-h
 returns-then-l-h c = λ l p.
-    let at_high = c in let at_low = at_high in
     let (a, b) = both_true _ _ c.if-l-h.true in
-    rw (at_low.in-Valued.is, at_high.in-Valued-high.is)
-    (sym (uncrossed _ (moment_of at_low.in-Valued.l) (moment_of at_high.in-Valued-high.h) (leb-true _ _ a) (ltb-true _ _ b)))
+    rw (c.in-Valued.is, c.in-Valued-high.is)
+    (sym (uncrossed _ (moment_of c.in-Valued.l) (moment_of c.in-Valued-high.h) (leb-true _ _ a) (ltb-true _ _ b)))
 
 pub returns-then-is_pushed : goal.returns-then-is_pushed
 returns-then-is_pushed c = λ l p.
-    let at-if = c in let at-has-text = at-if in
-    let at_high = at-has-text in let at_low = at_high in
-    let h = moment_of at_high.in-Valued-high.h in
-    let e = at-if.is_pushed.ensures ∙ ap (λ (closed : Bool). is_pushed high closed h) (at-has-text.has_text.ensures _ p) in
-    rw (at_low.in-Valued.is, at_high.in-Valued-high.is) (crossed_pushed _ (moment_of at_low.in-Valued.l) h (sym e ∙ at-if.if-is_pushed.true))
+    let h = moment_of c.in-Valued-high.h in
+    let e = c.is_pushed.ensures ∙ ap (λ (closed : Bool). is_pushed high closed h) (c.has_text.ensures _ p) in
+    rw (c.in-Valued.is, c.in-Valued-high.is) (crossed_pushed _ (moment_of c.in-Valued.l) h (sym e ∙ c.if-is_pushed.true))
 
 pub returns : goal.returns
 returns c = λ l p.
-    let at-if = c in let at-has-text = at-if in
-    let at_high = at-has-text in let at_low = at_high in
-    let h = moment_of at_high.in-Valued-high.h in
-    let e = at-if.is_pushed.ensures ∙ ap (λ (closed : Bool). is_pushed high closed h) (at-has-text.has_text.ensures _ p) in
-    rw (at_low.in-Valued.is, at_high.in-Valued-high.is) (crossed_unpushed _ (moment_of at_low.in-Valued.l) h (sym e ∙ at-if.if-is_pushed.false))
+    let h = moment_of c.in-Valued-high.h in
+    let e = c.is_pushed.ensures ∙ ap (λ (closed : Bool). is_pushed high closed h) (c.has_text.ensures _ p) in
+    rw (c.in-Valued.is, c.in-Valued-high.is) (crossed_unpushed _ (moment_of c.in-Valued.l) h (sym e ∙ c.if-is_pushed.false))

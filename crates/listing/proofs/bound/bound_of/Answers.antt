@@ -8,24 +8,24 @@ use Rattle.listing.proofs.bound.bound_of.Goals as goal
 
 pub returns-in_default : goal.returns-in_default
 returns-in_default c =
-    let at-read-bound = c in let at-endpoint = at-read-bound in let start = at-endpoint in record {
+    record {
       on = tt;
-      tells = bound_said (said_meant start.args.said) start.args.side start.args.closed at-endpoint.endpoint-end.result at-endpoint.endpoint-end.ensures
-          at-read-bound.read_bound-limit.ensures Unknown c.in_default.is;
+      tells = bound_said (said_meant c.args.said) c.args.side c.args.closed c.endpoint-end.result c.endpoint-end.ensures
+          c.read_bound-limit.ensures Unknown c.in_default.is;
     }
 
 pub returns-then-is_ticked : goal.returns-then-is_ticked
 returns-then-is_ticked c =
-    let at-limit = c in let at-read-bound = at-limit in let at-endpoint = at-read-bound in let start = at-endpoint in record {
+    record {
       on = ltb-true _ _ (sym c.is_ticked.ensures ∙ c.if-is_ticked.true);
-      tells = bound_said (said_meant start.args.said) start.args.side start.args.closed at-endpoint.endpoint-end.result at-endpoint.endpoint-end.ensures at-read-bound.read_bound-limit.ensures
-          _ at-limit.in-Is.is;
+      tells = bound_said (said_meant c.args.said) c.args.side c.args.closed c.endpoint-end.result c.endpoint-end.ensures c.read_bound-limit.ensures
+          _ c.in-Is.is;
     }
 
 pub returns : goal.returns
 returns c =
-    let at-limit = c in let at-read-bound = at-limit in let at-endpoint = at-read-bound in let start = at-endpoint in record {
+    record {
       on = tt;
-      tells = bound_kept (said_meant start.args.said) start.args.side start.args.closed at-endpoint.endpoint-end.result at-endpoint.endpoint-end.ensures at-read-bound.read_bound-limit.ensures
-          at-limit.in-Is.is (sym c.is_ticked.ensures ∙ c.if-is_ticked.false);
+      tells = bound_kept (said_meant c.args.said) c.args.side c.args.closed c.endpoint-end.result c.endpoint-end.ensures c.read_bound-limit.ensures
+          c.in-Is.is (sym c.is_ticked.ensures ∙ c.if-is_ticked.false);
     }

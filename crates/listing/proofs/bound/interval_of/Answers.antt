@@ -8,21 +8,20 @@ has_text-requires c = omega (arith, c.requires.fact_1.placed 3)
 
 pub returns-in_default : goal.returns-in_default
 returns-in_default c =
-    let at-bound-of = c in let at-has-text = at-bound-of in let at-read-sides = at-has-text in
-    let start = at-read-sides in record {
+    record {
       ticked = (c.unwritten.ensures.2, c.unwritten.ensures.3);
       within = (
-        omega (arith, c.unwritten.ensures.1, at-read-sides.read_sides-sides.ensures.within.0),
+        omega (arith, c.unwritten.ensures.1, c.read_sides-sides.ensures.within.0),
         omega (
           arith,
           c.unwritten.ensures.1,
-          at-read-sides.read_sides-sides.ensures.within.1,
+          c.read_sides-sides.ensures.within.1,
         ),
       );
       tells = λ v after h.
-          let (l, r, e) = at-read-sides.read_sides-sides.ensures.tells v after h in (
-            interval-low start.args.shift v.attrs v.kids (at-bound-of.bound_of-first.ensures.tells start.args.shift start.requires.fact_2 v.attrs v.kids
-                l (at-has-text.has_text.ensures _ (h.tells.placed 3 (omega arith))))
+          let (l, r, e) = c.read_sides-sides.ensures.tells v after h in (
+            interval-low c.args.shift v.attrs v.kids (c.bound_of-first.ensures.tells c.args.shift c.requires.fact_2 v.attrs v.kids
+                l (c.has_text.ensures _ (h.tells.placed 3 (omega arith))))
                 c.in_default.is c.unwritten.result c.unwritten.ensures.0,
             rw c.unwritten.ensures.1 e,
           );
@@ -33,24 +32,22 @@ has_text-requires-2 c = omega (arith, c.requires.fact_1.placed 4)
 
 pub returns-in_default-second : goal.returns-in_default-second
 returns-in_default-second c =
-    let at-bound-of2 = c in let at-has-text2 = at-bound-of2 in let at_first = at-has-text2 in
-    let at-bound-of = at_first in let at-has-text = at-bound-of in let at-read-sides = at-has-text in
-    let start = at-read-sides in record {
+    record {
       ticked = (c.unwritten-in_default-second.ensures.2, c.unwritten-in_default-second.ensures.3);
       within = (
-        omega (arith, c.unwritten-in_default-second.ensures.1, at-read-sides.read_sides-sides.ensures.within.0),
+        omega (arith, c.unwritten-in_default-second.ensures.1, c.read_sides-sides.ensures.within.0),
         omega (
           arith,
           c.unwritten-in_default-second.ensures.1,
-          at-read-sides.read_sides-sides.ensures.within.1,
+          c.read_sides-sides.ensures.within.1,
         ),
       );
       tells = λ v after h.
-          let (l, r, e) = at-read-sides.read_sides-sides.ensures.tells v after h in (
-            interval-high start.args.shift v.attrs v.kids
-                (at-bound-of.bound_of-first.ensures.tells start.args.shift start.requires.fact_2 v.attrs v.kids l (at-has-text.has_text.ensures _ (h.tells.placed 3 (omega arith))))
-                at_first.in-Is.is _
-                (at-bound-of2.bound_of-second.ensures.tells start.args.shift start.requires.fact_2 v.attrs v.kids r (at-has-text2.has_text-2.ensures _ (h.tells.placed 4 (omega arith))))
+          let (l, r, e) = c.read_sides-sides.ensures.tells v after h in (
+            interval-high c.args.shift v.attrs v.kids
+                (c.bound_of-first.ensures.tells c.args.shift c.requires.fact_2 v.attrs v.kids l (c.has_text.ensures _ (h.tells.placed 3 (omega arith))))
+                c.in-Is.is _
+                (c.bound_of-second.ensures.tells c.args.shift c.requires.fact_2 v.attrs v.kids r (c.has_text-2.ensures _ (h.tells.placed 4 (omega arith))))
                 c.in_default-second.is c.unwritten-in_default-second.result c.unwritten-in_default-second.ensures.0,
             rw c.unwritten-in_default-second.ensures.1 e,
           );
@@ -58,17 +55,15 @@ returns-in_default-second c =
 
 pub returns : goal.returns
 returns c =
-    let at-bound-of2 = c in let at-has-text2 = at-bound-of2 in let at_first = at-has-text2 in
-    let at-bound-of = at_first in let at-has-text = at-bound-of in let at-read-sides = at-has-text in
-    let start = at-read-sides in record {
-      ticked = (limit_on at_first.in-Is.is at-bound-of.bound_of-first.ensures.on, limit_on c.in-Is-second.is at-bound-of2.bound_of-second.ensures.on);
-      within = at-read-sides.read_sides-sides.ensures.within;
+    record {
+      ticked = (limit_on c.in-Is.is c.bound_of-first.ensures.on, limit_on c.in-Is-second.is c.bound_of-second.ensures.on);
+      within = c.read_sides-sides.ensures.within;
       tells = λ v after h.
-          let (l, r, e) = at-read-sides.read_sides-sides.ensures.tells v after h in (
-            interval-both start.args.shift v.attrs v.kids
-                (at-bound-of.bound_of-first.ensures.tells start.args.shift start.requires.fact_2 v.attrs v.kids l (at-has-text.has_text.ensures _ (h.tells.placed 3 (omega arith))))
-                at_first.in-Is.is _
-                (at-bound-of2.bound_of-second.ensures.tells start.args.shift start.requires.fact_2 v.attrs v.kids r (at-has-text2.has_text-2.ensures _ (h.tells.placed 4 (omega arith))))
+          let (l, r, e) = c.read_sides-sides.ensures.tells v after h in (
+            interval-both c.args.shift v.attrs v.kids
+                (c.bound_of-first.ensures.tells c.args.shift c.requires.fact_2 v.attrs v.kids l (c.has_text.ensures _ (h.tells.placed 3 (omega arith))))
+                c.in-Is.is _
+                (c.bound_of-second.ensures.tells c.args.shift c.requires.fact_2 v.attrs v.kids r (c.has_text-2.ensures _ (h.tells.placed 4 (omega arith))))
                 c.in-Is-second.is,
             e,
           );

@@ -14,11 +14,11 @@ in_single-requires t c = record { fact_1 = c.requires.0; fact_2 = c.requires.1.0
 
 pub returns-in-Single : goal.returns-in-Single
 returns-in-Single t c =
-    let at-shape-of = c in let args = at-shape-of.args in record {
+    let args = c.args in record {
       within = c.in_single.ensures.within;
       tells = λ v after h.
           let (m, e) = c.in_single.ensures.tells v after h in
-          (means_single args.shift v (place_of args.n args.gap) (rw c.in-Single.is at (at-shape-of.shape_of-shape.ensures _ v after h)) m, e);
+          (means_single args.shift v (place_of args.n args.gap) (rw c.in-Single.is at (c.shape_of-shape.ensures _ v after h)) m, e);
     }
 
 pub past_element-requires : goal.past_element-requires
@@ -26,10 +26,10 @@ past_element-requires t c = c.requires.0
 
 pub returns-in-Other : goal.returns-in-Other
 returns-in-Other t c =
-    let at-shape-of = c in let args = at-shape-of.args in record {
+    let args = c.args in record {
       within = c.past_element.ensures.within;
       tells = λ v after h. (
-        means-other args.shift v (place_of args.n args.gap) (rw c.in-Other.is at (at-shape-of.shape_of-shape.ensures _ v after h)),
+        means-other args.shift v (place_of args.n args.gap) (rw c.in-Other.is at (c.shape_of-shape.ensures _ v after h)),
         c.past_element.ensures.tells v after h,
       );
     }
@@ -48,35 +48,32 @@ overflow_sub-depth t c = (rw c.in-Child.is at c.next_inside-next.ensures).deep
 
 pub is_meant_at-member-requires : goal.is_meant_at-member-requires
 is_meant_at-member-requires t c =
-    let at-inside = c in let start = at-inside in
-    (omega (arith, (rw c.in-Child.is at at-inside.next_inside-next.ensures).deep), (c.read-child.ensures.within.0, start.requires.1))
+    (omega (arith, (rw c.in-Child.is at c.next_inside-next.ensures).deep), (c.read-child.ensures.within.0, c.requires.1))
 
 pub loop-i-smaller : goal.loop-i-smaller
 loop-i-smaller t c =
-    let at_read = c in
-    walk_less (rw at_read.in-Child.is at at_read.next_inside-next.ensures) (at_read.read-child.ensures.within, at_read.read-child.ensures.tells) c.is_meant_at-member.ensures.within
+    walk_less (rw c.in-Child.is at c.next_inside-next.ensures) (c.read-child.ensures.within, c.read-child.ensures.tells) c.is_meant_at-member.ensures.within
 
 pub loop-i-preserved : goal.loop-i-preserved
 loop-i-preserved t c =
-    let at_read = c in let at_next = at_read in let at-inside = at_next in let at-loop = at-inside in
-    let at-shape = at-loop in let args = at-shape.args in (
+    let args = c.args in (
       (λ z. clash (cc)),
-      walk_goes (rw at_next.in-Child.is at at-inside.next_inside-next.ensures) (at_read.read-child.ensures.within, at_read.read-child.ensures.tells) at-loop.loop-i.invariant.1 c.is_meant_at-member.ensures.within (λ all left v rest h p.
+      walk_goes (rw c.in-Child.is at c.next_inside-next.ensures) (c.read-child.ensures.within, c.read-child.ensures.tells) c.loop-i.invariant.1 c.is_meant_at-member.ensures.within (λ all left v rest h p.
           let (m, e) = c.is_meant_at-member.ensures.tells v rest h in (
             e,
-            place_goes args.shift at-shape.in-Members.op (place_of args.n args.gap) at-loop.loop-i.any at-loop.loop-i.so_far v c.is_meant_at-member.result.is
+            place_goes args.shift c.in-Members.op (place_of args.n args.gap) c.loop-i.any c.loop-i.so_far v c.is_meant_at-member.result.is
                 m c.in_both-so_far.result c.in_both-so_far.ensures all left p,
           )),
     )
 
 pub returns-in-Past : goal.returns-in-Past
 returns-in-Past t c =
-    let at-inside = c in let l = at-inside.loop-i in let n = rw c.in-Past.is at at-inside.next_inside-next.ensures in
-    let at-shape = at-inside in let at-shape-of = at-shape in let args = at-shape-of.args in
-    let x = place_of args.n args.gap in let op = at-shape.in-Members.op in record {
+    let l = c.loop-i in let n = rw c.in-Past.is at c.next_inside-next.ensures in
+    let args = c.args in
+    let x = place_of args.n args.gap in let op = c.in-Members.op in record {
       within = (omega (arith, l.invariant.1.from, n.low), n.high);
       tells = λ v after h.
           let (p, e) = walk_ends n l.invariant.1 v after h in
-          let w = rw at-shape.in-Members.is at (at-shape-of.shape_of-shape.ensures _ v after h) in
+          let w = rw c.in-Members.is at (c.shape_of-shape.ensures _ v after h) in
           (means_members args.shift v x op w (place_ends args.shift op x l.any l.so_far l.invariant.0 v.kids p), e);
     }

@@ -5,9 +5,9 @@ use Rattle.listing.proofs.place.in_single.Goals as goal
 
 pub returns : goal.returns
 returns c =
-    let at-interval-of = c in let args = at-interval-of.args in record {
-      within = at-interval-of.interval_of-w.ensures.within;
+    let args = c.args in record {
+      within = c.interval_of-w.ensures.within;
       tells = λ v after h.
-          let (w, e) = at-interval-of.interval_of-w.ensures.tells v after h in
-          (within-written at-interval-of.interval_of-w.result (place_of args.n args.gap) c.is_in.ensures w, e);
+          let (w, e) = c.interval_of-w.ensures.tells v after h in
+          (within-written c.interval_of-w.result (place_of args.n args.gap) c.is_in.ensures w, e);
     }

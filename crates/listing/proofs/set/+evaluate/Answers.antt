@@ -12,9 +12,8 @@ use Rattle.listing.proofs.set.+evaluate.Goals as goal
 
 pub returns-then-has : goal.returns-then-has
 returns-then-has t c =
-    let at-nothing = c in let start = at-nothing in
-    let all = none_said start.args.shift start.requires.0.end at-nothing.nothing-so_far.ensures (λ v after h.
-    (_, null-set start.args.shift v (c.has.ensures _ v.attrs h.tells) c.if-has.true))
+    let all = none_said c.args.shift c.requires.0.end c.nothing-so_far.ensures (λ v after h.
+    (_, null-set c.args.shift v (c.has.ensures _ v.attrs h.tells) c.if-has.true))
     in record { formed = all.0; within = all.1.0; tells = all.1.1 }
 
 pub shape_of-shape-requires : goal.shape_of-shape-requires
@@ -25,28 +24,27 @@ of_single-so_far-requires t c = record { fact_1 = c.requires.0; fact_2 = c.requi
 
 pub returns-in-Single : goal.returns-in-Single
 returns-in-Single t c =
-    let at-shape-of = c in let at-if1 = at-shape-of in let at_has = at-if1 in record {
+    record {
       formed = c.of_single-so_far.ensures.formed;
       within = c.of_single-so_far.ensures.within;
       tells = λ v after h.
           let (s, e) = c.of_single-so_far.ensures.tells v after h in
-          let w = rw c.in-Single.is at (at-shape-of.shape_of-shape.ensures _ v after h) in
-          (single_set at_has.args.shift v (at_has.has.ensures _ v.attrs h.tells) at-if1.if-has.false w s, λ k. e);
+          let w = rw c.in-Single.is at (c.shape_of-shape.ensures _ v after h) in
+          (single_set c.args.shift v (c.has.ensures _ v.attrs h.tells) c.if-has.false w s, λ k. e);
     }
 
 pub returns-in-Other : goal.returns-in-Other
 returns-in-Other t c =
-    let at-shape-of = c in let at-if1 = at-shape-of in let at_has = at-if1 in let at-nothing = at_has in let start = at-nothing in
-    let all = none_said start.args.shift start.requires.0.end at-nothing.nothing-so_far.ensures (λ v after h. (
+    let all = none_said c.args.shift c.requires.0.end c.nothing-so_far.ensures (λ v after h. (
       _,
-      other-set start.args.shift v (at_has.has.ensures _ v.attrs h.tells) at-if1.if-has.false (rw c.in-Other.is at (at-shape-of.shape_of-shape.ensures _ v after h)),
+      other-set c.args.shift v (c.has.ensures _ v.attrs h.tells) c.if-has.false (rw c.in-Other.is at (c.shape_of-shape.ensures _ v after h)),
     ))
     in record { formed = all.0; within = all.1.0; tells = all.1.1 }
 
 pub loop-i-init : goal.loop-i-init
 loop-i-init t c =
-    let at-nothing = c in let (f, k, n, e) = at-nothing.nothing-so_far.ensures in
-    (f, rw e (walk_begins at-nothing.requires.0.end (λ all. (none, none_yet k n, refl))))
+    let (f, k, n, e) = c.nothing-so_far.ensures in
+    (f, rw e (walk_begins c.requires.0.end (λ all. (none, none_yet k n, refl))))
 
 pub next_inside-next-requires : goal.next_inside-next-requires
 next_inside-next-requires t c = let tag = c.requires.0 in record { fact_1 = tag.name; fact_2 = tag.past; fact_3 = c.loop-i.invariant.1.within }
@@ -59,21 +57,19 @@ overflow_sub-depth t c = (rw c.in-Child.is at c.next_inside-next.ensures).deep
 
 pub evaluate-member-requires : goal.evaluate-member-requires
 evaluate-member-requires t c =
-    let at-inside = c in let start = at-inside in
-    (omega (arith, (rw c.in-Child.is at at-inside.next_inside-next.ensures).deep), (c.read-child.ensures.within.0, start.requires.1))
+    (omega (arith, (rw c.in-Child.is at c.next_inside-next.ensures).deep), (c.read-child.ensures.within.0, c.requires.1))
 
 pub returns-then-not-member : goal.returns-then-not-member
 returns-then-not-member t c =
-    let e = c.evaluate-member in let at_read = c in let at_next = at_read in let at-inside = at_next in
-    let at-loop = at-inside in let n = rw at_next.in-Child.is at at-inside.next_inside-next.ensures in
-    let at-shape = at-loop in let at-shape-of = at-shape in let at_has = at-shape-of in
-    let shift = at_has.args.shift in let op = at-shape.in-Members.op in let (f, w) = at-loop.loop-i.invariant in record {
+    let e = c.evaluate-member in
+    let n = rw c.in-Child.is at c.next_inside-next.ensures in
+    let shift = c.args.shift in let op = c.in-Members.op in let (f, w) = c.loop-i.invariant in record {
       formed = as_formed false _ f;
       within = (w.from, w.within);
       tells = λ v after h.
-          let (all, m, k, p) = walk_child n (at_read.read-child.ensures.within, at_read.read-child.ensures.tells) w v after h in
-          let y = rw at-shape.in-Members.is at (at-shape-of.shape_of-shape.ensures _ v after h) in (
-            members_set shift v (at_has.has.ensures _ v.attrs h.tells) at-shape-of.if-has.false op y
+          let (all, m, k, p) = walk_child n (c.read-child.ensures.within, c.read-child.ensures.tells) w v after h in
+          let y = rw c.in-Members.is at (c.shape_of-shape.ensures _ v after h) in (
+            members_set shift v (c.has.ensures _ v.attrs h.tells) c.if-has.false op y
                 (member-unknown shift op m.child (e.ensures.tells m.child m.rest k).0 v.kids m.others p (not-true e.result.known c.if-not-member.true) refl),
             λ k. clash (cc (k)),
           );
@@ -81,52 +77,48 @@ returns-then-not-member t c =
 
 pub loop-i-smaller-then-so_far-eq0 : goal.loop-i-smaller-then-so_far-eq0
 loop-i-smaller-then-so_far-eq0 t c =
-    let at_read = c in
-    walk_less (rw at_read.in-Child.is at at_read.next_inside-next.ensures) (at_read.read-child.ensures.within, at_read.read-child.ensures.tells)
+    walk_less (rw c.in-Child.is at c.next_inside-next.ensures) (c.read-child.ensures.within, c.read-child.ensures.tells)
     c.evaluate-member.ensures.within
 
 pub loop-i-preserved-then-so_far-eq0 : goal.loop-i-preserved-then-so_far-eq0
 loop-i-preserved-then-so_far-eq0 t c =
-    let e = c.evaluate-member in let at_read = c in let at_next = at_read in
-    let at-inside = at_next in let at-loop = at-inside in let at-shape = at-loop in let op = at-shape.in-Members.op in
+    let e = c.evaluate-member in
+    let op = c.in-Members.op in
     let k = not-false e.result.known c.if-not-member.false in (
       e.ensures.formed,
-      walk_goes (rw at_next.in-Child.is at at-inside.next_inside-next.ensures) (at_read.read-child.ensures.within, at_read.read-child.ensures.tells) at-loop.loop-i.invariant.1 e.ensures.within (λ all left v rest h p.
+      walk_goes (rw c.in-Child.is at c.next_inside-next.ensures) (c.read-child.ensures.within, c.read-child.ensures.tells) c.loop-i.invariant.1 e.ensures.within (λ all left v rest h p.
           let (s, q) = e.ensures.tells v rest h in
-          (q k, member-known at-shape.args.shift op v s all left p k (join_first op _ _ c.if-so_far-eq0.true))),
+          (q k, member-known c.args.shift op v s all left p k (join_first op _ _ c.if-so_far-eq0.true))),
     )
 
 pub join-so_far-requires : goal.join-so_far-requires
 join-so_far-requires t c =
-    let at-evaluate = c in
-    record { fact_1 = at-evaluate.loop-i.invariant.0; fact_2 = at-evaluate.evaluate-member.ensures.formed }
+    record { fact_1 = c.loop-i.invariant.0; fact_2 = c.evaluate-member.ensures.formed }
 
 pub loop-i-smaller : goal.loop-i-smaller
 loop-i-smaller t c =
-    let at_read = c in
-    rw c.join-so_far.ensures.formed.1 (walk_less (rw at_read.in-Child.is at at_read.next_inside-next.ensures) (at_read.read-child.ensures.within, at_read.read-child.ensures.tells)
+    rw c.join-so_far.ensures.formed.1 (walk_less (rw c.in-Child.is at c.next_inside-next.ensures) (c.read-child.ensures.within, c.read-child.ensures.tells)
     c.evaluate-member.ensures.within)
 
 pub loop-i-preserved : goal.loop-i-preserved
 loop-i-preserved t c =
-    let e = c.evaluate-member in let at_read = c in let at_next = at_read in
-    let at-inside = at_next in let at-loop = at-inside in let at-shape = at-loop in let op = at-shape.in-Members.op in
+    let e = c.evaluate-member in
+    let op = c.in-Members.op in
     let k = not-false e.result.known c.if-not-member.false in let (f, z) = c.join-so_far.ensures.formed in (
       f,
-      walk_goes (rw at_next.in-Child.is at at-inside.next_inside-next.ensures) (at_read.read-child.ensures.within, at_read.read-child.ensures.tells) at-loop.loop-i.invariant.1 (rw z e.ensures.within) (λ all left v rest h p.
+      walk_goes (rw c.in-Child.is at c.next_inside-next.ensures) (c.read-child.ensures.within, c.read-child.ensures.tells) c.loop-i.invariant.1 (rw z e.ensures.within) (λ all left v rest h p.
           let (s, q) = e.ensures.tells v rest h in
-          (rw z (q k), member-known at-shape.args.shift op v s all left p k (join_next op _ _ c.if-so_far-eq0.false c.join-so_far.ensures.tells))),
+          (rw z (q k), member-known c.args.shift op v s all left p k (join_next op _ _ c.if-so_far-eq0.false c.join-so_far.ensures.tells))),
     )
 
 pub returns-in-Past : goal.returns-in-Past
 returns-in-Past t c =
-    let at-inside = c in let (f, w) = at-inside.loop-i.invariant in let n = rw c.in-Past.is at at-inside.next_inside-next.ensures in
-    let at-shape = at-inside in let at-shape-of = at-shape in let at_has = at-shape-of in
-    let shift = at_has.args.shift in let op = at-shape.in-Members.op in record {
+    let (f, w) = c.loop-i.invariant in let n = rw c.in-Past.is at c.next_inside-next.ensures in
+    let shift = c.args.shift in let op = c.in-Members.op in record {
       formed = as_formed _ _ f;
       within = (omega (arith, w.from, n.low), n.high);
       tells = λ v after h.
           let (p, e) = walk_ends n w v after h in
-          let y = rw at-shape.in-Members.is at (at-shape-of.shape_of-shape.ensures _ v after h) in
-          (members_set shift v (at_has.has.ensures _ v.attrs h.tells) at-shape-of.if-has.false op y (members_said shift op v.kids p _), λ k. e);
+          let y = rw c.in-Members.is at (c.shape_of-shape.ensures _ v after h) in
+          (members_set shift v (c.has.ensures _ v.attrs h.tells) c.if-has.false op y (members_said shift op v.kids p _), λ k. e);
     }

@@ -7,10 +7,8 @@ use Rattle.listing.proofs.set.join.Goals as goal
 
 pub returns-then-count-gt32 : goal.returns-then-count-gt32
 returns-then-count-gt32 c =
-    let start = c in
-    record { formed = (many-formed _ start.requires.fact_1, refl); tells = λ x y s t. join_many start.args.op start.args.a start.args.b x y s t c.if-count-gt32.true _ _ }
+    record { formed = (many-formed _ c.requires.fact_1, refl); tells = λ x y s t. join_many c.args.op c.args.a c.args.b x y s t c.if-count-gt32.true _ _ }
 
 pub returns : goal.returns
 returns c =
-    let at-if1 = c in let start = at-if1 in
-    let l : start.args.a.count + start.args.b.count ≤ 32 = omega (arith, at-if1.if-count-gt32.false) in record { formed = (join_formed _ start.requires.fact_1 start.requires.fact_2 l c.combine-set.ensures, refl); tells = λ x y s t. join_set start.args.op start.args.a start.args.b x y s t l _ c.combine-set.ensures }
+    let l : c.args.a.count + c.args.b.count ≤ 32 = omega (arith, c.if-count-gt32.false) in record { formed = (join_formed _ c.requires.fact_1 c.requires.fact_2 l c.combine-set.ensures, refl); tells = λ x y s t. join_set c.args.op c.args.a c.args.b x y s t l _ c.combine-set.ensures }

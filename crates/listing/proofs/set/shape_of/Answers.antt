@@ -11,5 +11,4 @@ returns-in_default c = λ d v after h. untyped v.attrs (c.type_at-named.ensures 
 
 pub returns : goal.returns
 returns c =
-    let at_named = c in let at-type-at = at_named in
-    λ d v after h. typed v.attrs (at-type-at.type_at-named.ensures v.attrs (h.tells.placed 2 (omega arith))) at_named.in-Is.is c.shape_of_kind.ensures
+    λ d v after h. typed v.attrs (c.type_at-named.ensures v.attrs (h.tells.placed 2 (omega arith))) c.in-Is.is c.shape_of_kind.ensures

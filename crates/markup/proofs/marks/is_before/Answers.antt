@@ -17,9 +17,8 @@ read_attribute-parts-requires c = (found c.in-At.is c.read_some_space-gap.ensure
 
 pub returns-in_default-parts : goal.returns-in_default-parts
 returns-in_default-parts c =
-    let d = c in
-    let g = found d.in-At.is d.read_some_space-gap.ensures in
-    d.loop-i.invariant.1 _ (tells-stop _ (stops_attribute g (parts_none c.in_default-parts.is c.read_attribute-parts.ensures)))
+    let g = found c.in-At.is c.read_some_space-gap.ensures in
+    c.loop-i.invariant.1 _ (tells-stop _ (stops_attribute g (parts_none c.in_default-parts.is c.read_attribute-parts.ensures)))
 
 pub slice_bounds-is_same-start : goal.slice_bounds-is_same-start
 slice_bounds-is_same-start c = omega (arith, (parts_found c.in-Attribute.is c.read_attribute-parts.ensures).name_low)
@@ -31,26 +30,23 @@ slice_bounds-is_same-end c =
 
 pub returns-then-is_same : goal.returns-then-is_same
 returns-then-is_same c =
-    let d = c in
-    let g = found d.in-At.is d.read_some_space-gap.ensures in
-    let a = parts_found d.in-Attribute.is d.read_attribute-parts.ensures in
-    let l = d.loop-i-test.true in
-    d.loop-i.invariant.1 _ (tells_here g a _ l (sym c.is_same.ensures ∙ c.if-is_same.true))
+    let g = found c.in-At.is c.read_some_space-gap.ensures in
+    let a = parts_found c.in-Attribute.is c.read_attribute-parts.ensures in
+    let l = c.loop-i-test.true in
+    c.loop-i.invariant.1 _ (tells_here g a _ l (sym c.is_same.ensures ∙ c.if-is_same.true))
 
 pub loop-i-smaller : goal.loop-i-smaller
 loop-i-smaller c =
-    let d = c in
-    let g = found d.in-At.is d.read_some_space-gap.ensures in
-    let a = parts_found d.in-Attribute.is d.read_attribute-parts.ensures in
+    let g = found c.in-At.is c.read_some_space-gap.ensures in
+    let a = parts_found c.in-Attribute.is c.read_attribute-parts.ensures in
     omega (arith, g.low, a.name_low, a.name_high, a.value_low, a.high)
 
 pub loop-i-preserved : goal.loop-i-preserved
 loop-i-preserved c =
-    let d = c in
-    let g = found d.in-At.is d.read_some_space-gap.ensures in
-    let a = parts_found d.in-Attribute.is d.read_attribute-parts.ensures in
-    let l = d.loop-i-test.true in
-    (a.high, λ r h. d.loop-i.invariant.1 r (tells_more g a _ l (sym c.is_same.ensures ∙ c.if-is_same.false) r h))
+    let g = found c.in-At.is c.read_some_space-gap.ensures in
+    let a = parts_found c.in-Attribute.is c.read_attribute-parts.ensures in
+    let l = c.loop-i-test.true in
+    (a.high, λ r h. c.loop-i.invariant.1 r (tells_more g a _ l (sym c.is_same.ensures ∙ c.if-is_same.false) r h))
 
 pub returns : goal.returns
 returns c = c.loop-i.invariant.1 _ (tells-end _ c.loop-i-test.false)

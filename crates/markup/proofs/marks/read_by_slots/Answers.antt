@@ -21,9 +21,8 @@ read_attribute-parts-requires c = (found c.in-At.is c.read_some_space-gap.ensure
 
 pub returns-in_default-parts : goal.returns-in_default-parts
 returns-in_default-parts c =
-    let d = c in
-    let g = found d.in-At.is d.read_some_space-gap.ensures in
-    sure _ (begun-end d.loop-j.invariant.1 (stops_attribute g (parts_none c.in_default-parts.is c.read_attribute-parts.ensures)))
+    let g = found c.in-At.is c.read_some_space-gap.ensures in
+    sure _ (begun-end c.loop-j.invariant.1 (stops_attribute g (parts_none c.in_default-parts.is c.read_attribute-parts.ensures)))
 
 pub slice_bounds-slot-start : goal.slice_bounds-slot-start
 slice_bounds-slot-start c = omega (arith, (parts_found c.in-Attribute.is c.read_attribute-parts.ensures).name_low)
@@ -41,17 +40,15 @@ returns-then-taken-k c = unsure
 
 pub loop-j-smaller : goal.loop-j-smaller
 loop-j-smaller c =
-    let d = c in
-    let g = found d.in-At.is d.read_some_space-gap.ensures in
-    let a = parts_found d.in-Attribute.is d.read_attribute-parts.ensures in
+    let g = found c.in-At.is c.read_some_space-gap.ensures in
+    let a = parts_found c.in-Attribute.is c.read_attribute-parts.ensures in
     omega (arith, g.low, a.name_low, a.name_high, a.value_low, a.high)
 
 pub loop-j-preserved : goal.loop-j-preserved
 loop-j-preserved c =
-    let d = c in
-    let g = found d.in-At.is d.read_some_space-gap.ensures in
-    let a = parts_found d.in-Attribute.is d.read_attribute-parts.ensures in
-    let (n, b) = d.loop-j.invariant in
-    let t = d.loop-j.taken in
+    let g = found c.in-At.is c.read_some_space-gap.ensures in
+    let a = parts_found c.in-Attribute.is c.read_attribute-parts.ensures in
+    let (n, b) = c.loop-j.invariant in
+    let t = c.loop-j.taken in
     let (e, l) = c.slot-k.ensures in
     (length-set t _ _ ∙ n, slot_more t n b g a e l c.if-taken-k.false)

@@ -22,9 +22,8 @@ read_attribute-parts-requires c = (found c.in-At.is c.read_some_space-gap.ensure
 
 pub returns-in_default-parts : goal.returns-in_default-parts
 returns-in_default-parts c =
-    let d = c in
-    let g = found d.in-At.is d.read_some_space-gap.ensures in
-    sure _ (begun-end d.loop-j.invariant.1 (stops_attribute g (parts_none c.in_default-parts.is c.read_attribute-parts.ensures)))
+    let g = found c.in-At.is c.read_some_space-gap.ensures in
+    sure _ (begun-end c.loop-j.invariant.1 (stops_attribute g (parts_none c.in_default-parts.is c.read_attribute-parts.ensures)))
 
 pub slice_bounds-mix-start : goal.slice_bounds-mix-start
 slice_bounds-mix-start c = omega (arith, (parts_found c.in-Attribute.is c.read_attribute-parts.ensures).name_low)
@@ -39,21 +38,18 @@ bounds-table-k c = (spot_free (spot_is c.in-Free.is c.find_spot-spot.ensures)).0
 
 pub slice_bounds-is_before-start : goal.slice_bounds-is_before-start
 slice_bounds-is_before-start c =
-    let d = c in
-    omega (arith, (parts_found d.in-Attribute.is d.read_attribute-parts.ensures).name_low)
+    omega (arith, (parts_found c.in-Attribute.is c.read_attribute-parts.ensures).name_low)
 
 pub slice_bounds-is_before-end : goal.slice_bounds-is_before-end
 slice_bounds-is_before-end c =
-    let d = c in
-    let a = parts_found d.in-Attribute.is d.read_attribute-parts.ensures in
+    let a = parts_found c.in-Attribute.is c.read_attribute-parts.ensures in
     omega (arith, a.name_high, a.value_low, a.high)
 
 pub returns-then-is_before : goal.returns-then-is_before
 returns-then-is_before c =
-    let d = c in
-    let g = found d.in-At.is d.read_some_space-gap.ensures in
-    let a = parts_found d.in-Attribute.is d.read_attribute-parts.ensures in
-    let b = d.loop-j.invariant.1 in
+    let g = found c.in-At.is c.read_some_space-gap.ensures in
+    let a = parts_found c.in-Attribute.is c.read_attribute-parts.ensures in
+    let b = c.loop-j.invariant.1 in
     sure _ (begun_again b g a (sym (c.is_before.ensures b.names b.from) ∙ c.if-is_before.true))
 
 pub returns-in-Full : goal.returns-in-Full
@@ -61,18 +57,16 @@ returns-in-Full c = unsure
 
 pub loop-j-smaller-in-Free : goal.loop-j-smaller-in-Free
 loop-j-smaller-in-Free c =
-    let d = c in
-    let g = found d.in-At.is d.read_some_space-gap.ensures in
-    let a = parts_found d.in-Attribute.is d.read_attribute-parts.ensures in
+    let g = found c.in-At.is c.read_some_space-gap.ensures in
+    let a = parts_found c.in-Attribute.is c.read_attribute-parts.ensures in
     omega (arith, g.low, a.name_low, a.name_high, a.value_low, a.high)
 
 pub loop-j-preserved-in-Free : goal.loop-j-preserved-in-Free
 loop-j-preserved-in-Free c =
-    let d = c in
-    let g = found d.in-At.is d.read_some_space-gap.ensures in
-    let a = parts_found d.in-Attribute.is d.read_attribute-parts.ensures in
-    let (n, b) = d.loop-j.invariant in
-    let t = d.loop-j.table in
+    let g = found c.in-At.is c.read_some_space-gap.ensures in
+    let a = parts_found c.in-Attribute.is c.read_attribute-parts.ensures in
+    let (n, b) = c.loop-j.invariant in
+    let t = c.loop-j.table in
     let p = spot_is c.in-Free.is c.find_spot-spot.ensures in
     let m = c.mix-h.ensures.0 in (
       length-set t _ _ ∙ n,
@@ -82,18 +76,16 @@ loop-j-preserved-in-Free c =
 
 pub loop-j-smaller : goal.loop-j-smaller
 loop-j-smaller c =
-    let d = c in
-    let g = found d.in-At.is d.read_some_space-gap.ensures in
-    let a = parts_found d.in-Attribute.is d.read_attribute-parts.ensures in
+    let g = found c.in-At.is c.read_some_space-gap.ensures in
+    let a = parts_found c.in-Attribute.is c.read_attribute-parts.ensures in
     omega (arith, g.low, a.name_low, a.name_high, a.value_low, a.high)
 
 pub loop-j-preserved : goal.loop-j-preserved
 loop-j-preserved c =
-    let d = c in
-    let g = found d.in-At.is d.read_some_space-gap.ensures in
-    let a = parts_found d.in-Attribute.is d.read_attribute-parts.ensures in
-    let (n, b) = d.loop-j.invariant in
-    let t = d.loop-j.table in
+    let g = found c.in-At.is c.read_some_space-gap.ensures in
+    let a = parts_found c.in-Attribute.is c.read_attribute-parts.ensures in
+    let (n, b) = c.loop-j.invariant in
+    let t = c.loop-j.table in
     let p = spot_is c.in-Marked.is c.find_spot-spot.ensures in
     let m = c.mix-h.ensures.0 in
     (n, begun_more b g a (HasMark t) (sym (c.is_before.ensures b.names b.from) ∙ c.if-is_before.false) (λ n h. h) (rw (← m) (held-marked p)))

@@ -39,10 +39,9 @@ find_attribute-again-requires c = (parts_found c.in-Attribute.is c.read_attribut
 pub returns-in-Quoted : goal.returns-in-Quoted
 unfolding tag_attributes
 returns-in-Quoted c =
-    let d = c in
-    let g = found d.in-At.is d.read_some_space-gap.ensures in
-    let a = parts_found d.in-Attribute.is d.read_attribute-parts.ensures in
-    enough distinct_attributes (d.loop-j.invariant.1 _ (distinct_again g a c.in-Quoted.is c.find_attribute-again.ensures))
+    let g = found c.in-At.is c.read_some_space-gap.ensures in
+    let a = parts_found c.in-Attribute.is c.read_attribute-parts.ensures in
+    enough distinct_attributes (c.loop-j.invariant.1 _ (distinct_again g a c.in-Quoted.is c.find_attribute-again.ensures))
 
 pub read_by_table-told-requires : goal.read_by_table-told-requires
 read_by_table-told-requires c = (parts_found c.in-Attribute.is c.read_attribute-parts.ensures).high
@@ -50,24 +49,21 @@ read_by_table-told-requires c = (parts_found c.in-Attribute.is c.read_attribute-
 pub returns-in-Sure : goal.returns-in-Sure
 unfolding tag_attributes
 returns-in-Sure c =
-    let d = c in
-    let g = found d.in-At.is d.read_some_space-gap.ensures in
-    let a = parts_found d.in-Attribute.is d.read_attribute-parts.ensures in
+    let g = found c.in-At.is c.read_some_space-gap.ensures in
+    let a = parts_found c.in-Attribute.is c.read_attribute-parts.ensures in
     let t = told-sure c.in-Sure.is c.read_by_table-told.ensures in
-    let on = d.loop-j.invariant.1 in
+    let on = c.loop-j.invariant.1 in
     enough distinct_attributes (on _ (distinct_more g a c.in_default-again.is c.find_attribute-again.ensures _ t))
 
 pub loop-j-smaller : goal.loop-j-smaller
 loop-j-smaller c =
-    let d = c in
-    let g = found d.in-At.is d.read_some_space-gap.ensures in
-    let a = parts_found d.in-Attribute.is d.read_attribute-parts.ensures in
+    let g = found c.in-At.is c.read_some_space-gap.ensures in
+    let a = parts_found c.in-Attribute.is c.read_attribute-parts.ensures in
     omega (arith, g.low, a.name_low, a.name_high, a.value_low, a.high)
 
 pub loop-j-preserved : goal.loop-j-preserved
 loop-j-preserved c =
-    let d = c in
-    let g = found d.in-At.is d.read_some_space-gap.ensures in
-    let a = parts_found d.in-Attribute.is d.read_attribute-parts.ensures in
-    let on = d.loop-j.invariant.1 in
+    let g = found c.in-At.is c.read_some_space-gap.ensures in
+    let a = parts_found c.in-Attribute.is c.read_attribute-parts.ensures in
+    let on = c.loop-j.invariant.1 in
     (a.high, λ r h. on r (distinct_more g a c.in_default-again.is c.find_attribute-again.ensures r h))
