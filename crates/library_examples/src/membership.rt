@@ -6,7 +6,6 @@ ghost use Rattle.element.specs.Tags.{TagIn};
 use crate::{put, put_answer};
 use datatype::record::Record;
 use listing::Listed;
-use text::digits::Number;
 use timestamp::tick::Tick;
 
 // What every tick is below.
@@ -82,7 +81,7 @@ fn put_record(s: &[u8], shift: u64)
 fn shift_of(line: &[u8]) -> u64
     ensures { result ≤ 1680 }
 {
-    let Number::Is(n) = text::digits::read(line, 0, 4) else {
+    let Some(n) = text::digits::read(line, 0, 4) else {
         return 1680;
     };
     if n < 1680 { n } else { 1680 }

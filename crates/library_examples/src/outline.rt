@@ -7,8 +7,6 @@ use element::row::{is_child, past_element};
 use element::tag::{Tag, read};
 use markup::scan::{read_some_space, skip_space};
 use markup::tag::{Parts, read_attribute};
-use markup::value::Char;
-use text::Read;
 
 // Two spaces for each level.
 fn write_indent(levels: usize) {
@@ -27,7 +25,7 @@ fn write_value(s: &[u8], at: usize)
     let mut i = start;
     loop {
         let first = element::value::next(s, i);
-        let Char::Is(c, e) = first else {
+        let Some((c, end)) = first else {
             return;
         };
         let byte = [c];
@@ -43,7 +41,7 @@ fn write_attributes(s: &[u8], at: usize)
     let mut i = at;
     loop {
         let gap = read_some_space(s, i);
-        let Read::At(name) = gap else {
+        let Some(name) = gap else {
             return;
         };
         let parts = read_attribute(s, name);

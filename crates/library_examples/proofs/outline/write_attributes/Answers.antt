@@ -13,7 +13,7 @@ pub returns-in_default : goal.returns-in_default
 returns-in_default c = tt
 
 pub read_attribute-parts-requires : goal.read_attribute-parts-requires
-read_attribute-parts-requires c = (found c.in-At.is c.read_some_space-gap.ensures).high
+read_attribute-parts-requires c = (found c.in-Some.is c.read_some_space-gap.ensures).high
 
 pub returns-in_default-parts : goal.returns-in_default-parts
 returns-in_default-parts c = tt
@@ -30,7 +30,7 @@ write_value-requires c = let a = parts_found c.in-Attribute.is c.read_attribute-
 pub loop-name-smaller : goal.loop-name-smaller
 loop-name-smaller c =
     let a = parts_found c.in-Attribute.is c.read_attribute-parts.ensures in
-    omega (arith, (found c.in-At.is c.read_some_space-gap.ensures).low, a.name_low, a.name_high, a.value_low, a.high)
+    omega (arith, (found c.in-Some.is c.read_some_space-gap.ensures).low, a.name_low, a.name_high, a.value_low, a.high)
 
 pub loop-name-preserved : goal.loop-name-preserved
 loop-name-preserved c = (parts_found c.in-Attribute.is c.read_attribute-parts.ensures).high
