@@ -65,10 +65,10 @@ chars-on (no_char p) = no_char_on
 pub on-bounds : {s : List ℕ} {at : ℕ} {p : ℕ × ℕ} → CharOn s at (Some p) → (at < p.1) × (p.1 ≤ length s)
 on-bounds (char_on c e l h) = (l, h)
 
-chars-none : {s : List ℕ} {v : List ℕ} → Chars s v None → v ≡ []
+pub chars-none : {s : List ℕ} {v : List ℕ} → Chars s v None → v ≡ []
 chars-none no_chars = refl
 
-chars-some : {s : List ℕ} {v : List ℕ} {p : ℕ × ℕ} → Chars s v (Some p) → (w : List ℕ) × (v ≡ p.0 ∷ w) × TextAt s p.1 w
+pub chars-some : {s : List ℕ} {v : List ℕ} {p : ℕ × ℕ} → Chars s v (Some p) → (w : List ℕ) × (v ≡ p.0 ∷ w) × TextAt s p.1 w
 chars-some (chars c e w x) = (w, refl, x)
 
 -- what `is_none` answers

@@ -34,17 +34,14 @@ pub fn has_word(s: &[u8], q: usize, w: &[u8]) -> bool
     let from = start(s, q);
     let mut i = from;
     let mut k = 0;
-    loop {
-        let first = next(s, i);
-        let Some((c, end)) = first else {
-            return k == w.len();
-        };
+    while let Some((c, end)) = next(s, i) {
         if (c == b' ') & (k == w.len()) {
             return true;
         }
         k = along(w, k, c);
         i = end;
     }
+    k == w.len()
 }
 
 // Whether a word is a qualifier.
