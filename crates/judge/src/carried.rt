@@ -20,7 +20,7 @@ ghost use Rattle.judge.specs.Carried.{fault_at, is_strange};
 use crate::row::refused_if;
 use datatype::columns::{column_of, own_column};
 use datatype::kind::Kind;
-use datatype::table::{Column, Standing};
+use datatype::table::Standing;
 use element::name::{KNOWN, VALUE};
 use element::tag::{Tag, has};
 use form::Form;
@@ -80,8 +80,7 @@ fn attribute_fault(
             return time;
         }
     }
-    let column = column_of(kind, standing, n);
-    let Column::Takes(form) = column else {
+    let Some(form) = column_of(kind, standing, n) else {
         return Verdict::Refused(Refusal::Shape);
     };
     text_fault(s, place, form, shift)
@@ -101,8 +100,7 @@ pub fn attributes_fault(
     ensures { (depth : ℕ) (v : Element) (after : List ℕ) → TagOf s.now depth v after tag → (kind_meant kind ≡ TS → fault_of time ≡ time_fault shift v.attrs) → fault_of result ≡ first_of (flat_map (attribute_faults shift (standing_meant standing) (kind_meant kind)) v.attrs) }
 {
     let mut so_far = others_fault(tag.others, tag.namespaces, standing);
-    let mut n = 0;
-    while n < KNOWN {
+    for n in 0..KNOWN {
         let place = tag.places[n];
         if place != 0 {
             so_far = first(
@@ -110,31 +108,18 @@ pub fn attributes_fault(
                 attribute_fault(s, n, place, kind, standing, time, shift),
             );
         }
-        n += 1;
     }
     so_far
-}
-
-// Whether a line has a column.
-fn is_column(column: Column) -> bool
-    ensures { result ≡ is_some (form_meant column) }
-{
-    match column {
-        Column::Takes(_) => true,
-        Column::Nothing => false,
-    }
 }
 
 // Whether an element carries an attribute of the line of a kind, by its tag.
 pub fn has_own(tag: Tag, kind: Kind) -> bool
     ensures { (s : List ℕ) (l : List Attribute) → Tells s l tag.places → result ≡ exists (carries l) (line_of (kind_meant kind)).columns }
 {
-    let mut n = 0;
-    while n < KNOWN {
-        if is_column(own_column(kind, n)) & (tag.places[n] != 0) {
+    for n in 0..KNOWN {
+        if own_column(kind, n).is_some() & (tag.places[n] != 0) {
             return true;
         }
-        n += 1;
     }
     false
 }

@@ -1,5 +1,5 @@
 -- What the code knows of the set that an element writes, in the words of the rules ("Sets of times").
-use Rattle.std.specs.Prelude.{ℕ, ◌≤◌, min, ◌≡◌, true, false, List, length, drop}
+use Rattle.std.specs.Prelude.{ℕ, ◌≤◌, min, ◌≡◌, true, false, List, length, drop, Option as StdOption, Some, None, IfSome}
 use Rattle.std.proofs.Math.Option.{Option, none, some}
 use Rattle.rules.specs.Refusal.{Refusal, Outcome, answered, refused, ◌and_then◌}
 use Rattle.rules.specs.Markup.{Attribute, Element}
@@ -44,19 +44,18 @@ pub record Formed (r : Evaluated) : Type 0 where
 
 -- it is the set x, with as many intervals written, 33 for more than 32, and, up to 32, the places that x means
 pub record IsSet (x : Expression) (r : Evaluated) : Type 0 where
-  pub known : r.known ≡ true
   pub count : r.count ≡ min 33 (length (intervals x))
   pub places : r.count ≤ 32 → (y : Place) → is_in (stretches_of r.set) y ≡ meant x y
 
 -- what an answer says of a set: it is known, or it is not
-pub data Says : Outcome Expression → Evaluated → Type 0 where
-  is_set : {x : Expression} {r : Evaluated} → IsSet x r → Says (answered x) r
-  is_unknown : {q : Refusal} {r : Evaluated} → r.known ≡ false → Says (refused q) r
+pub data Says : Outcome Expression → StdOption Evaluated → Type 0 where
+  is_set : {x : Expression} {r : Evaluated} → IsSet x r → Says (answered x) (Some r)
+  is_unknown : {q : Refusal} → Says (refused q) None
 
 -- the set of the members so far: there is none yet, or it is x
-pub data SoFar : Option Expression → Evaluated → Type 0 where
-  none_yet : {r : Evaluated} → r.known ≡ false → r.count ≡ 0 → SoFar none r
-  so_far : {x : Expression} {r : Evaluated} → IsSet x r → SoFar (some x) r
+pub data SoFar : Option Expression → StdOption Evaluated → Type 0 where
+  none_yet : SoFar none None
+  so_far : {x : Expression} {r : Evaluated} → IsSet x r → SoFar (some x) (Some r)
 
 -- it, put together with the next set
 abbrev pub put : PageOp → Option Expression → Expression → Expression
@@ -68,5 +67,5 @@ abbrev pub expressed : Outcome PageInterval → Outcome Expression
 expressed o = o and_then λ i. answered (interval i)
 
 -- the answer on the element of a tag
-abbrev pub SaysElement : List ℕ → Tag → (depth shift : ℕ) → Evaluated → Type 0
-SaysElement s t depth shift r = (v : Element) (after : List ℕ) → TagOf s depth v after t → Says (set_of shift v) r × (r.known ≡ true → after ≡ drop r.end s)
+abbrev pub SaysElement : List ℕ → Tag → (depth shift : ℕ) → StdOption Evaluated → Type 0
+SaysElement s t depth shift r = (v : Element) (after : List ℕ) → TagOf s depth v after t → Says (set_of shift v) r × IfSome r (λ w. after ≡ drop w.end s)

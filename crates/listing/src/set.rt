@@ -1,5 +1,5 @@
 // The set of times that an element writes, put together from the intervals in it.
-ghost use Rattle.std.specs.Prelude.{◌≡◌, false, List, ℕ, ◌≤◌, length, drop};
+ghost use Rattle.std.specs.Prelude.{◌≡◌, List, ℕ, ◌≤◌, length, drop, IfSome};
 ghost use Rattle.rules.specs.Markup.{Element};
 ghost use Rattle.rules.specs.Sets.{Expression, combine};
 ghost use Rattle.rules.specs.Listing.{interval_of};
@@ -8,7 +8,7 @@ ghost use Rattle.element.specs.Tags.{TagOf, TagIn};
 ghost use Rattle.listing.specs.Sets.{shape_of, WritesAs, Formed, IsSet, Says, expressed, SaysElement};
 
 use crate::bound::interval_of;
-use datatype::kind::{Kind, Named, type_at};
+use datatype::kind::{Kind, type_at};
 use element::inside::{Inside, next_inside};
 use element::name::{NULL_FLAVOR, XSI_TYPE};
 use element::tag;
@@ -23,11 +23,10 @@ pub enum Shape {
     Other,
 }
 
-// A set of times: whether all of it is known; and, if it is, how many intervals are written in it, 33 for more than 32, up to 32 its
-// stretches, and the position past the element that writes it.
+// A set of times: how many intervals are written in it, 33 for more than 32, up to 32 its stretches, and the position past the element that
+// writes it.
 #[derive(Clone, Copy)]
 pub struct Evaluated {
-    pub known: bool,
     pub count: usize,
     pub set: Stretches,
     pub end: usize,
@@ -51,44 +50,27 @@ pub fn shape_of(s: &[u8], tag: Tag) -> Shape
     requires { TagIn s.now tag }
     ensures { (d : ℕ) (v : Element) (after : List ℕ) → TagOf s.now d v after tag → WritesAs v.attrs result }
 {
-    let named = type_at(s, tag.places[XSI_TYPE], false);
-    let Named::Is(kind) = named else {
+    let Some(kind) = type_at(s, tag.places[XSI_TYPE], false) else {
         return Shape::Other;
     };
     shape_of_kind(kind)
 }
 
-// A set that is not known, with no interval counted: that of an element that is null, or of a type that writes neither an interval nor
-// members; and that of members before the first is read.
-fn nothing(end: usize) -> Evaluated
-    ensures { Formed result × (result.known ≡ false) × (result.count ≡ 0) × (result.end ≡ end) }
-{
-    let set = interval::empty();
-    Evaluated {
-        known: false,
-        count: 0,
-        set,
-        end,
-    }
-}
-
-// The set of the one interval that the element of a tag writes, where `depth` may be open at once.
-fn of_single(s: &[u8], tag: Tag, depth: usize, shift: u64) -> Evaluated
+// The set of the one interval that the element of a tag writes, where `depth` may be open at once, if it is known.
+fn of_single(s: &[u8], tag: Tag, depth: usize, shift: u64) -> Option<Evaluated>
     requires fact_1 { TagIn s.now tag }
     requires fact_2 { shift ≤ 1680 }
-    ensures formed { Formed result }
-    ensures within { (tag.end ≤ result.end) × (result.end ≤ length s.now) }
-    ensures tells { (v : Element) (after : List ℕ) → TagOf s.now depth v after tag → Says (expressed (interval_of shift v.attrs v.kids)) result × (after ≡ drop result.end s.now) }
+    ensures formed { IfSome result Formed }
+    ensures within { IfSome result (λ r. (tag.end ≤ r.end) × (r.end ≤ length s.now)) }
+    ensures tells { (v : Element) (after : List ℕ) → TagOf s.now depth v after tag → Says (expressed (interval_of shift v.attrs v.kids)) result × IfSome result (λ r. after ≡ drop r.end s.now) }
 {
     let w = interval_of(s, tag, depth, shift);
-    let v = w.interval;
-    let set = interval::single(v);
-    Evaluated {
-        known: w.known,
+    let v = w.interval?;
+    Some(Evaluated {
         count: 1,
-        set,
+        set: interval::single(v),
         end: w.end,
-    }
+    })
 }
 
 // Two sets put together. Where more than 32 intervals are written in them, no operation is done.
@@ -102,7 +84,6 @@ fn join(op: Op, a: Evaluated, b: Evaluated) -> Evaluated
     let count = a.count + b.count;
     if 32 < count {
         return Evaluated {
-            known: true,
             count: 33,
             set: first,
             end: b.end,
@@ -111,7 +92,6 @@ fn join(op: Op, a: Evaluated, b: Evaluated) -> Evaluated
     let second = b.set;
     let set = interval::combine(op, first, second);
     Evaluated {
-        known: true,
         count,
         set,
         end: b.end,
@@ -119,46 +99,39 @@ fn join(op: Op, a: Evaluated, b: Evaluated) -> Evaluated
 }
 
 // The set that the element of a tag writes, where `depth` may be open at once: that of its one interval, or of its members, put together
-// from the first on. It calls itself for the members, with `depth` falling. The first member that is not known ends it. What is returned is
-// always `so_far`: a set is large, and each place that it is made at is one more to copy it from.
-pub fn evaluate(s: &[u8], tag: Tag, depth: usize, shift: u64) -> Evaluated
+// from the first on. It calls itself for the members, with `depth` falling. It is not known where the element is null, or of a type that writes
+// neither an interval nor members, or has no member; and the first member that is not known ends it.
+pub fn evaluate(s: &[u8], tag: Tag, depth: usize, shift: u64) -> Option<Evaluated>
     requires { (TagIn s.now tag) × (shift ≤ 1680) }
-    ensures formed { Formed result }
-    ensures within { (tag.end ≤ result.end) × (result.end ≤ length s.now) }
+    ensures formed { IfSome result Formed }
+    ensures within { IfSome result (λ r. (tag.end ≤ r.end) × (r.end ≤ length s.now)) }
     ensures tells { SaysElement s.now tag depth shift result }
 {
-    let mut so_far = nothing(tag.end);
     if tag::has(tag, NULL_FLAVOR) {
-        return so_far;
+        return None;
     }
-    let shape = shape_of(s, tag);
-    let op = match shape {
-        Shape::Single => {
-            so_far = of_single(s, tag, depth, shift);
-            return so_far;
-        }
+    let op = match shape_of(s, tag) {
+        Shape::Single => return of_single(s, tag, depth, shift),
         Shape::Members(op) => op,
-        Shape::Other => return so_far,
+        Shape::Other => return None,
     };
+    let mut so_far: Option<Evaluated> = None;
+    let mut at = tag.end;
     loop {
-        let next = next_inside(s, tag.full, tag.name, tag.past, depth, so_far.end);
-        match next {
+        match next_inside(s, tag.full, tag.name, tag.past, depth, at) {
             Inside::Child(i) => {
                 let child = tag::read(s, i);
-                let member = evaluate(s, child, depth - 1, shift);
-                if !member.known {
-                    so_far.known = false;
-                    return so_far;
-                }
-                if so_far.count == 0 {
-                    so_far = member;
-                } else {
-                    so_far = join(op, so_far, member);
-                }
+                let member = evaluate(s, child, depth - 1, shift)?;
+                at = member.end;
+                so_far = match so_far {
+                    Some(before) => Some(join(op, before, member)),
+                    None => Some(member),
+                };
             }
             Inside::Past(end) => {
-                so_far.end = end;
-                return so_far;
+                let mut all = so_far?;
+                all.end = end;
+                return Some(all);
             }
         }
     }

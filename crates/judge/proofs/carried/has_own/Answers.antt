@@ -1,7 +1,7 @@
 use mathlib.Core.Path.{sym, ◌∙◌}
 use native.Mathlib.Omega.{arith}
 use Rattle.datatype.specs.Meaning.{kind_meant}
-use Rattle.judge.proofs.OwnColumns.{own_numbers, own_end, own_found, own_passed, own_told}
+use Rattle.judge.proofs.OwnColumns.{own_numbers, own_end, own_found, own_passed, own_told, told}
 use Rattle.judge.proofs.carried.has_own.Goals as goal
 
 pub loop-n-init : goal.loop-n-init
@@ -16,19 +16,13 @@ offset_bounds-tag-n c = omega (arith, c.loop-n-test.true)
 pub bounds-tag-n : goal.bounds-tag-n
 bounds-tag-n c = omega (arith, c.loop-n-test.true)
 
-pub returns-then-is_column-tag : goal.returns-then-is_column-tag
-returns-then-is_column-tag c = λ s l t.
+pub returns-then-is_some-tag : goal.returns-then-is_some-tag
+returns-then-is_some-tag c = λ s l t.
     let n = c.loop-n.n in
     let k = kind_meant c.args.kind in
     let h = c.loop-n-test.true in
-    let e = own_told k l n c.own_column.ensures c.is_column.ensures (t.placed n h) c.if-is_column-tag.true in
+    let e = own_told k l n c.own_column.ensures (c.is_some.ensures ∙ told _) (t.placed n h) c.if-is_some-tag.true in
     sym (own_found k l n h e) ∙ c.loop-n.invariant.1 s l t
-
-pub overflow_add-n : goal.overflow_add-n
-overflow_add-n c = omega (arith, c.loop-n-test.true)
-
-pub loop-n-smaller : goal.loop-n-smaller
-loop-n-smaller c = omega (arith, c.loop-n-test.true)
 
 pub loop-n-preserved : goal.loop-n-preserved
 loop-n-preserved c = (
@@ -37,7 +31,7 @@ loop-n-preserved c = (
       let n = c.loop-n.n in
       let k = kind_meant c.args.kind in
       let h = c.loop-n-test.true in
-      let e = own_told k l n c.own_column.ensures c.is_column.ensures (t.placed n h) c.if-is_column-tag.false in
+      let e = own_told k l n c.own_column.ensures (c.is_some.ensures ∙ told _) (t.placed n h) c.if-is_some-tag.false in
       sym (own_passed k l n h e) ∙ c.loop-n.invariant.1 s l t,
 )
 
