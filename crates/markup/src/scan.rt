@@ -5,7 +5,6 @@ ghost use Rattle.rules.specs.Parsers.{many, byte, literal};
 ghost use Rattle.rules.specs.Markup.{is_space, space, some_space, is_name_start, is_name_byte, name};
 ghost use Rattle.text.specs.Reads.{Good, Reads};
 
-
 // Whether a byte is white space.
 fn is_space(c: u8) -> bool
     ensures { result ≡ is_space c }
