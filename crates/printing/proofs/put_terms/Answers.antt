@@ -22,12 +22,6 @@ put_term-next-requires c =
     let k = row-kinds c.args.list.now (is-proper c.args.list.now c.requires.fact_1) c.loop-k.k (omega (arith, c.term_count-n.ensures, c.loop-k-test.true)) in
     rw c.term_row-row.ensures (record { fact_1 = k.0; fact_2 = k.1; fact_3 = (writable_here c.args.list.now c.loop-k.k c.term_count-n.result c.loop-k-test.true c.loop-k.invariant.2).0; fact_4 = omega (arith, c.loop-k.invariant.1, c.loop-k.invariant.3, left_length c.args.list.now c.loop-k.k c.term_count-n.result c.loop-k-test.true, ap length (left_all c.args.list.now c.term_count-n.result c.term_count-n.ensures), c.requires.fact_2) })
 
-pub overflow_add-k : goal.overflow_add-k
-overflow_add-k c = omega (arith, c.loop-k-test.true, c.term_count-n.ensures, count_most c.args.list.now (is-proper c.args.list.now c.requires.fact_1))
-
-pub loop-k-smaller : goal.loop-k-smaller
-loop-k-smaller c = omega (arith, c.loop-k-test.true)
-
 pub loop-k-preserved : goal.loop-k-preserved
 loop-k-preserved c =
     let p = rw c.term_row-row.ensures at c.put_term-next.ensures in
