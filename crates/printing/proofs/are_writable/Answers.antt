@@ -1,5 +1,5 @@
 use Rattle.lent.proofs.Proper.{proper-length}
-use Rattle.printing.proofs.Records.{count_most, row-kinds, writable_start, writable_more, writable_not, writable_end}
+use Rattle.printing.proofs.Records.{row-kinds, writable_start, writable_more, writable_not, writable_end}
 use mathlib.Core.Path.{sym, ◌∙◌}
 use native.Mathlib.Omega.{arith}
 use Rattle.printing.proofs.are_writable.Goals as goal

@@ -1,7 +1,7 @@
 use mathlib.Core.Path.{ap}
 use Rattle.lent.proofs.Proper.{proper-length}
 use Rattle.writer.proofs.Placing.{placed-none, put_rest}
-use Rattle.printing.proofs.Records.{count_most, row-kinds, writable_here, left_more, left_length, left_none, left_all, is-proper, all_writable}
+use Rattle.printing.proofs.Records.{row-kinds, writable_here, left_more, left_length, left_none, left_all, is-proper, all_writable}
 use mathlib.Core.Path.{refl, sym, ◌∙◌}
 use native.Mathlib.Omega.{arith}
 use lib.ListN.{length}

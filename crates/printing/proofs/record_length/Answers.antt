@@ -1,6 +1,6 @@
 use mathlib.Core.Path.{ap}
 use Rattle.lent.proofs.Proper.{proper-length}
-use Rattle.printing.proofs.Records.{count_most, row-kinds, writable_here, left_length, left_none, left_all, is-proper, all_writable, record_size, record_most}
+use Rattle.printing.proofs.Records.{row-kinds, writable_here, left_length, left_none, left_all, is-proper, all_writable, record_size, record_most}
 use mathlib.Core.Path.{◌≡◌}
 use native.Mathlib.Omega.{arith}
 use lib.ListN.{length}
