@@ -10,10 +10,8 @@ use markup::tag::{Parts, read_attribute};
 
 // Two spaces for each level.
 fn write_indent(levels: usize) {
-    let mut k = 0;
-    while k < levels {
+    for _ in 0..levels {
         put(b"  ");
-        k += 1;
     }
 }
 
