@@ -19,6 +19,7 @@ pub struct Attribute {
 }
 
 // The attribute at a position.
+#[inline(never)]
 pub fn read_attribute(s: &[u8], at: usize) -> Option<Attribute>
     requires { at ≤ length s.now }
     ensures { PartsAt s.now at result }
@@ -37,7 +38,8 @@ pub fn read_attribute(s: &[u8], at: usize) -> Option<Attribute>
 }
 
 // The attribute that stands next from a position on, after white space.
-pub(crate) fn next_attribute(s: &[u8], at: usize) -> Option<Attribute>
+#[inline(always)]
+pub fn next_attribute(s: &[u8], at: usize) -> Option<Attribute>
     requires { at ≤ length s.now }
     ensures { NextAt s.now at result }
 {

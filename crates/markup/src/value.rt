@@ -118,6 +118,7 @@ fn read_text(s: &[u8], at: usize) -> Option<usize>
 }
 
 // The end of the value, with its quotes, at a position.
+#[inline(never)]
 pub fn read_value(s: &[u8], at: usize) -> Option<usize>
     requires { at ≤ length s.now }
     ensures { Reads 1 value s.now at result }
