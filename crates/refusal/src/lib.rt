@@ -2,7 +2,7 @@
 #![tactic(auto)]
 
 ghost use Rattle.std.specs.Prelude.{◌≡◌};
-ghost use Rattle.rules.specs.Refusal.{number as page_number, earlier};
+ghost use Rattle.rules.specs.Refusal.{number as page_number, earlier, first_of, ◌when◌};
 ghost use Rattle.refusal.specs.Meaning.{refusal_of, fault_of};
 
 // The page's refusals, in the order of the ladder: of two, the lesser stands first. No order goes by the number.
@@ -56,6 +56,13 @@ pub fn number(r: Refusal) -> u64
         Refusal::NoRow => 16,
         Refusal::Total => 17,
     }
+}
+
+// A refusal, exactly if something is so.
+pub fn refused_if(refusal: Refusal, so: bool) -> Result<(), Refusal>
+    ensures { fault_of result ≡ first_of (refusal_of refusal when so) }
+{
+    if so { Err(refusal) } else { Ok(()) }
 }
 
 // Of two verdicts the one that comes first on the ladder; an acceptance gives way.
