@@ -33,7 +33,7 @@ pub ticked-snoc : (l : List Interval) (v : Interval) → AllTicked l → Ticked 
 ticked-snoc [] v t a b = (a, b, tt)
 ticked-snoc (w ∷ l) v t a b = (t.0, t.1, ticked-snoc l v t.2 a b)
 
-ticked-at : (l : List Interval) (k : ℕ) → AllTicked l → k < length l → Ticked (get_or l k nowhere).low × Ticked (get_or l k nowhere).high
+pub ticked-at : (l : List Interval) (k : ℕ) → AllTicked l → k < length l → Ticked (get_or l k nowhere).low × Ticked (get_or l k nowhere).high
 ticked-at [] k t h = absurd (omega arith)
 ticked-at (v ∷ l) zero t h = (t.0, t.1)
 ticked-at (v ∷ l) (suc k) t h = ticked-at l k t.2 (omega arith)
@@ -44,9 +44,28 @@ store_pair l k a e h lt =
     rw (store l (2 * k) a h (omega arith), store (l ++ a ∷ []) (2 * k + 1) e (omega (arith, length-snoc l a)) (omega arith))
     (ap padded (append_assoc l (a ∷ []) (e ∷ [])))
 
+-- ---- the items in use, one after another
+module _ (l : List Interval) (k : ℕ) (h : k < length l) where
+  -- the edges of one more item
+  pub edges-stored : length l ≤ 32 → let v = get_or l k nowhere in set (set (padded (edges (take k l))) (2 * k) (low_edge v.low)) (2 * k + 1) (high_edge v.high) ≡ padded (edges (take (k + 1) l))
+  edges-stored most =
+      let v = get_or l k nowhere in
+      let e : take (k + 1) l ≡ take k l ++ v ∷ [] = rw add-one (take-suc l k nowhere h) in
+      let n : length (edges (take k l)) ≡ 2 * k = omega (arith, edges-length (take k l), length-take-le k l (omega arith)) in
+      rw (e, edges-snoc (take k l) v) (store_pair (edges (take k l)) k (low_edge v.low) (high_edge v.high) n (omega arith))
+
+  -- whether a place is in an item, or in one that follows it
+  pub is_in-next : (x : Place) → is_in (map interval_of (drop k l)) x ≡ holds (interval_of (get_or l k nowhere)) x || is_in (map interval_of (drop (k + 1) l)) x
+  unfolding exists
+  is_in-next x = rw (drop-cons l k nowhere h, add-one)
+
+pub is_in-past : (l : List Interval) (k : ℕ) (x : Place) → length l ≤ k → is_in (map interval_of (drop k l)) x ≡ false
+unfolding exists
+is_in-past l k x h = rw (drop_of_length-le l {i = k} h)
+
 -- ---- one set
 module _ (s : Stretches) where
-  used-short : length (used s) ≤ s.count
+  pub used-short : length (used s) ≤ s.count
   used-short = rw length-take (omega arith)
 
   module _ (c : Canonical s) where
@@ -79,23 +98,3 @@ module _ (s : Stretches) where
 
       pub used-ticked : AllTicked (used s) → Ticked (get_or s.items k nowhere).low × Ticked (get_or s.items k nowhere).high
       used-ticked t = rw used-at at (ticked-at (used s) k t (rw used-length h))
-
-      -- the edges of one more item
-      pub edges-stored :
-          let v = get_or s.items k nowhere in
-          set (set (padded (edges (take k s.items))) (2 * k) (low_edge v.low)) (2 * k + 1) (high_edge v.high) ≡ padded (edges (take (k + 1) s.items))
-      edges-stored =
-          let v = get_or s.items k nowhere in
-          let l = take k s.items in
-          let e : take (k + 1) s.items ≡ l ++ v ∷ [] = rw add-one (take-suc s.items k nowhere (omega arith)) in
-          let n : length (edges l) ≡ 2 * k = omega (arith, edges-length l, length-take-le k s.items (omega arith)) in
-          rw (e, edges-snoc l v) (store_pair (edges l) k (low_edge v.low) (high_edge v.high) n (omega arith))
-
-      -- whether a place is in an item, or in one that follows it
-      pub is_in-next : (x : Place) → is_in (map interval_of (drop k (used s))) x ≡ holds (interval_of (get_or s.items k nowhere)) x || is_in (map interval_of (drop (k + 1) (used s))) x
-      unfolding exists
-      is_in-next x = rw (drop-cons (used s) k nowhere (rw used-length h), used-at, add-one)
-
-    pub is_in-past : (k : ℕ) (x : Place) → s.count ≤ k → is_in (map interval_of (drop k (used s))) x ≡ false
-    unfolding exists
-    is_in-past k x h = rw (drop_of_length-le (used s) {i = k} (rw used-length h))

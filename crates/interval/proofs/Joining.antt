@@ -1,5 +1,5 @@
 -- One interval joined to stretches: the edges still rise, and the places are those of both.
-use Rattle.std.proofs.Common.{◌≡◌, ℕ, suc, ◌+◌, ◌<◌, ◌≤◌, min, max, Bool, true, false, ◌&&◌, ◌||◌, ltb, leb, List, [], ◌∷◌, ◌++◌, map, length, get_or, take, drop, set, sym, refl, ap, ◌∙◌, ap₂, ⊎_elim, append_assoc, append-nil, zero-le, add-one, arith, drop_of_length-le, drop-cons, get_or-take, take-suc, take-take, take-suc-set, le-ltb, lt-ltb, le-leb}
+use Rattle.std.proofs.Common.{◌≡◌, ℕ, suc, ◌+◌, ◌<◌, ◌≤◌, min, max, Bool, true, false, ◌&&◌, ◌||◌, ltb, leb, List, [], ◌∷◌, ◌++◌, map, length, get_or, take, drop, set, sym, refl, ap, ◌∙◌, ap₂, ⊎_elim, append_assoc, zero-le, add-one, arith, drop_of_length-le, drop-cons, get_or-take, take-suc, take-take, take-suc-set, le-ltb, lt-ltb, le-leb}
 use borrow.Author.Tests.{lt-leb}
 use Rattle.rules.specs.Basics.{exists}
 use Rattle.rules.specs.Sets.{Place, holds, is_in}
@@ -212,46 +212,36 @@ module _ (v w : Interval) (l : List Interval) where
   unfolding absorb
   absorb_here h = rw (le-ltb (high_edge v.high) (low_edge w.low) h)
 
-module _ (s : Stretches) (long : length s.items ≡ 32) (fits : s.count ≤ 32) where
-  used-end : (k : ℕ) → s.count ≤ k → drop k (used s) ≡ []
-  used-end k h = drop_of_length-le (used s) {i = k} (rw (used-length s long fits) h)
-
-  pub passed-end : (v : Interval) (k : ℕ) → s.count ≤ k → insert v (used s) ≡ take k (used s) ++ insert v (drop k (used s)) → insert v (used s) ≡ take k (used s) ++ absorb v (drop k (used s))
+-- the first k end before v, and v is joined with what follows
+module _ (l : List Interval) (k : ℕ) where
+  pub passed-end : (v : Interval) → length l ≤ k → insert v l ≡ take k l ++ insert v (drop k l) → insert v l ≡ take k l ++ absorb v (drop k l)
   unfolding insert absorb
-  passed-end v k h e = e ∙ rw (used-end k h)
+  passed-end v h e = e ∙ rw (drop_of_length-le l {i = k} h)
 
-  pub join_end : (v : Interval) (k : ℕ) → s.count ≤ k → absorb v (drop k (used s)) ≡ v ∷ drop k (used s)
-  unfolding absorb
-  join_end v k h = rw (used-end k h)
+  module _ (h : k < length l) where
+    items-next : drop k l ≡ get_or l k nowhere ∷ drop (k + 1) l
+    items-next = rw add-one (drop-cons l k nowhere h)
 
-  pub replace_end : (k : ℕ) (m r : List Interval) → s.count ≤ k → m ++ drop k (used s) ≡ r → m ≡ r
-  replace_end k m r h e = sym (append-nil m) ∙ sym (rw (used-end k h)) ∙ e
-
-  pub replace_start : (p q : ℕ) (v : Interval) → p ≤ q → q ≤ s.count → s.count < 32
-      → take (p + 1) (set s.items p v) ++ drop q (used s) ≡ take p (used s) ++ v ∷ drop q (used s)
-  replace_start p q v h k lt =
-      let e : take (p + 1) (set s.items p v) ≡ take p s.items ++ v ∷ [] = rw add-one (take-suc-set s.items p v (omega arith)) in
-      let f : take p (used s) ≡ take p s.items = take-take p s.count s.items (omega arith) in
-      rw (e, f, append_assoc) refl
-
-  module _ (k : ℕ) (h : k < s.count) where
-    used-next : drop k (used s) ≡ get_or s.items k nowhere ∷ drop (k + 1) (used s)
-    used-next = rw (add-one, ← (get_or-take s.count s.items k nowhere h)) (drop-cons (used s) k nowhere (rw (used-length s long fits) h))
-
-    used_more : take (k + 1) (used s) ≡ take k (used s) ++ get_or s.items k nowhere ∷ []
-    used_more = rw (add-one, ← (get_or-take s.count s.items k nowhere h)) (take-suc (used s) k nowhere (rw (used-length s long fits) h))
-
-    pub passed_more : (v : Interval) → high_edge (get_or s.items k nowhere).high < low_edge v.low → insert v (used s) ≡ take k (used s) ++ insert v (drop k (used s))
-        → insert v (used s) ≡ take (k + 1) (used s) ++ insert v (drop (k + 1) (used s))
+    pub passed_more : (v : Interval) → high_edge (get_or l k nowhere).high < low_edge v.low → insert v l ≡ take k l ++ insert v (drop k l)
+        → insert v l ≡ take (k + 1) l ++ insert v (drop (k + 1) l)
     passed_more v lt e =
-        let w = get_or s.items k nowhere in
-        e ∙ rw (used-next, used_more, append_assoc, insert-past v w (drop (k + 1) (used s)) lt) refl
+        let w = get_or l k nowhere in
+        let f : take (k + 1) l ≡ take k l ++ w ∷ [] = rw add-one (take-suc l k nowhere h) in
+        e ∙ rw (items-next, f, append_assoc, insert-past v w (drop (k + 1) l) lt) refl
 
-    pub passed_here : (v : Interval) → low_edge v.low ≤ high_edge (get_or s.items k nowhere).high → insert v (used s) ≡ take k (used s) ++ insert v (drop k (used s))
-        → insert v (used s) ≡ take k (used s) ++ absorb v (drop k (used s))
-    passed_here v le e =
-        let w = get_or s.items k nowhere in
-        e ∙ rw (used-next, insert_here v w (drop (k + 1) (used s)) le) refl
+    pub passed_here : (v : Interval) → low_edge v.low ≤ high_edge (get_or l k nowhere).high → insert v l ≡ take k l ++ insert v (drop k l)
+        → insert v l ≡ take k l ++ absorb v (drop k l)
+    passed_here v le e = e ∙ rw (items-next, insert_here v (get_or l k nowhere) (drop (k + 1) l) le) refl
+
+-- v is joined with the stretches from the k-th on
+module _ (s : Stretches) (long : length s.items ≡ 32) (fits : s.count ≤ 32) (k : ℕ) where
+  pub join_end : (v : Interval) → s.count ≤ k → absorb v (drop k (used s)) ≡ v ∷ drop k (used s)
+  unfolding absorb
+  join_end v h = rw (drop_of_length-le (used s) {i = k} (rw (used-length s long fits) h))
+
+  module _ (h : k < s.count) where
+    used-next : drop k (used s) ≡ get_or s.items k nowhere ∷ drop (k + 1) (used s)
+    used-next = rw (← (get_or-take s.count s.items k nowhere h)) (items-next (used s) k (rw (used-length s long fits) h))
 
     pub join_past : (v : Interval) → high_edge v.high < low_edge (get_or s.items k nowhere).low → absorb v (drop k (used s)) ≡ v ∷ drop k (used s)
     join_past v lt = rw used-next (absorb-past v (get_or s.items k nowhere) (drop (k + 1) (used s)) lt)
@@ -260,11 +250,13 @@ module _ (s : Stretches) (long : length s.items ≡ 32) (fits : s.count ≤ 32) 
         → absorb v (drop k (used s)) ≡ absorb (hull_of v (get_or s.items k nowhere)) (drop (k + 1) (used s))
     join_here v le = rw used-next (absorb_here v (get_or s.items k nowhere) (drop (k + 1) (used s)) le)
 
-    pub replace_more : (n : ℕ) (m r : List Interval) → n < length m → take n m ++ drop k (used s) ≡ r → take (n + 1) (set m n (get_or s.items k nowhere)) ++ drop (k + 1) (used s) ≡ r
-    replace_more n m r lt e =
-        let w = get_or s.items k nowhere in
-        let f : take (n + 1) (set m n w) ≡ take n m ++ w ∷ [] = rw add-one (take-suc-set m n w lt) in
-        rw (f, append_assoc) (rw used-next at e)
+-- v in the p-th place, and the items from the q-th on after it
+pub replace_start : (s : Stretches) (p q : ℕ) (v : Interval) → p ≤ q → q ≤ s.count → s.count < 32 → length s.items ≡ 32
+    → take (p + 1) (set s.items p v) ++ drop q (used s) ≡ take p (used s) ++ v ∷ drop q (used s)
+replace_start s p q v h k lt long =
+    let e : take (p + 1) (set s.items p v) ≡ take p s.items ++ v ∷ [] = rw add-one (take-suc-set s.items p v (omega arith)) in
+    let f : take p (used s) ≡ take p s.items = take-take p s.count s.items (omega arith) in
+    rw (e, f, append_assoc) refl
 
 -- ---- the whole
 module _ (s : Stretches) (c : Canonical s) (v : Interval) (t : Ticked v.low) (u : Ticked v.high) where

@@ -1,16 +1,16 @@
 -- Whether a place is in an item of a set, and the set of one interval.
-use Rattle.std.proofs.Common.{◌≡◌, ℕ, ◌+◌, ◌^◌, ◌<◌, ◌≤◌, Bool, true, false, [], ◌∷◌, map, length, get_or, take, drop, set, sym, refl, ap, ◌∙◌, ⊎_elim, zero-le, arith, take-suc-set, le-ltb, le-leb}
+use Rattle.std.proofs.Common.{◌≡◌, ℕ, ◌+◌, ◌^◌, ◌<◌, ◌≤◌, Bool, true, false, [], ◌∷◌, map, length, get_or, take, drop, set, List, sym, refl, ap, ◌∙◌, ⊎_elim, zero-le, arith, take-suc-set, le-ltb, le-leb}
 use mathlib.Core.Bool.{or-false}
 use borrow.Author.Tests.{lt-leb}
 use Rattle.rules.specs.Basics.{exists}
 use Rattle.rules.specs.Sets.{at, gap_after, holds, is_in}
 use Rattle.interval.specs.declared.Interval.{Interval}
 use Rattle.interval.specs.declared.Stretches.{Stretches}
-use Rattle.interval.specs.Meaning.{interval_of, place_of, Ticked, used, Canonical, Holds}
+use Rattle.interval.specs.Meaning.{interval_of, place_of, Ticked, AllTicked, Holds}
 use Rattle.interval.specs.Edges.{low_edge, high_edge, number_of, is_within}
 use Rattle.interval.proofs.Ranks.{le-or-lt}
 use Rattle.interval.proofs.Places.{spot, spot_tick, spot_gap, holds-edges, rising_canonical}
-use Rattle.interval.proofs.Items.{nowhere, used-ticked, is_in-next}
+use Rattle.interval.proofs.Items.{nowhere, ticked-at, is_in-next}
 
 pub within_place : (v : Interval) → Ticked v.low → Ticked v.high → (n : ℕ) (gap : Bool) → n < 2 ^ 60
     → is_within v (number_of n gap) ≡ holds (interval_of v) (place_of n gap)
@@ -18,16 +18,16 @@ within_place v t u n true h = sym (holds-edges v t u (gap_after _) ∙ ap (is_wi
 within_place v t u n false h = sym (holds-edges v t u (at _) ∙ ap (is_within v) (spot_tick n h))
 
 -- looking for a place: at an item that has it, and at one that does not
-module _ (s : Stretches) (long : length s.items ≡ 32) (c : Canonical s) (n : ℕ) (gap : Bool) (h : n < 2 ^ 60) (k : ℕ) (lt : k < s.count) where
-  found : is_within (get_or s.items k nowhere) (number_of n gap) ≡ holds (interval_of (get_or s.items k nowhere)) (place_of n gap)
-  found = let t = used-ticked s long c.fits k lt c.ticked in within_place (get_or s.items k nowhere) t.0 t.1 n gap h
+module _ (l : List Interval) (t : AllTicked l) (n : ℕ) (gap : Bool) (h : n < 2 ^ 60) (k : ℕ) (lt : k < length l) where
+  found : is_within (get_or l k nowhere) (number_of n gap) ≡ holds (interval_of (get_or l k nowhere)) (place_of n gap)
+  found = let u = ticked-at l k t lt in within_place (get_or l k nowhere) u.0 u.1 n gap h
 
-  pub contains_here : (x : ℕ) → x ≡ number_of n gap → is_within (get_or s.items k nowhere) x ≡ true → is_in (map interval_of (drop k (used s))) (place_of n gap) ≡ true
-  contains_here x e w = is_in-next s long c.fits k lt (place_of n gap) ∙ rw (← found, ← e, w) refl
+  pub contains_here : (x : ℕ) → x ≡ number_of n gap → is_within (get_or l k nowhere) x ≡ true → is_in (map interval_of (drop k l)) (place_of n gap) ≡ true
+  contains_here x e w = is_in-next l k lt (place_of n gap) ∙ rw (← found, ← e, w) refl
 
-  pub contains_next : (x : ℕ) → x ≡ number_of n gap → is_within (get_or s.items k nowhere) x ≡ false
-      → is_in (map interval_of (drop k (used s))) (place_of n gap) ≡ is_in (map interval_of (drop (k + 1) (used s))) (place_of n gap)
-  contains_next x e w = is_in-next s long c.fits k lt (place_of n gap) ∙ rw (← found, ← e, w) refl
+  pub contains_next : (x : ℕ) → x ≡ number_of n gap → is_within (get_or l k nowhere) x ≡ false
+      → is_in (map interval_of (drop k l)) (place_of n gap) ≡ is_in (map interval_of (drop (k + 1) l)) (place_of n gap)
+  contains_next x e w = is_in-next l k lt (place_of n gap) ∙ rw (← found, ← e, w) refl
 
 -- an interval whose first edge is not below its second has no place
 pub outside : (v : Interval) (x : ℕ) → high_edge v.high ≤ low_edge v.low → is_within v x ≡ false

@@ -1,5 +1,5 @@
 -- Rising edges: how many are below a number, and the places within.
-use Rattle.std.proofs.Common.{◌≡◌, ℕ, zero, suc, ◌%◌, ◌<◌, ◌≤◌, Bool, true, false, cond, not, ◌&&◌, ◌||◌, eqb, ltb, leb, ◌⊎◌, List, [], ◌∷◌, ◌++◌, length, get_or, take, replicate, sym, refl, ap, ◌∙◌, inl, inr, ⊎_elim, suc-le-suc, zero-le, arith, le-ltb, lt-ltb, le-leb}
+use Rattle.std.proofs.Common.{◌≡◌, ℕ, zero, suc, ◌%◌, ◌<◌, ◌≤◌, not, ◌&&◌, ◌||◌, eqb, ltb, leb, ◌⊎◌, List, [], ◌∷◌, ◌++◌, length, get_or, take, replicate, sym, refl, ap, ◌∙◌, inl, inr, ⊎_elim, suc-le-suc, zero-le, arith, le-ltb, lt-ltb, le-leb}
 use mathlib.Core.Bool.{not-not}
 use borrow.Author.Tests.{lt-leb}
 use Rattle.interval.specs.Edges.{top, Rising, Climbs, Below, rank, odd, within}
@@ -165,20 +165,3 @@ pub odd-mod : (n : ℕ) → odd n ≡ eqb (n % 2) 1
 odd-mod zero = refl
 odd-mod (suc zero) = refl
 odd-mod (suc (suc n)) = not-not (odd n) ∙ odd-mod n ∙ sym (mod-two n)
-
--- a state that changes exactly if the answer says so
-flips : (o : Bool) → true ≡ cond (not o) (not o) o
-flips true = refl
-flips false = refl
-
-stays : (o : Bool) → false ≡ cond o (not o) o
-stays true = refl
-stays false = refl
-
--- by what a, b and o were found to be
-module _ (f : Bool → Bool → Bool) {a b o p q r h : Bool} (ea : p ≡ a) (eb : q ≡ b) (eo : r ≡ o) (eh : h ≡ f p q) where
-  pub found_in : h ≡ true → f a b ≡ cond (not r) (not o) o
-  found_in t = cc (flips o)
-
-  pub found_out : h ≡ false → f a b ≡ cond r (not o) o
-  found_out t = cc (stays o)

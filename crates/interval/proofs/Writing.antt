@@ -1,11 +1,13 @@
 -- The bytes that list a set, written one interval after another.
-use Rattle.std.proofs.Common.{◌≡◌, ℕ, zero, suc, ◌+◌, ◌-◌, ◌*◌, ◌/◌, ◌%◌, ◌^◌, ◌<◌, ◌≤◌, List, [], ◌∷◌, ◌++◌, map, length, get_or, take, set, sym, refl, ap, ◌∙◌, ⊎_elim, append_assoc, append-nil, add-one, arith, length-append, take-suc, le-ltb, lt-ltb}
+use Rattle.std.proofs.Common.{◌≡◌, ℕ, zero, suc, ◌+◌, ◌*◌, ◌/◌, ◌^◌, ◌<◌, ◌≤◌, List, [], ◌∷◌, ◌++◌, map, length, get_or, take, sym, refl, ap, ◌∙◌, ⊎_elim, append_assoc, append-nil, add-one, arith, length-append, take-suc, le-ltb, lt-ltb}
 use mathlib.Core.List.{flat_map}
+use native.Mathlib.Nat.{div-div-eq-div-mul}
+use Rattle.std.specs.Int.{w64, to_le_bytes}
 use Rattle.rules.specs.Timestamp.{before_start, tick_at}
 use Rattle.rules.specs.Listing.{bound_numbers, list_numbers}
 use Rattle.rules.specs.Services.{low_bytes, eight_bytes, overwrite}
 use Rattle.writer.specs.Placing.{placed}
-use Rattle.writer.proofs.Placing.{placed-none, placed-cons, placed-append, placed-both, overwrite-placed}
+use Rattle.writer.proofs.Placing.{placed-append, placed-both, overwrite-placed}
 use Rattle.interval.specs.declared.Bound.{Bound}
 use Rattle.interval.specs.declared.Bound.TheVariants.{Unbounded, Open, Closed}
 use Rattle.interval.specs.declared.Interval.{Interval}
@@ -20,18 +22,10 @@ unfolding low_bytes
 low_bytes-length zero k = refl
 low_bytes-length (suc n) k = ap suc (low_bytes-length n (k / 256))
 
--- one more byte of eight is stored, and none is left
-pub byte_stored : (at k n : ℕ) (out : List ℕ) → k < 8 → at + k < length out
-    → placed (at + (k + 1)) (low_bytes (8 - (k + 1)) (n / 256)) (set out (at + k) (n % 256)) ≡ placed (at + k) (low_bytes (8 - k) n) out
+-- the bytes of a number, as the library has them
+pub le_bytes : (n : ℕ) → to_le_bytes w64 n ≡ low_bytes 8 n
 unfolding low_bytes
-byte_stored at k n out h r =
-    let e : 8 - k ≡ suc (8 - (k + 1)) = omega arith in
-    let d : at + (k + 1) ≡ at + k + 1 = omega arith in
-    rw (e, d) (sym (placed-cons (at + k) (n % 256) (low_bytes (8 - (k + 1)) (n / 256)) out r))
-
-pub bytes_done : (at k n : ℕ) (out : List ℕ) → 8 ≤ k → placed (at + k) (low_bytes (8 - k) n) out ≡ out
-unfolding low_bytes
-bytes_done at k n out h = let e : 8 - k ≡ 0 = omega arith in rw e (placed-none (at + k) out)
+le_bytes n = simp div-div-eq-div-mul
 
 -- the eight bytes of a tick are those of a difference that wraps
 tick-bytes : (n : ℕ) → n < 2 ^ 60 → eight_bytes (tick_at n) ≡ low_bytes 8 (wrapped n)

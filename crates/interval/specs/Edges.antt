@@ -1,6 +1,6 @@
 -- Sets as rising edges, for the contracts of private functions. An edge is the number of the first place in, or of the first place
 -- out again: tick n has the number 2 n + 1, the gap after it the next one, and the places before all ticks share 0.
-use Rattle.std.specs.Prelude.{◌≡◌, ℕ, zero, suc, ◌+◌, ◌-◌, ◌*◌, ◌^◌, ◌<◌, ◌≤◌, Bool, true, false, cond, not, ◌&&◌, List, [], ◌∷◌, ◌++◌, length, take, replicate, ◌==◌, ◌≢◌, nat_le, nat_lt}
+use Rattle.std.specs.Prelude.{◌≡◌, ℕ, zero, suc, ◌+◌, ◌-◌, ◌*◌, ◌^◌, ◌<◌, ◌≤◌, Bool, true, false, cond, not, ◌&&◌, List, [], ◌∷◌, ◌++◌, length, take, replicate, ◌==◌, nat_le, nat_lt}
 use Rattle.interval.specs.declared.Bound.{Bound}
 use Rattle.interval.specs.declared.Bound.TheVariants.{Unbounded, Open, Closed}
 use Rattle.interval.specs.declared.Interval.{Interval}
@@ -108,8 +108,3 @@ pub record Drawn (n : ℕ) (l : List ℕ) (r : Stretches) : Type 0 where
   pub edges_are : edges (used r) ≡ take (2 * r.count) l
   pub fewest : n ≤ 2 * r.count
   pub most : 2 * r.count ≤ suc n
-
--- the answer says whether two lists are equal
-pub record SaysEqual (l m : List ℕ) (r : Bool) : Type 0 where
-  pub equal : r ≡ true → l ≡ m
-  pub other : r ≡ false → l ≢ m

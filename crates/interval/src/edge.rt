@@ -2,7 +2,7 @@
 // edge is where a set may change: the number of the first place in, or of the first place out again.
 ghost use Rattle.std.specs.Prelude.{◌≡◌, ◌^◌, ◌<◌, ◌≤◌, length};
 ghost use Rattle.interval.specs.Meaning.{Ticked, used, Canonical};
-ghost use Rattle.interval.specs.Edges.{top, low_edge, high_edge, LowAt, HighAt, edges, number_of, is_within, padded, SaysEqual};
+ghost use Rattle.interval.specs.Edges.{top, low_edge, high_edge, LowAt, HighAt, edges, number_of, is_within, padded};
 
 use crate::{Bound, Interval, Stretches};
 
@@ -77,9 +77,7 @@ pub fn is_within(v: Interval, x: u64) -> bool
     requires fact_2 { Ticked v.high }
     ensures { result ≡ is_within v x }
 {
-    let low = v.low;
-    let high = v.high;
-    (low_edge(low) <= x) & (x < high_edge(high))
+    (low_edge(v.low) <= x) & (x < high_edge(v.high))
 }
 
 // The edges of a set, low, high, low and so on, and TOP after them.
@@ -88,29 +86,9 @@ pub fn edge_numbers(s: Stretches) -> [u64; 65]
     ensures { result ≡ padded (edges (used s)) }
 {
     let mut r = [TOP; 65];
-    let mut k = 0;
-    while k < s.count {
-        let v = s.items[k];
-        let low = v.low;
-        let high = v.high;
-        r[2 * k] = low_edge(low);
-        r[2 * k + 1] = high_edge(high);
-        k += 1;
+    for (k, v) in s.items[..s.count].iter().enumerate() {
+        r[2 * k] = low_edge(v.low);
+        r[2 * k + 1] = high_edge(v.high);
     }
     r
-}
-
-// Whether two lists of edges are equal.
-pub fn same_edges(x: &[u64; 65], y: &[u64; 65]) -> bool
-    requires { (length x.now ≡ 65) × (length y.now ≡ 65) }
-    ensures { SaysEqual x.now y.now result }
-{
-    let mut k = 0;
-    while k < 65 {
-        if x[k] != y[k] {
-            return false;
-        }
-        k += 1;
-    }
-    true
 }

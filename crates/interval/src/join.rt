@@ -12,10 +12,7 @@ fn lower(a: Bound, b: Bound) -> Bound
     requires fact_2 { Ticked b }
     ensures { result ≡ lower_of a b }
 {
-    if low_edge(a) <= low_edge(b) {
-        return a;
-    }
-    b
+    if low_edge(a) <= low_edge(b) { a } else { b }
 }
 
 // The higher of two high bounds.
@@ -24,10 +21,7 @@ fn higher(a: Bound, b: Bound) -> Bound
     requires fact_2 { Ticked b }
     ensures { result ≡ higher_of a b }
 {
-    if high_edge(b) <= high_edge(a) {
-        return a;
-    }
-    b
+    if high_edge(b) <= high_edge(a) { a } else { b }
 }
 
 // How many stretches of a set end before an interval, with a place between.
@@ -36,18 +30,13 @@ fn count_before(s: Stretches, v: Interval) -> usize
     requires fact_2 { Ticked v.low }
     ensures { Passed s v result }
 {
-    let low = v.low;
-    let from = low_edge(low);
-    let mut k = 0;
-    while k < s.count {
-        let w = s.items[k];
-        let high = w.high;
-        if from <= high_edge(high) {
+    let from = low_edge(v.low);
+    for (k, w) in s.items[..s.count].iter().enumerate() {
+        if from <= high_edge(w.high) {
             return k;
         }
-        k += 1;
     }
-    k
+    s.count
 }
 
 // An interval joined with stretches that it meets: the whole, and the place of the first stretch after it.
@@ -65,26 +54,18 @@ fn join_from(s: Stretches, p: usize, v: Interval) -> Joint
     requires fact_4 { Ticked v.high }
     ensures { Joins s v p result }
 {
-    let mut low = v.low;
-    let mut high = v.high;
-    let mut k = p;
-    while k < s.count {
+    let mut whole = v;
+    for k in p..s.count {
         let w = s.items[k];
-        let first = w.low;
-        let last = w.high;
-        if high_edge(high) < low_edge(first) {
-            return Joint {
-                whole: Interval { low, high },
-                next: k,
-            };
+        if high_edge(whole.high) < low_edge(w.low) {
+            return Joint { whole, next: k };
         }
-        low = lower(low, first);
-        high = higher(high, last);
-        k += 1;
+        whole.low = lower(whole.low, w.low);
+        whole.high = higher(whole.high, w.high);
     }
     Joint {
-        whole: Interval { low, high },
-        next: k,
+        whole,
+        next: s.count,
     }
 }
 
@@ -94,17 +75,11 @@ fn replace(s: Stretches, p: usize, q: usize, v: Interval) -> Stretches
     requires fact_2 { (p ≤ q) × (q ≤ s.count) }
     ensures { Replaced s p q v result }
 {
+    let count = p + 1 + (s.count - q);
     let mut r = s;
     r.items[p] = v;
-    let mut n = p + 1;
-    let mut k = q;
-    while k < s.count {
-        let w = s.items[k];
-        r.items[n] = w;
-        n += 1;
-        k += 1;
-    }
-    r.count = n;
+    r.items[p + 1..count].copy_from_slice(&s.items[q..s.count]);
+    r.count = count;
     r
 }
 
@@ -116,14 +91,10 @@ pub fn with_interval(s: Stretches, v: Interval) -> Stretches
     requires fact_4 { Ticked v.high }
     ensures { Holds (joined_by s v) (s.count + 1) result }
 {
-    let low = v.low;
-    let high = v.high;
-    if high_edge(high) <= low_edge(low) {
+    if high_edge(v.high) <= low_edge(v.low) {
         return s;
     }
     let p = count_before(s, v);
     let joint = join_from(s, p, v);
-    let whole = joint.whole;
-    let next = joint.next;
-    replace(s, p, next, whole)
+    replace(s, p, joint.next, joint.whole)
 }

@@ -10,14 +10,14 @@ mod join;
 mod list;
 mod merge;
 
-use edge::{TOP, edge_numbers, high_edge, is_within, low_edge, place_number, same_edges};
+use edge::{TOP, edge_numbers, high_edge, is_within, low_edge, place_number};
 pub use join::with_interval;
 pub use list::write_list;
 use merge::{from_edges, merge};
 
 // A bound of an interval. A tick (the page's term) is counted from fourteen hours before 0001-01-01 00:00, so that none is negative.
 // The first variant stays `Unbounded`: the logic takes it for what is past an array's end.
-#[derive(Clone, Copy)]
+#[derive(Clone, Copy, PartialEq, Eq)]
 pub enum Bound {
     Unbounded,
     Open(u64),
@@ -25,7 +25,7 @@ pub enum Bound {
 }
 
 // The places from low to high; crossed bounds mean none.
-#[derive(Clone, Copy)]
+#[derive(Clone, Copy, PartialEq, Eq)]
 pub struct Interval {
     pub low: Bound,
     pub high: Bound,
@@ -67,10 +67,8 @@ pub fn single(v: Interval) -> Stretches
     requires fact_2 { Ticked v.high }
     ensures { Holds (holds (interval_of v)) 1 result }
 {
-    let low = v.low;
-    let high = v.high;
     let mut s = empty();
-    if low_edge(low) < high_edge(high) {
+    if low_edge(v.low) < high_edge(v.high) {
         s.items[0] = v;
         s.count = 1;
         return s;
@@ -104,13 +102,10 @@ pub fn contains(s: Stretches, n: u64, gap: bool) -> bool
     ensures { result ≡ is_in (stretches_of s) (place_of n gap) }
 {
     let x = place_number(n, gap);
-    let mut k = 0;
-    while k < s.count {
-        let v = s.items[k];
-        if is_within(v, x) {
+    for v in &s.items[..s.count] {
+        if is_within(*v, x) {
             return true;
         }
-        k += 1;
     }
     false
 }
@@ -135,8 +130,7 @@ pub fn combine(op: Op, a: Stretches, b: Stretches) -> Stretches
 {
     if let Op::Union = op {
         if b.count == 1 {
-            let v = b.items[0];
-            return with_interval(a, v);
+            return with_interval(a, b.items[0]);
         }
     }
     let x = edge_numbers(a);
@@ -152,7 +146,5 @@ pub fn same(a: Stretches, b: Stretches) -> bool
     requires fact_2 { Canonical b }
     ensures { SaysSame a b result }
 {
-    let x = edge_numbers(a);
-    let y = edge_numbers(b);
-    same_edges(&x, &y)
+    a.items[..a.count] == b.items[..b.count]
 }

@@ -9,6 +9,7 @@ ghost use Rattle.interval.specs.Writing.{kind_of, bits_of, bound_bytes, interval
 
 use crate::{Bound, Interval, Stretches};
 use timestamp::tick::Tick;
+use writer::put;
 
 // A bound's kind in the lent list.
 fn kind(b: Bound) -> u64
@@ -28,8 +29,7 @@ fn tick_bits(b: Bound) -> u64
 {
     match b {
         Bound::Unbounded => 0,
-        Bound::Open(t) => std::num::wrapping_sub_u64(t, Tick::ORIGIN.0),
-        Bound::Closed(t) => std::num::wrapping_sub_u64(t, Tick::ORIGIN.0),
+        Bound::Open(t) | Bound::Closed(t) => t.wrapping_sub(Tick::ORIGIN.0),
     }
 }
 
@@ -38,13 +38,7 @@ fn write_number(out: &mut [u8], at: usize, n: u64)
     requires { at + 8 ≤ length out.old }
     ensures { out.new ≡ placed at (low_bytes 8 n) out.old }
 {
-    let mut rest = n;
-    let mut k = 0;
-    while k < 8 {
-        out[at + k] = (rest % 256) as u8;
-        rest = rest / 256;
-        k += 1;
-    }
+    put(out, at, &n.to_le_bytes());
 }
 
 // Writes a bound: its kind and its tick.
@@ -64,10 +58,8 @@ fn write_interval(out: &mut [u8], at: usize, v: Interval)
     requires fact_3 { at + 32 ≤ length out.old }
     ensures { out.new ≡ placed at (interval_bytes v) out.old }
 {
-    let low = v.low;
-    let high = v.high;
-    write_bound(out, at, low);
-    write_bound(out, at + 16, high);
+    write_bound(out, at, v.low);
+    write_bound(out, at + 16, v.high);
 }
 
 // Writes the list of a set's stretches, four numbers each. What lies beyond it stays unchanged.
@@ -76,10 +68,7 @@ pub fn write_list(s: Stretches, out: &mut [u8])
     requires fact_2 { 32 * s.count ≤ length out.old }
     ensures { out.new ≡ overwrite out.old (flat_map eight_bytes (list_numbers (stretches_of s))) }
 {
-    let mut k = 0;
-    while k < s.count {
-        let v = s.items[k];
-        write_interval(out, 32 * k, v);
-        k += 1;
+    for (k, v) in s.items[..s.count].iter().enumerate() {
+        write_interval(out, 32 * k, *v);
     }
 }

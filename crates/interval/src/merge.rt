@@ -18,11 +18,7 @@ fn is_odd(n: usize) -> bool
 fn changes(op: Op, i: usize, j: usize, n: usize) -> bool
     ensures { page_apply (op_of op) (odd i) (odd j) ≡ (if result then not (odd n) else odd n) }
 {
-    if apply(op, is_odd(i), is_odd(j)) {
-        !is_odd(n)
-    } else {
-        is_odd(n)
-    }
+    apply(op, is_odd(i), is_odd(j)) != is_odd(n)
 }
 
 // The next edge after i edges of one set and j of the other.
@@ -30,9 +26,7 @@ fn next_edge(a: &[u64; 65], i: usize, b: &[u64; 65], j: usize) -> u64
     requires { (i < 65) × (j < 65) }
     ensures { result ≡ min (slice_index a.now i) (slice_index b.now j) }
 {
-    let x = a[i];
-    let y = b[j];
-    if x <= y { x } else { y }
+    a[i].min(b[j])
 }
 
 // How many edges are passed at m, of which i are passed before it.
@@ -72,13 +66,12 @@ pub fn from_edges(e: &[u64; 65], n: usize) -> Stretches
     ensures { Drawn n e.now result }
 {
     let mut s = empty();
-    let mut k = 0;
-    while 2 * k < n {
+    let count = n.div_ceil(2);
+    for k in 0..count {
         let low = low_bound(e[2 * k]);
         let high = high_bound(e[2 * k + 1]);
         s.items[k] = Interval { low, high };
-        k += 1;
     }
-    s.count = k;
+    s.count = count;
     s
 }

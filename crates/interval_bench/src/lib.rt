@@ -35,10 +35,8 @@ fn joined(ticks: &[u64], from: usize, last: usize) -> Stretches
     ensures { Holds (meant (joined_to ticks.now from last)) (last + 1) result }
 {
     let mut s = interval::single(piece(ticks, from));
-    let mut k = 0;
-    while k < last {
-        k += 1;
-        s = interval::with_interval(s, piece(ticks, from + k + k));
+    for k in 0..last {
+        s = interval::with_interval(s, piece(ticks, from + 2 * (k + 1)));
     }
     s
 }
@@ -65,11 +63,8 @@ pub extern "C" fn interval_bench_pairs(ticks: &[u64], times: u64) -> u64
     let a = joined(ticks, 0, 15);
     let b = joined(ticks, 32, 15);
     let mut count: usize = 0;
-    let mut k: u64 = 0;
-    while k < times {
-        let r = interval::combine(operation(k), a, b);
-        count = r.count;
-        k += 1;
+    for k in 0..times {
+        count = interval::combine(operation(k), a, b).count;
     }
     count as u64
 }
@@ -83,11 +78,8 @@ pub extern "C" fn interval_bench_joins(ticks: &[u64], times: u64) -> u64
         return 0;
     }
     let mut count: usize = 0;
-    let mut k: u64 = 0;
-    while k < times {
-        let r = joined(ticks, 0, 31);
-        count = r.count;
-        k += 1;
+    for _ in 0..times {
+        count = joined(ticks, 0, 31).count;
     }
     count as u64
 }

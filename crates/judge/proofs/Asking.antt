@@ -2,7 +2,6 @@
 use Prim.Native.Nat.{ℕ}
 use mathlib.Core.Path.{◌≡◌, refl, sym, ◌∙◌, ap}
 use mathlib.Core.Option.{Option, none, some}
-use Rattle.std.specs.Prelude.{Option as StdOption, Some, None}
 use Rattle.rules.specs.Basics.{if_some}
 use Rattle.rules.specs.Refusal.{TYPE, SHAPE, first_of}
 use Rattle.rules.specs.Markup.{Element}
@@ -11,7 +10,7 @@ use Rattle.rules.specs.Judge.{element_faults}
 use Rattle.refusal.specs.Meaning.{refusal_of, fault_of}
 use Rattle.refusal.specs.declared.Refusal.{Refusal as CodeRefusal}
 use Rattle.refusal.specs.declared.Refusal.TheVariants.{«Type», Shape}
-use Rattle.refusal.specs.declared.Verdict.TheVariants.{Accepted}
+use Rattle.std.specs.Prelude.{Option as StdOption, Some, None, Ok}
 use Rattle.datatype.specs.Meaning.{type_meant}
 use Rattle.datatype.specs.Said.{nothing}
 use Rattle.datatype.specs.Tables.{Step, step_meant}
@@ -32,7 +31,7 @@ module _ (shift stage : ℕ) (v : Element) where
 
   -- a member of a set
   pub asked_member : {r : StdOption Kind} {k : Kind} (to : ℕ) → r ≡ Some k → type_meant r ≡ type_among member_types v.attrs
-      → AskedAs shift (some (record { kind = typed; to = to })) stage v (record { fault = Accepted; kind = k; standing = Member; stage = to })
+      → AskedAs shift (some (record { kind = typed; to = to })) stage v (record { fault = Ok tt; kind = k; standing = Member; stage = to })
   asked_member to z h = let e = sym h ∙ ap type_meant z in record { fault = rw e; said = rw e; to = refl }
 
   pub asked_none : {r : StdOption Kind} (to : ℕ) (a : Asked) → r ≡ None → type_meant r ≡ type_among member_types v.attrs
@@ -42,7 +41,7 @@ module _ (shift stage : ℕ) (v : Element) where
 
   -- by the step
   module _ (o : Option Step) {n : StdOption CodeStep} (is : step_meant n ≡ o) where
-    pub asked_inside : {k : Kind} {to : ℕ} → n ≡ Some (Always k to) → AskedAs shift o stage v (record { fault = Accepted; kind = k; standing = Inside; stage = to })
+    pub asked_inside : {k : Kind} {to : ℕ} → n ≡ Some (Always k to) → AskedAs shift o stage v (record { fault = Ok tt; kind = k; standing = Inside; stage = to })
     asked_inside z = rw (← is, z) (record { fault = refl; said = refl; to = refl })
 
     pub asked_typed : {to : ℕ} (a : Asked) → n ≡ Some (Typed to) → AskedAs shift (some (record { kind = typed; to = to })) stage v a → AskedAs shift o stage v a

@@ -11,21 +11,13 @@ use timestamp::tick::Tick;
 // What every tick is below.
 const MOST: u64 = 1152921504606846976;
 
-fn wide(byte: u8) -> u64 {
-    byte as u64
-}
-
 // The number in eight bytes at a position, lowest first.
 fn number_at(list: &[u8], at: usize) -> u64
     requires { at + 8 ≤ length list.now }
 {
-    let mut n: u64 = 0;
-    let mut k = 8;
-    while 0 < k {
-        k -= 1;
-        n = (n << 8) | wide(list[at + k]);
-    }
-    n
+    let mut bytes = [0; 8];
+    bytes.copy_from_slice(&list[at..at + 8]);
+    u64::from_le_bytes(bytes)
 }
 
 // Prints whether a tick and the gap after it are meant.
@@ -45,18 +37,11 @@ fn put_places(s: &[u8], held: Record, shift: u64, list: &[u8], bounds: usize)
     requires fact_2 { shift ≤ 1680 }
     requires fact_3 { 16 * bounds ≤ length list.now }
 {
-    let mut k = 0;
-    while k < bounds {
+    for k in 0..bounds {
         if number_at(list, 16 * k) != 0 {
             let tick = number_at(list, 16 * k + 8);
-            put_place(
-                s,
-                held,
-                shift,
-                std::num::wrapping_add_u64(tick, Tick::ORIGIN.0),
-            );
+            put_place(s, held, shift, tick.wrapping_add(Tick::ORIGIN.0));
         }
-        k += 1;
     }
 }
 
@@ -83,7 +68,7 @@ fn shift_of(line: &[u8]) -> u64
     let Number::Is(n) = text::digits::read(line, 0, 4) else {
         return 1680;
     };
-    if n < 1680 { n } else { 1680 }
+    n.min(1680)
 }
 
 // Prints a line for the record of a line.
@@ -95,28 +80,10 @@ fn show_line(line: &[u8]) {
     put(b"\n");
 }
 
-// Where the line ends that stands from a position on.
-fn line_end(s: &[u8], at: usize) -> usize
-    requires { at ≤ length s.now }
-    ensures { (at ≤ result) × (result ≤ length s.now) }
-{
-    let mut e = at;
-    while e < s.len() {
-        if s[e] == b'\n' {
-            return e;
-        }
-        e += 1;
-    }
-    e
-}
-
 // Prints a line for each line.
 fn show_lines(s: &[u8]) {
-    let mut i = 0;
-    while i < s.len() {
-        let e = line_end(s, i);
-        show_line(&s[i..e]);
-        i = e + 1;
+    for line in s.split(|b| *b == b'\n') {
+        show_line(line);
     }
 }
 

@@ -12,10 +12,8 @@ use text::Read;
 
 // Two spaces for each level.
 fn write_indent(levels: usize) {
-    let mut k = 0;
-    while k < levels {
+    for _ in 0..levels {
         put(b"  ");
-        k += 1;
     }
 }
 

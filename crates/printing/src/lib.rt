@@ -70,13 +70,11 @@ fn are_writable(list: &[u8]) -> bool
     ensures { result ≡ every is_writable_stretch (listed list.now) }
 {
     let n = term_count(list);
-    let mut k = 0;
-    while k < n {
+    for k in 0..n {
         let row = term_row(list, k);
         if !is_writable_row(row) {
             return false;
         }
-        k += 1;
     }
     true
 }
@@ -98,11 +96,9 @@ pub fn record_length(list: &[u8]) -> usize
 {
     let n = term_count(list);
     let mut total = 31;
-    let mut k = 0;
-    while k < n {
+    for k in 0..n {
         let row = term_row(list, k);
         total += term_size(row);
-        k += 1;
     }
     total
 }
@@ -115,11 +111,9 @@ fn put_terms(out: &mut [u8], at: usize, list: &[u8]) -> usize
 {
     let n = term_count(list);
     let mut next = at;
-    let mut k = 0;
-    while k < n {
+    for k in 0..n {
         let row = term_row(list, k);
         next = put_term(out, next, row);
-        k += 1;
     }
     next
 }

@@ -4,8 +4,8 @@ use mathlib.Core.Path.{◌≡◌, refl, sym, ap, ap₂, ◌∙◌}
 use mathlib.Core.List.{List, [], ◌∷◌, ◌++◌, append_assoc, append-nil}
 use native.Mathlib.Omega.{arith}
 use native.Mathlib.Numerals.{add-one}
-use lib.ListN.{length, drop, get_or, set, take-append-drop, length-set, length-append, drop_of_length-le}
-use lib.Seq.{take-suc-set, drop-set-lt, drop-cons}
+use lib.ListN.{length, set, take-append-drop, length-set, length-append}
+use lib.Seq.{take-suc-set, drop-set-lt}
 use Rattle.rules.specs.Basics.{digits_of}
 use Rattle.rules.specs.Services.{overwrite}
 use Rattle.writer.specs.Placing.{placed, Put}
@@ -57,17 +57,6 @@ put_both {at} {r} {q} {a} {b} {x} {y} {z} p s =
       next_is = omega (arith, p.next_is, s.next_is);
       bytes_are = s.bytes_are ∙ put_rest b p;
     }
-
--- one more byte of a piece is stored, and none is left
-pub byte_put : (at k : ℕ) (piece out : List ℕ) → k < length piece → at + k < length out
-    → placed (at + (k + 1)) (drop (k + 1) piece) (set out (at + k) (get_or piece k 0)) ≡ placed (at + k) (drop k piece) out
-byte_put at k piece out h r =
-    let d : at + (k + 1) ≡ at + k + 1 = omega arith in
-    let e : k + 1 ≡ suc k = omega arith in
-    rw (d, drop-cons piece k 0 h, e) (sym (placed-cons (at + k) (get_or piece k 0) (drop (suc k) piece) out r))
-
-pub bytes-put : (at k : ℕ) (piece out : List ℕ) → length piece ≤ k → placed (at + k) (drop k piece) out ≡ out
-bytes-put at k piece out h = rw (drop_of_length-le piece h) (placed-none (at + k) out)
 
 -- two digits are two bytes stored
 pub pair_put : (at n : ℕ) (out : List ℕ) → at + 2 ≤ length out → n < 100 → set (set out at (48 + n / 10)) (at + 1) (48 + n % 10) ≡ placed at (digits_of 2 n) out

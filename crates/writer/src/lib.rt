@@ -10,12 +10,9 @@ pub fn put(out: &mut [u8], at: usize, piece: &[u8]) -> usize
     requires { at + length piece.now ≤ length out.old }
     ensures { Put at piece.now out.old result out.new }
 {
-    let mut k = 0;
-    while k < piece.len() {
-        out[at + k] = piece[k];
-        k += 1;
-    }
-    at + piece.len()
+    let end = at + piece.len();
+    out[at..end].copy_from_slice(piece);
+    end
 }
 
 // Writes a number below 100 as two digits.

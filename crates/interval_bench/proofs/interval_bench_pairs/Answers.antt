@@ -19,19 +19,13 @@ pub joined-b-requires : goal.joined-b-requires
 joined-b-requires c = record { fact_1 = omega arith; fact_2 = omega (arith, c.if-ticks-lt64.false) }
 
 pub loop-k-init : goal.loop-k-init
-loop-k-init c = (omega arith, refl)
+loop-k-init c = refl
 
 pub operation-requires : goal.operation-requires
 operation-requires c = tt
 
-pub combine-r-requires : goal.combine-r-requires
-combine-r-requires c = record { fact_1 = c.joined-a.ensures.canonical; fact_2 = c.joined-b.ensures.canonical; fact_3 = omega (arith, c.joined-a.ensures.short, c.joined-b.ensures.short) }
-
-pub overflow_add-k : goal.overflow_add-k
-overflow_add-k c = omega (arith, c.loop-k-test.true)
-
-pub loop-k-smaller : goal.loop-k-smaller
-loop-k-smaller c = omega (arith, c.loop-k-test.true)
+pub combine-count-requires : goal.combine-count-requires
+combine-count-requires c = record { fact_1 = c.joined-a.ensures.canonical; fact_2 = c.joined-b.ensures.canonical; fact_3 = omega (arith, c.joined-a.ensures.short, c.joined-b.ensures.short) }
 
 pub loop-k-preserved : goal.loop-k-preserved
 loop-k-preserved c =
@@ -39,11 +33,11 @@ loop-k-preserved c =
     let d = joined_to l 0 15 in
     let e = joined_to l 32 15 in
     let o = operation_at c.loop-k.k in
-    let g : length c.combine-r.result.items ≡ 32 = search length_mapped in
-    let h = applied-meant c.operation.result o c.joined-a.result c.joined-b.result c.combine-r.result d e 16 16 _ c.operation.ensures c.joined-a.ensures c.joined-b.ensures c.combine-r.ensures in
-    (omega (arith, c.loop-k-test.true), rw (add-one c.loop-k.k) (count-meant (combine o d e) _ c.combine-r.result g h))
+    let g : length c.combine-count.result.items ≡ 32 = search length_mapped in
+    let h = applied-meant c.operation.result o c.joined-a.result c.joined-b.result c.combine-count.result d e 16 16 _ c.operation.ensures c.joined-a.ensures c.joined-b.ensures c.combine-count.ensures in
+    rw (add-one c.loop-k.k) (count-meant (combine o d e) _ c.combine-count.result g h)
 
 pub returns : goal.returns
 returns c =
     let e : c.loop-k.k ≡ c.args.times = omega (arith, c.loop-k-test.false) in
-    rw (le-ltb (length c.args.ticks.now) 64 c.if-ticks-lt64.false) (rw e at c.loop-k.invariant.1)
+    rw (le-ltb (length c.args.ticks.now) 64 c.if-ticks-lt64.false) (rw e at c.loop-k.invariant)

@@ -39,12 +39,6 @@ returns-then-not-are_parted c =
     let l = c.loop-k in
     sym (ap not (next_unparted s (length s / 32) l.k c.loop-k-test.true l.row l.invariant.2 c.read_row-next.result c.read_row-next.ensures (not-false _ (sym c.are_parted.ensures ∙ c.if-not-are_parted.true))))
 
-pub overflow_add-k : goal.overflow_add-k
-overflow_add-k c = omega arith
-
-pub loop-k-smaller : goal.loop-k-smaller
-loop-k-smaller c = omega arith
-
 pub loop-k-preserved : goal.loop-k-preserved
 loop-k-preserved c =
     let s = c.args.list.now in

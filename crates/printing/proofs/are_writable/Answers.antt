@@ -1,5 +1,5 @@
 use Rattle.lent.proofs.Proper.{proper-length}
-use Rattle.printing.proofs.Records.{count_most, row-kinds, writable_start, writable_more, writable_not, writable_end}
+use Rattle.printing.proofs.Records.{row-kinds, writable_start, writable_more, writable_not, writable_end}
 use mathlib.Core.Path.{sym, ◌∙◌}
 use native.Mathlib.Omega.{arith}
 use Rattle.printing.proofs.are_writable.Goals as goal
@@ -18,12 +18,6 @@ is_writable_row-requires c = let all = row-kinds c.args.list.now c.requires c.lo
 
 pub returns-then-not-is_writable_row : goal.returns-then-not-is_writable_row
 returns-then-not-is_writable_row c = sym (writable_not c.args.list.now c.loop-k.k c.term_count-n.result c.loop-k-test.true (sym (rw c.term_row-row.ensures at c.is_writable_row.ensures) ∙ c.if-not-is_writable_row.true)) ∙ c.loop-k.invariant.1
-
-pub overflow_add-k : goal.overflow_add-k
-overflow_add-k c = omega (arith, c.loop-k-test.true, c.term_count-n.ensures, count_most c.args.list.now c.requires)
-
-pub loop-k-smaller : goal.loop-k-smaller
-loop-k-smaller c = omega (arith, c.loop-k-test.true)
 
 pub loop-k-preserved : goal.loop-k-preserved
 loop-k-preserved c = (omega (arith, c.loop-k-test.true), sym (writable_more c.args.list.now c.loop-k.k c.term_count-n.result c.loop-k-test.true (sym (rw c.term_row-row.ensures at c.is_writable_row.ensures) ∙ c.if-not-is_writable_row.false)) ∙ c.loop-k.invariant.1)

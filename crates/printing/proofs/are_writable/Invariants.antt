@@ -9,6 +9,3 @@ use Rattle.printing.proofs.are_writable.Given as goal
 
 abbrev pub invariant-loop-k : goal.invariant-loop-k
 invariant-loop-k l = (l.k ≤ l.n) × (every is_writable_stretch (terms_from l.list l.k (l.n - l.k)) ≡ every is_writable_stretch (listed l.list))
-
-abbrev pub decreases-loop-k : goal.decreases-loop-k
-decreases-loop-k l = l.n - l.k

@@ -1,7 +1,7 @@
 use mathlib.Core.Path.{ap}
 use Rattle.lent.proofs.Proper.{proper-length}
 use Rattle.writer.proofs.Placing.{placed-none, put_rest}
-use Rattle.printing.proofs.Records.{count_most, row-kinds, writable_here, left_more, left_length, left_none, left_all, is-proper, all_writable}
+use Rattle.printing.proofs.Records.{row-kinds, writable_here, left_more, left_length, left_none, left_all, is-proper, all_writable}
 use mathlib.Core.Path.{refl, sym, ◌∙◌}
 use native.Mathlib.Omega.{arith}
 use lib.ListN.{length}
@@ -21,12 +21,6 @@ pub put_term-next-requires : goal.put_term-next-requires
 put_term-next-requires c =
     let k = row-kinds c.args.list.now (is-proper c.args.list.now c.requires.fact_1) c.loop-k.k (omega (arith, c.term_count-n.ensures, c.loop-k-test.true)) in
     rw c.term_row-row.ensures (record { fact_1 = k.0; fact_2 = k.1; fact_3 = (writable_here c.args.list.now c.loop-k.k c.term_count-n.result c.loop-k-test.true c.loop-k.invariant.2).0; fact_4 = omega (arith, c.loop-k.invariant.1, c.loop-k.invariant.3, left_length c.args.list.now c.loop-k.k c.term_count-n.result c.loop-k-test.true, ap length (left_all c.args.list.now c.term_count-n.result c.term_count-n.ensures), c.requires.fact_2) })
-
-pub overflow_add-k : goal.overflow_add-k
-overflow_add-k c = omega (arith, c.loop-k-test.true, c.term_count-n.ensures, count_most c.args.list.now (is-proper c.args.list.now c.requires.fact_1))
-
-pub loop-k-smaller : goal.loop-k-smaller
-loop-k-smaller c = omega (arith, c.loop-k-test.true)
 
 pub loop-k-preserved : goal.loop-k-preserved
 loop-k-preserved c =

@@ -12,6 +12,3 @@ use Rattle.printing.proofs.put_terms.Given as goal
 
 abbrev pub invariant-loop-k : goal.invariant-loop-k
 invariant-loop-k l = (l.k ≤ l.n) × (length l.out ≡ length l.initial.out) × (every is_writable_stretch (terms_from l.list l.k (l.n - l.k)) ≡ true) × (l.next + length (left l.list l.k l.n) ≡ l.at + length (left l.list 0 l.n)) × (placed l.next (left l.list l.k l.n) l.out ≡ placed l.at (left l.list 0 l.n) l.initial.out)
-
-abbrev pub decreases-loop-k : goal.decreases-loop-k
-decreases-loop-k l = l.n - l.k

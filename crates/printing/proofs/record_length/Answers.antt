@@ -1,6 +1,6 @@
 use mathlib.Core.Path.{ap}
 use Rattle.lent.proofs.Proper.{proper-length}
-use Rattle.printing.proofs.Records.{count_most, row-kinds, writable_here, left_length, left_none, left_all, is-proper, all_writable, record_size, record_most}
+use Rattle.printing.proofs.Records.{row-kinds, writable_here, left_length, left_none, left_all, is-proper, all_writable, record_size, record_most}
 use mathlib.Core.Path.{◌≡◌}
 use native.Mathlib.Omega.{arith}
 use lib.ListN.{length}
@@ -22,12 +22,6 @@ term_size-total-requires c = let k = row-kinds c.args.list.now (is-proper c.args
 
 pub overflow_add-total : goal.overflow_add-total
 overflow_add-total c = omega (arith, rw c.term_row-row.ensures at c.term_size-total.ensures, c.loop-k.invariant.2, left_length c.args.list.now c.loop-k.k c.term_count-n.result c.loop-k-test.true, record_most c.args.list.now c.requires)
-
-pub overflow_add-k : goal.overflow_add-k
-overflow_add-k c = omega (arith, c.loop-k-test.true, c.term_count-n.ensures, count_most c.args.list.now (is-proper c.args.list.now c.requires))
-
-pub loop-k-smaller : goal.loop-k-smaller
-loop-k-smaller c = omega (arith, c.loop-k-test.true)
 
 pub loop-k-preserved : goal.loop-k-preserved
 loop-k-preserved c = (

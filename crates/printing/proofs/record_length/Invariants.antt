@@ -12,6 +12,3 @@ use Rattle.printing.proofs.record_length.Given as goal
 
 abbrev pub invariant-loop-k : goal.invariant-loop-k
 invariant-loop-k l = (l.k ≤ l.n) × (every is_writable_stretch (terms_from l.list l.k (l.n - l.k)) ≡ true) × (l.total + length (left l.list l.k l.n) ≡ length (record_text (listed l.list)))
-
-abbrev pub decreases-loop-k : goal.decreases-loop-k
-decreases-loop-k l = l.n - l.k

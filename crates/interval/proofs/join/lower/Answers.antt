@@ -7,5 +7,5 @@ use Rattle.interval.proofs.join.lower.Goals as goal
 pub returns-then-low_edge : goal.returns-then-low_edge
 returns-then-low_edge c = rw (le-leb (low_edge c.args.a) (low_edge c.args.b) (omega (arith, c.low_edge.ensures, c.low_edge-2.ensures, c.if-low_edge.true)))
 
-pub returns : goal.returns
-returns c = rw (lt-leb (low_edge c.args.a) (low_edge c.args.b) (omega (arith, c.low_edge.ensures, c.low_edge-2.ensures, c.if-low_edge.false)))
+pub returns-else-low_edge : goal.returns-else-low_edge
+returns-else-low_edge c = rw (lt-leb (low_edge c.args.a) (low_edge c.args.b) (omega (arith, c.low_edge.ensures, c.low_edge-2.ensures, c.if-low_edge.false)))

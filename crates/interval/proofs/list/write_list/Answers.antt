@@ -1,45 +1,27 @@
-use Rattle.std.proofs.Common.{◌≡◌, length, refl, ◌∙◌, arith, rules}
-use Rattle.interval.proofs.Items.{length_mapped, used-ticked}
+use Rattle.std.proofs.Common.{◌*◌, ◌≤◌, length, ◌∙◌, arith, take_all}
+use Rattle.interval.specs.Meaning.{used}
+use Rattle.interval.proofs.Items.{ticked-at, used-short}
 use Rattle.interval.proofs.Writing.{nothing_written, written_more, length_more}
 use Rattle.interval.proofs.list.write_list.Goals as goal
 
 pub loop-k-init : goal.loop-k-init
-loop-k-init c = let n = nothing_written c.args.out.now in (omega arith, refl, n.0, n.1)
-
-pub offset_bounds-s-k : goal.offset_bounds-s-k
-offset_bounds-s-k c = omega (arith, c.requires.fact_1.fits)
-
-pub bounds-s-k : goal.bounds-s-k
-bounds-s-k c = omega (arith, c.requires.fact_1.fits)
-
-pub overflow_mul-k : goal.overflow_mul-k
-overflow_mul-k c = omega (arith, c.requires.fact_1.fits)
+loop-k-init c = nothing_written c.args.out.now
 
 pub write_interval-requires : goal.write_interval-requires
 write_interval-requires c =
-    let g : length c.args.s.items ≡ 32 = search length_mapped in
-    let t = used-ticked c.args.s g c.requires.fact_1.fits c.loop-k.k (search rules) c.requires.fact_1.ticked in
-    record { fact_1 = t.0; fact_2 = t.1; fact_3 = omega (arith, c.requires.fact_2, c.loop-k.invariant.1, c.loop-k-test.true) }
-
-pub overflow_add-k : goal.overflow_add-k
-overflow_add-k c = omega (arith, c.requires.fact_1.fits, c.loop-k-test.true)
-
-pub loop-k-smaller : goal.loop-k-smaller
-loop-k-smaller c = omega (arith, c.loop-k-test.true)
+    let t = ticked-at (used c.args.s) c.loop-k.k c.requires.fact_1.ticked c.loop-k-test.true in
+    record { fact_1 = t.0; fact_2 = t.1; fact_3 = omega (arith, c.requires.fact_2, used-short c.args.s, c.loop-k-test.true) }
 
 pub loop-k-preserved : goal.loop-k-preserved
 loop-k-preserved c =
-    let g : length c.args.s.items ≡ 32 = search length_mapped in
     let l = c.loop-k in
-    let s = c.args.s in
-    let t = used-ticked s g c.requires.fact_1.fits l.k (search rules) c.requires.fact_1.ticked in (
-      omega (arith, c.loop-k-test.true),
-      c.write_interval.auto.out ∙ l.invariant.1,
-      c.write_interval.ensures ∙ written_more s.items c.args.out.now l.out l.k (omega (arith, c.loop-k-test.true, c.requires.fact_1.fits)) l.invariant.2 l.invariant.3 (omega (arith, c.loop-k-test.true, c.requires.fact_2)),
-      length_more s.items c.args.out.now l.out l.k (omega (arith, c.loop-k-test.true, c.requires.fact_1.fits)) l.invariant.2 l.invariant.3 (omega (arith, c.loop-k-test.true, c.requires.fact_2)) t.0 t.1,
+    let u = used c.args.s in
+    let h = c.loop-k-test.true in
+    let t = ticked-at u l.k c.requires.fact_1.ticked h in
+    let room : 32 * l.k ≤ length c.args.out.now = omega (arith, c.requires.fact_2, used-short c.args.s, h) in (
+      c.write_interval.ensures ∙ written_more u c.args.out.now l.out l.k h l.invariant.0 l.invariant.1 room,
+      length_more u c.args.out.now l.out l.k h l.invariant.0 l.invariant.1 room t.0 t.1,
     )
 
 pub returns : goal.returns
-returns c =
-    let e : c.loop-k.k ≡ c.args.s.count = omega arith in
-    rw e at c.loop-k.invariant.2
+returns c = rw (take_all c.loop-k.k (used c.args.s) c.loop-k-test.false) at c.loop-k.invariant.0

@@ -1,11 +1,8 @@
 -- `interval::list::write_list` meets its contract. The loop's invariant: the first k stretches are written.
-use Rattle.std.proofs.Common.{◌≡◌, ◌-◌, ◌*◌, ◌≤◌, length, take}
+use Rattle.std.proofs.Common.{◌≡◌, ◌*◌, length, take}
 use Rattle.rules.specs.Services.{overwrite}
 use Rattle.interval.proofs.Writing.{list_bytes}
 use Rattle.interval.proofs.list.write_list.Given as goal
 
 abbrev pub invariant-loop-k : goal.invariant-loop-k
-invariant-loop-k l = (l.k ≤ l.s.count) × (length l.out ≡ length l.initial.out) × (l.out ≡ overwrite l.initial.out (list_bytes (take l.k l.s.items))) × (length (list_bytes (take l.k l.s.items)) ≡ 32 * l.k)
-
-abbrev pub decreases-loop-k : goal.decreases-loop-k
-decreases-loop-k l = l.s.count - l.k
+invariant-loop-k l = (l.out ≡ overwrite l.initial.out (list_bytes (take l.k l.v-items))) × (length (list_bytes (take l.k l.v-items)) ≡ 32 * l.k)

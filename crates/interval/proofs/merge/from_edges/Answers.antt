@@ -24,9 +24,6 @@ bounds-e-k c = omega (arith, c.requires.fact_2)
 pub low_bound-low-requires : goal.low_bound-low-requires
 low_bound-low-requires c = edge-below c.args.n c.args.e.now c.requires.fact_1 (2 * c.loop-k.k) (omega arith)
 
-pub overflow_mul-k-in-loop-k-2 : goal.overflow_mul-k-in-loop-k-2
-overflow_mul-k-in-loop-k-2 c = omega (arith, c.requires.fact_2)
-
 pub overflow_add-k : goal.overflow_add-k
 overflow_add-k c = omega (arith, c.requires.fact_2)
 
@@ -47,12 +44,6 @@ offset_bounds-s-k c = omega (arith, c.requires.fact_2)
 pub bounds-s-k : goal.bounds-s-k
 bounds-s-k c = omega (arith, c.requires.fact_2)
 
-pub overflow_add-k-in-loop-k : goal.overflow_add-k-in-loop-k
-overflow_add-k-in-loop-k c = omega (arith, c.requires.fact_2)
-
-pub loop-k-smaller : goal.loop-k-smaller
-loop-k-smaller c = omega (arith, c.loop-k-test.true)
-
 pub loop-k-preserved : goal.loop-k-preserved
 loop-k-preserved c =
     let l = c.loop-k in
@@ -66,4 +57,6 @@ loop-k-preserved c =
     )
 
 pub returns : goal.returns
-returns c = record { ticked = c.loop-k.invariant.2; edges_are = c.loop-k.invariant.3; fewest = omega arith; most = c.loop-k.invariant.0 }
+returns c =
+    let e : c.loop-k.k ≡ c.div_ceil-count.result = omega arith in
+    record { ticked = rw e at c.loop-k.invariant.2; edges_are = rw e at c.loop-k.invariant.3; fewest = omega (arith, c.div_ceil-count.ensures); most = omega (arith, c.div_ceil-count.ensures) }

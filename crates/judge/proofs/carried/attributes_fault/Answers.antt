@@ -15,12 +15,6 @@ pub loop-n-init : goal.loop-n-init
 unfolding below
 loop-n-init c = (omega arith, λ l t h. sym (earlier-none_right (fault_of c.others_fault-so_far.result)))
 
-pub offset_bounds-tag-n : goal.offset_bounds-tag-n
-offset_bounds-tag-n c = omega (arith, c.loop-n-test.true)
-
-pub bounds-tag-n : goal.bounds-tag-n
-bounds-tag-n c = omega (arith, c.loop-n-test.true)
-
 pub attribute_fault-requires : goal.attribute_fault-requires
 attribute_fault-requires c =
     let q = c.requires.fact_1.placed c.loop-n.n in

@@ -7,21 +7,12 @@ use Rattle.judge.proofs.carried.has_own.Goals as goal
 pub loop-n-init : goal.loop-n-init
 loop-n-init c = (omega arith, λ s l t. own_numbers (kind_meant c.args.kind) l)
 
-pub own_column-requires : goal.own_column-requires
-own_column-requires c = omega (arith, c.loop-n-test.true)
-
-pub offset_bounds-tag-n : goal.offset_bounds-tag-n
-offset_bounds-tag-n c = omega (arith, c.loop-n-test.true)
-
-pub bounds-tag-n : goal.bounds-tag-n
-bounds-tag-n c = omega (arith, c.loop-n-test.true)
-
-pub returns-then-is_some-tag : goal.returns-then-is_some-tag
-returns-then-is_some-tag c = λ s l t.
+pub returns-then-is_some-place : goal.returns-then-is_some-place
+returns-then-is_some-place c = λ s l t.
     let n = c.loop-n.n in
     let k = kind_meant c.args.kind in
     let h = c.loop-n-test.true in
-    let e = own_told k l n c.own_column.ensures (c.is_some.ensures ∙ told _) (t.placed n h) c.if-is_some-tag.true in
+    let e = own_told k l n c.own_column.ensures (c.is_some.ensures ∙ told _) (t.placed n h) c.if-is_some-place.true in
     sym (own_found k l n h e) ∙ c.loop-n.invariant.1 s l t
 
 pub loop-n-preserved : goal.loop-n-preserved
@@ -31,7 +22,7 @@ loop-n-preserved c = (
       let n = c.loop-n.n in
       let k = kind_meant c.args.kind in
       let h = c.loop-n-test.true in
-      let e = own_told k l n c.own_column.ensures (c.is_some.ensures ∙ told _) (t.placed n h) c.if-is_some-tag.false in
+      let e = own_told k l n c.own_column.ensures (c.is_some.ensures ∙ told _) (t.placed n h) c.if-is_some-place.false in
       sym (own_passed k l n h e) ∙ c.loop-n.invariant.1 s l t,
 )
 

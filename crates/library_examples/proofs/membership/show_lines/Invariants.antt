@@ -1,9 +1,0 @@
--- `library_examples::membership::show_lines` meets what it calls.
-use Rattle.std.proofs.Common.{◌-◌, length}
-use Rattle.library_examples.proofs.membership.show_lines.Given as goal
-
-abbrev pub invariant-loop-i : goal.invariant-loop-i
-invariant-loop-i l = Unit {0}
-
-abbrev pub decreases-loop-i : goal.decreases-loop-i
-decreases-loop-i l = length l.s - l.i
