@@ -2,7 +2,6 @@
 use Prim.Native.Nat.{ℕ}
 use mathlib.Core.Path.{◌≡◌, refl, sym, ◌∙◌, ap}
 use mathlib.Core.Option.{Option, none, some}
-use Rattle.std.specs.Prelude.{Option as StdOption, Some, None}
 use Rattle.rules.specs.Basics.{if_some}
 use Rattle.rules.specs.Refusal.{TYPE, SHAPE, first_of}
 use Rattle.rules.specs.Markup.{Element}
@@ -11,7 +10,7 @@ use Rattle.rules.specs.Judge.{element_faults}
 use Rattle.refusal.specs.Meaning.{refusal_of, fault_of}
 use Rattle.refusal.specs.declared.Refusal.{Refusal as CodeRefusal}
 use Rattle.refusal.specs.declared.Refusal.TheVariants.{«Type», Shape}
-use Rattle.std.specs.Prelude.{Ok}
+use Rattle.std.specs.Prelude.{Option as StdOption, Some, None, Ok}
 use Rattle.datatype.specs.Meaning.{type_meant}
 use Rattle.datatype.specs.Said.{nothing}
 use Rattle.datatype.specs.Tables.{Step, step_meant}

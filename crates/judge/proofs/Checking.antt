@@ -7,7 +7,7 @@ use mathlib.Core.Option.{none, some}
 use native.Mathlib.Omega.{arith}
 use borrow.Author.Tests.{lt-ltb}
 use lib.ListN.{length, get_or}
-use Rattle.std.specs.Prelude.{Option as StdOption, Some, None}
+use Rattle.std.specs.Prelude.{Option as StdOption, Some, None, Result}
 use Rattle.rules.specs.Basics.{bytes, is_some}
 use Rattle.rules.specs.Refusal.{first_of}
 use Rattle.rules.specs.Markup.{Attribute, Element, lookup, document}
@@ -23,7 +23,6 @@ use Rattle.element.specs.declared.tag.Tag.{Tag}
 use Rattle.element.proofs.Placing.{no_places, none_there}
 use Rattle.datatype.specs.Meaning.{kind_meant, type_meant}
 use Rattle.datatype.specs.declared.kind.Kind.{Kind}
-use Rattle.std.specs.Prelude.{Result}
 use Rattle.judge.specs.Checks.{RefusedAs, DocumentAs, CheckedAs}
 use Rattle.judge.specs.Faults.{judged}
 use Rattle.judge.specs.declared.Checked.{Checked}

@@ -5,7 +5,6 @@ ghost use Rattle.element.specs.Tags.{TagIn};
 
 use crate::{put, put_answer};
 use datatype::record::Record;
-use listing::Listed;
 use timestamp::tick::Tick;
 
 // What every tick is below.
@@ -52,8 +51,7 @@ fn put_record(s: &[u8], shift: u64)
     let checked = judge::check(s, shift);
     let held = checked.record;
     let mut list = io::buffer();
-    let answer = listing::list(s, held, shift, &mut list);
-    let Listed::Count(n) = answer else {
+    let Ok(n) = listing::list(s, held, shift, &mut list) else {
         return;
     };
     if n <= 32 {

@@ -21,7 +21,7 @@ use Rattle.interval.specs.declared.Interval.{Interval}
 use Rattle.interval.specs.declared.Stretches.{Stretches}
 use Rattle.interval.specs.Meaning.{interval_of, used, stretches_of}
 use Rattle.interval.proofs.Unique.{stretches-meant}
-use Rattle.listing.specs.declared.set.Evaluated.{Evaluated}
+use Rattle.listing.specs.declared.set.Times.{Times}
 use Rattle.listing.specs.Sets.{Formed, IsSet, Says, is_set, is_unknown}
 use Rattle.listing.specs.Answers.{Answers}
 
@@ -47,7 +47,7 @@ module _ (shift : ℕ) (e : Element) (before : List ℕ) (faultless : top_faults
           rw d (record { answer = refl; lent = refl })
       go (answered x) z s = elim s [ ]
 
-  module _ {r : Evaluated} (says : Says (set_of shift e) (Some r)) where
+  module _ {r : Times} (says : Says (set_of shift e) (Some r)) where
     the_set : (x : Expression) × (set_of shift e ≡ answered x) × IsSet x r
     the_set = go (set_of shift e) refl says
       where

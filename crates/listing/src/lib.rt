@@ -59,7 +59,8 @@ pub fn list(s: &[u8], record: Record, shift: u64, out: &mut [u8]) -> Result<usiz
     ensures few { Few result }
 {
     let tag = record.tag;
-    let Some(written) = set::evaluate(s, tag, DEPTH, shift) else {
+    let evaluated = set::evaluate(s, tag, DEPTH, shift);
+    let Some(written) = evaluated.times else {
         return Err(Refusal::UnknownBound);
     };
     if 32 < written.count {
