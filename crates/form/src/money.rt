@@ -49,7 +49,7 @@ pub fn read(t: &[u8]) -> Option<Amount>
 fn is_capital(c: u8) -> bool
     ensures { result ≡ is_from 65 90 c }
 {
-    (b'A' <= c) & (c <= b'Z')
+    c.is_ascii_uppercase()
 }
 
 // Whether a text is a currency: three capitals.

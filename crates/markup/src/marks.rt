@@ -5,20 +5,13 @@ ghost use Rattle.markup.specs.Marks.{slot_of, mixed, mix_of, mark_of, next_place
 
 use crate::tag::next_attribute;
 
-// A byte as a number.
-fn wide(c: u8) -> usize
-    ensures { (result ≡ c) × (result < 256) }
-{
-    c as usize
-}
-
 // The slot of a name, one of 64, by its first byte, its last byte and its length. The names that the types have are in slots of their own.
 fn slot(name: &[u8]) -> usize
     requires { 1 ≤ length name.now }
     ensures { (result ≡ slot_of name.now) × (result < 64) }
 {
     let last = name.len() - 1;
-    (wide(name[0]) + 3 * wide(name[last]) + 2 * (last % 64)) % 64
+    (usize::from(name[0]) + 3 * usize::from(name[last]) + 2 * (last % 64)) % 64
 }
 
 // The end of the attributes that stand from a position on, each name once, as far as slots tell, which may tell nothing: names in different
@@ -45,7 +38,7 @@ fn mix_byte(h: usize, c: u8) -> usize
     requires { h < 1_048_576 }
     ensures { (result ≡ mixed h c) × (result < 1_048_576) }
 {
-    (h + wide(c)) * 40_503 % 1_048_576
+    (h + usize::from(c)) * 40_503 % 1_048_576
 }
 
 // A number under 1,048,576 made of all bytes of a name.

@@ -49,7 +49,7 @@ pub fn read_some_space(s: &[u8], at: usize) -> Option<usize>
 fn is_letter(c: u8) -> bool
     ensures { result ≡ (is_from 65 90 c || is_from 97 122 c) }
 {
-    ((b'A' <= c) & (c <= b'Z')) | ((b'a' <= c) & (c <= b'z'))
+    c.is_ascii_alphabetic()
 }
 
 // Whether a name may begin with a byte.

@@ -7,7 +7,7 @@ ghost use Rattle.text.specs.Numbers.{Counted, NumberAt, FractionAt};
 pub fn is_digit(b: u8) -> bool
     ensures { result ≡ is_digit b }
 {
-    (48 <= b) & (b <= 57)
+    b.is_ascii_digit()
 }
 
 // How many digits stand at a position, as far as `most`.
