@@ -22,13 +22,7 @@ pub struct Sides {
 }
 
 // What the first child of a name says, if it was passed, after one child more.
-fn after_child(
-    s: &[u8],
-    child: Tag,
-    shift: u64,
-    name: &[u8],
-    first: Option<Said>,
-) -> Option<Said>
+fn after_child(s: &[u8], child: Tag, shift: u64, name: &[u8], first: Option<Said>) -> Option<Said>
     requires fact_1 { TagIn s.now child }
     requires fact_2 { shift ≤ 1680 }
     ensures { (d : ℕ) (v : Element) (after : List ℕ) → TagOf s.now d v after child → Passes shift name.now v first result }
