@@ -8,14 +8,12 @@ pub fn part_end(t: &[u8], from: usize, b: u8) -> usize
     requires { from ≤ length t.now }
     ensures { PartAt b t.now from result }
 {
-    let mut i = from;
-    while i < t.len() {
+    for i in from..t.len() {
         if t[i] == b {
             return i;
         }
-        i += 1;
     }
-    i
+    t.len()
 }
 
 // Whether a text is one of the words of a list, which single spaces part.
