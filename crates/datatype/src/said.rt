@@ -14,8 +14,8 @@ use crate::places::has_text;
 use element::name::{NULL_FLAVOR, VALUE};
 use element::tag::Tag;
 use element::value;
-use refusal::Verdict;
-use timestamp::{Moment, Timestamp};
+use refusal::Refusal;
+use timestamp::Moment;
 
 // A value; that there is no bound below, or none above; or nothing.
 #[derive(Clone, Copy)]
@@ -29,7 +29,7 @@ pub enum Said {
 // An element of a time: what its value is refused for, and what it says.
 #[derive(Clone, Copy)]
 pub struct Time {
-    pub fault: Verdict,
+    pub fault: Result<(), Refusal>,
     pub said: Said,
 }
 
@@ -47,16 +47,6 @@ fn flavor_said(s: &[u8], place: usize) -> Said
     Said::Nothing
 }
 
-// The refusal of a timestamp, or that there is none.
-fn fault_of(t: Timestamp) -> Verdict
-    ensures { fault_of result ≡ first_of (faults_of (outcome_of t)) }
-{
-    match t {
-        Timestamp::At(_) => Verdict::Accepted,
-        Timestamp::Refused(refusal) => Verdict::Refused(refusal),
-    }
-}
-
 // The time of the value at a place.
 pub fn time_at(s: &[u8], place: usize, shift: u64) -> Time
     requires fact_1 { place ≤ length s.now - 1 }
@@ -65,21 +55,20 @@ pub fn time_at(s: &[u8], place: usize, shift: u64) -> Time
 {
     if place == 0 {
         return Time {
-            fault: Verdict::Accepted,
+            fault: Ok(()),
             said: Said::Nothing,
         };
     }
     let end = value::end(s, place);
-    let read = form::moment(s, place, end, shift);
-    let Timestamp::At(m) = read else {
-        return Time {
-            fault: fault_of(read),
+    match form::moment(s, place, end, shift) {
+        Ok(m) => Time {
+            fault: Ok(()),
+            said: Said::Valued(m),
+        },
+        Err(refusal) => Time {
+            fault: Err(refusal),
             said: Said::Nothing,
-        };
-    };
-    Time {
-        fault: Verdict::Accepted,
-        said: Said::Valued(m),
+        },
     }
 }
 
@@ -95,9 +84,8 @@ pub fn time_of(s: &[u8], tag: Tag, shift: u64) -> Time
     if flavor == 0 {
         return time;
     }
-    let fault = time.fault;
     Time {
-        fault: fault,
+        fault: time.fault,
         said: flavor_said(s, flavor),
     }
 }

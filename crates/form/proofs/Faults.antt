@@ -6,6 +6,7 @@ use mathlib.Core.List.{List}
 use mathlib.Core.Option.{Option, none, some}
 use lib.IntN.{ℤ}
 use lib.ListN.{length, drop}
+use Rattle.std.specs.Prelude.{Result, Ok, Err}
 use Rattle.rules.specs.Basics.{is_some, exists}
 use Rattle.rules.specs.Refusal.{Refusal as Rule, VALUE, Outcome, faults_of, first_of, ◌when◌}
 use Rattle.rules.specs.Parsers.{ok}
@@ -17,23 +18,12 @@ use Rattle.refusal.specs.Meaning.{refusal_of}
 use Rattle.refusal.specs.declared.Refusal.{Refusal}
 use Rattle.timestamp.specs.Moments.{outcome_of}
 use Rattle.timestamp.specs.declared.Moment.{Moment as MomentRead}
-use Rattle.timestamp.specs.declared.Timestamp.{Timestamp}
-use Rattle.timestamp.specs.declared.Timestamp.TheVariants.{At, Refused as Timestamp-as-Refused}
 use Rattle.form.specs.Meaning.{form_of, between}
 use Rattle.form.specs.Amounts.{amount_of}
 use Rattle.form.specs.declared.Form.{Form}
 use Rattle.form.specs.declared.money.Amount.{Amount}
 use Rattle.form.specs.declared.money.Amount.TheVariants.{Is, Bad}
 use Rattle.form.proofs.Quoted.{by_raw}
-
--- VALUE, unless
-pub unless_good : (good : Bool) → good ≡ true → none ≡ first_of (VALUE when not good)
-unfolding first_of
-unless_good good e = rw e
-
-pub unless_bad : (good : Bool) → good ≡ false → some VALUE ≡ first_of (VALUE when not good)
-unfolding first_of
-unless_bad good e = rw e
 
 -- the refusal of a form that is a test
 pub by_test : {o : Option Rule} {good : Bool} (shift : ℕ) {form : Form} (x : Form) (v : List ℕ) {b : Bool} → o ≡ first_of (VALUE when not good) → form ≡ x
@@ -60,10 +50,10 @@ pub amount_missing : (a : Amount) {o : Option ℤ} → a ≡ Bad → amount_of a
 amount_missing a z e = ap is_some (sym (ap amount_of z) ∙ e)
 
 -- a moment, or a refusal passed on
-pub moment_found : (t : Timestamp) (m : MomentRead) {o : Outcome Moment} → t ≡ At m → outcome_of t ≡ o → none ≡ first_of (faults_of o)
+pub moment_found : (t : Result MomentRead Refusal) (m : MomentRead) {o : Outcome Moment} → t ≡ Ok m → outcome_of t ≡ o → none ≡ first_of (faults_of o)
 unfolding first_of
 moment_found t m z e = ap (λ o. first_of (faults_of o)) (sym (ap outcome_of z) ∙ e)
 
-pub moment_refused : (t : Timestamp) (r : Refusal) {o : Outcome Moment} → t ≡ Timestamp-as-Refused r → outcome_of t ≡ o → some (refusal_of r) ≡ first_of (faults_of o)
+pub moment_refused : (t : Result MomentRead Refusal) (r : Refusal) {o : Outcome Moment} → t ≡ Err r → outcome_of t ≡ o → some (refusal_of r) ≡ first_of (faults_of o)
 unfolding first_of
 moment_refused t r z e = ap (λ o. first_of (faults_of o)) (sym (ap outcome_of z) ∙ e)

@@ -21,8 +21,8 @@ pub mod oid;
 mod parts;
 
 use money::Amount;
-use refusal::{Refusal, Verdict};
-use timestamp::Timestamp;
+use refusal::{Refusal, refused_if};
+use timestamp::Moment;
 
 // The forms that the table of types asks for, by the name of what they are asked of.
 #[derive(Clone, Copy)]
@@ -54,7 +54,7 @@ fn inside(s: &[u8], q: usize, e: usize) -> &[u8]
 }
 
 // The moment that a value says, or a refusal; `shift` is 840 less the agreed offset in minutes.
-pub fn moment(s: &[u8], q: usize, e: usize, shift: u64) -> Timestamp
+pub fn moment(s: &[u8], q: usize, e: usize, shift: u64) -> Result<Moment, Refusal>
     requires fact_1 { q < e }
     requires fact_2 { e ≤ length s.now }
     requires fact_3 { shift ≤ 1680 }
@@ -86,14 +86,10 @@ pub fn currency(s: &[u8], q: usize, e: usize) -> u64
 }
 
 // VALUE, unless a text is of its form.
-fn value_unless(good: bool) -> Verdict
+fn value_unless(good: bool) -> Result<(), Refusal>
     ensures { fault_of result ≡ first_of (VALUE when not good) }
 {
-    if good {
-        Verdict::Accepted
-    } else {
-        Verdict::Refused(Refusal::Value)
-    }
+    refused_if(Refusal::Value, !good)
 }
 
 // Whether a value says an amount.
@@ -113,21 +109,18 @@ fn is_amount(s: &[u8], q: usize, e: usize) -> bool
 }
 
 // The refusal of a value that is to be a timestamp.
-fn timestamp_fault(s: &[u8], q: usize, e: usize, shift: u64) -> Verdict
+fn timestamp_fault(s: &[u8], q: usize, e: usize, shift: u64) -> Result<(), Refusal>
     requires fact_1 { q < e }
     requires fact_2 { e ≤ length s.now }
     requires fact_3 { shift ≤ 1680 }
     ensures { (v : List ℕ) → value (drop q s.now) ≡ ok v (drop e s.now) → fault_of result ≡ first_of (faults_of (read_timestamp shift v)) }
 {
-    let answer = moment(s, q, e, shift);
-    let Timestamp::Refused(refusal) = answer else {
-        return Verdict::Accepted;
-    };
-    Verdict::Refused(refusal)
+    moment(s, q, e, shift)?;
+    Ok(())
 }
 
 // The refusal of a value that is to be of a form.
-pub fn fault(s: &[u8], q: usize, e: usize, form: Form, shift: u64) -> Verdict
+pub fn fault(s: &[u8], q: usize, e: usize, form: Form, shift: u64) -> Result<(), Refusal>
     requires fact_1 { q < e }
     requires fact_2 { e ≤ length s.now }
     requires fact_3 { shift ≤ 1680 }
@@ -135,7 +128,7 @@ pub fn fault(s: &[u8], q: usize, e: usize, form: Form, shift: u64) -> Verdict
 {
     let raw = inside(s, q, e);
     match form {
-        Form::AnyText => Verdict::Accepted,
+        Form::AnyText => Ok(()),
         Form::NonEmpty => value_unless(!element::value::is_empty(s, q)),
         Form::Flavor => value_unless(fixed::is_flavor(s, q)),
         Form::Timestamp => timestamp_fault(s, q, e, shift),

@@ -10,7 +10,7 @@ use Rattle.rules.specs.Judge.{element_faults}
 use Rattle.refusal.specs.Meaning.{refusal_of, fault_of}
 use Rattle.refusal.specs.declared.Refusal.{Refusal as CodeRefusal}
 use Rattle.refusal.specs.declared.Refusal.TheVariants.{«Type», Shape}
-use Rattle.refusal.specs.declared.Verdict.TheVariants.{Accepted}
+use Rattle.std.specs.Prelude.{Ok}
 use Rattle.datatype.specs.Meaning.{type_meant}
 use Rattle.datatype.specs.Said.{nothing}
 use Rattle.datatype.specs.Tables.{Step, step_meant}
@@ -33,7 +33,7 @@ module _ (shift stage : ℕ) (v : Element) where
 
   -- a member of a set
   pub asked_member : {r : Named} {k : Kind} (to : ℕ) → r ≡ Is k → type_meant r ≡ type_among member_types v.attrs
-      → AskedAs shift (some (record { kind = typed; to = to })) stage v (record { fault = Accepted; kind = k; standing = Member; stage = to })
+      → AskedAs shift (some (record { kind = typed; to = to })) stage v (record { fault = Ok tt; kind = k; standing = Member; stage = to })
   asked_member to z h = let e = sym h ∙ ap type_meant z in record { fault = rw e; said = rw e; to = refl }
 
   pub asked_none : {r : Named} (to : ℕ) (a : Asked) → r ≡ Nothing → type_meant r ≡ type_among member_types v.attrs
@@ -43,7 +43,7 @@ module _ (shift stage : ℕ) (v : Element) where
 
   -- by the step
   module _ (o : Option Step) {n : Next} (is : step_meant n ≡ o) where
-    pub asked_inside : {k : Kind} {to : ℕ} → n ≡ Always k to → AskedAs shift o stage v (record { fault = Accepted; kind = k; standing = Inside; stage = to })
+    pub asked_inside : {k : Kind} {to : ℕ} → n ≡ Always k to → AskedAs shift o stage v (record { fault = Ok tt; kind = k; standing = Inside; stage = to })
     asked_inside z = rw (← is, z) (record { fault = refl; said = refl; to = refl })
 
     pub asked_typed : {to : ℕ} (a : Asked) → n ≡ Typed to → AskedAs shift (some (record { kind = typed; to = to })) stage v a → AskedAs shift o stage v a

@@ -15,6 +15,7 @@ use Rattle.rules.specs.Judge.{top, element_faults}
 use Rattle.rules.specs.Utf8.{is_utf8}
 use Rattle.rules.proofs.Tests.{clash}
 use Rattle.refusal.specs.Meaning.{fault_of}
+use Rattle.refusal.specs.declared.Refusal.{Refusal}
 use Rattle.refusal.specs.declared.Refusal.TheVariants.{«Type», TooLong, NotUtf8, Markup}
 use Rattle.element.specs.Tags.{ElementTo, Place, TagOf, TagIn}
 use Rattle.element.specs.declared.tag.Tag.{Tag}
@@ -23,7 +24,7 @@ use Rattle.datatype.specs.Meaning.{kind_meant, type_meant}
 use Rattle.datatype.specs.declared.kind.Kind.{Kind}
 use Rattle.datatype.specs.declared.kind.Named.{Named}
 use Rattle.datatype.specs.declared.kind.Named.TheVariants.{Is, Nothing}
-use Rattle.refusal.specs.declared.Verdict.{Verdict}
+use Rattle.std.specs.Prelude.{Result}
 use Rattle.judge.specs.Checks.{RefusedAs, DocumentAs, CheckedAs}
 use Rattle.judge.specs.Faults.{judged}
 use Rattle.judge.specs.declared.Checked.{Checked}
@@ -51,7 +52,7 @@ module _ {s : List ℕ} {at : ℕ} (shift : ℕ) (t : Tag) (root : (v : Element)
     held = λ v k d e. let w : none ≡ some k = sym (ap type_meant z) ∙ typed v d ∙ e in clash (cc);
   }
 
-  pub some-type : (k : Kind) → n ≡ Is k → TagIn s t → (q : Verdict) → ((v : Element) (after : List ℕ) → TagOf s 8 v after t → fault_of q ≡ first_of (judged shift top (some (kind_meant k)) v))
+  pub some-type : (k : Kind) → n ≡ Is k → TagIn s t → (q : Result (Unit {0}) Refusal) → ((v : Element) (after : List ℕ) → TagOf s 8 v after t → fault_of q ≡ first_of (judged shift top (some (kind_meant k)) v))
       → DocumentAs s shift (record { fault = q; «record» = record { kind = k; tag = t } })
   some-type k z h q first = record {
     within = h;

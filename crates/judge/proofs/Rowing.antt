@@ -6,6 +6,8 @@ use mathlib.Core.List.{[], ◌∷◌}
 use mathlib.Core.Option.{Option, some}
 use borrow.Author.Tests.{eq-eqb, ne_eqb}
 use lib.Dec.{ltb}
+use Rattle.std.specs.Prelude.{Result, Ok, Err}
+use Rattle.std.specs.Result.{result_and}
 use Rattle.rules.specs.Basics.{if_some}
 use Rattle.rules.specs.Refusal.{Refusal, SHAPE, RULE, earlier, rank_in, first_of, ◌when◌}
 use Rattle.rules.specs.Markup.{Nodes, end, node, Element}
@@ -14,6 +16,7 @@ use Rattle.rules.specs.Types.{Kind, line_of}
 use Rattle.rules.specs.Judge.{child_faults}
 use Rattle.rules.proofs.Precedence.{earlier_assoc, earlier_comm}
 use Rattle.refusal.specs.Meaning.{fault_of}
+use Rattle.refusal.specs.declared.Refusal.{Refusal as CodeRefusal}
 use Rattle.datatype.specs.Meaning.{kind_meant}
 use Rattle.datatype.specs.Tables.{standing_meant, step_among}
 use Rattle.datatype.specs.Said.{Said}
@@ -40,6 +43,11 @@ pub row-child : {shift : ℕ} (k : Kind) (j : Judging) {v : Element} {a : Asked}
     → f ≡ if_some (fault_of a.fault) some (first_of (judged shift (standing_meant a.standing) (some (kind_meant a.kind)) v)) → s ≡ said_of (kind_meant a.kind) shift v.attrs
     → with_child j a.stage f s ≡ row_step shift k j v
 row-child k j h e g = rw (e, g, h.fault, h.said, h.to)
+
+-- a child's refusal, or else its fault
+pub refused-or : (r f : Result (Unit {0}) CodeRefusal) → fault_of (result_and r f) ≡ if_some (fault_of r) some (fault_of f)
+refused-or (Ok x) f = refl
+refused-or (Err q) f = refl
 
 -- the faults of a row, child by child, and at its end
 pub row_faults : (shift : ℕ) (k : Kind) (null : Bool) (j : Judging) (l : Nodes)

@@ -17,29 +17,24 @@ ghost use Rattle.datatype.specs.Tables.{standing_meant, form_meant};
 ghost use Rattle.datatype.specs.Said.{time_fault};
 ghost use Rattle.judge.specs.Carried.{fault_at, is_strange};
 
-use crate::row::refused_if;
 use datatype::columns::{column_of, own_column};
 use datatype::kind::Kind;
 use datatype::table::{Column, Standing};
-use element::name::{KNOWN, VALUE};
+use element::name::VALUE;
 use element::tag::{Tag, has};
 use form::Form;
-use refusal::{Refusal, Verdict, first};
+use refusal::{Refusal, first, refused_if};
 
 // Whether an element stands at the top.
 fn is_top(standing: Standing) -> bool
     ensures { result ≡ is_top (standing_meant standing) }
 {
-    match standing {
-        Standing::Top => true,
-        Standing::Member => false,
-        Standing::Inside => false,
-    }
+    matches!(standing, Standing::Top)
 }
 
 // The first fault of the attributes whose names are not known: so many others, and so many whose names begin with xmlns, which are ignored at
 // the top.
-fn others_fault(others: usize, namespaces: usize, standing: Standing) -> Verdict
+fn others_fault(others: usize, namespaces: usize, standing: Standing) -> Result<(), Refusal>
     ensures { (l : List Attribute) → others ≡ count is_other l → namespaces ≡ count is_namespace l → fault_of result ≡ first_of (SHAPE when exists (is_strange (standing_meant standing)) l) }
 {
     let spaced = !is_top(standing) & (namespaces != 0);
@@ -47,13 +42,13 @@ fn others_fault(others: usize, namespaces: usize, standing: Standing) -> Verdict
 }
 
 // The fault of the value at a place that is to be of a form. That of any text is not read.
-fn text_fault(s: &[u8], place: usize, form: Form, shift: u64) -> Verdict
+fn text_fault(s: &[u8], place: usize, form: Form, shift: u64) -> Result<(), Refusal>
     requires fact_1 { place < length s.now }
     requires fact_2 { shift ≤ 1680 }
     ensures { (v : List ℕ) (e : ℕ) → e ≤ length s.now → text_of (drop place s.now) ≡ ok v (drop e s.now) → fault_of result ≡ first_of (form_faults shift (form_of form) v) }
 {
     if let Form::AnyText = form {
-        return Verdict::Accepted;
+        return Ok(());
     }
     let end = element::value::end(s, place);
     form::fault(s, place, end, form, shift)
@@ -66,9 +61,9 @@ fn attribute_fault(
     place: usize,
     kind: Kind,
     standing: Standing,
-    time: Verdict,
+    time: Result<(), Refusal>,
     shift: u64,
-) -> Verdict
+) -> Result<(), Refusal>
     requires fact_1 { n < known }
     requires fact_2 { 0 < place }
     requires fact_3 { place < length s.now }
@@ -82,7 +77,7 @@ fn attribute_fault(
     }
     let column = column_of(kind, standing, n);
     let Column::Takes(form) = column else {
-        return Verdict::Refused(Refusal::Shape);
+        return Err(Refusal::Shape);
     };
     text_fault(s, place, form, shift)
 }
@@ -93,24 +88,21 @@ pub fn attributes_fault(
     tag: Tag,
     kind: Kind,
     standing: Standing,
-    time: Verdict,
+    time: Result<(), Refusal>,
     shift: u64,
-) -> Verdict
+) -> Result<(), Refusal>
     requires fact_1 { TagIn s.now tag }
     requires fact_2 { shift ≤ 1680 }
     ensures { (depth : ℕ) (v : Element) (after : List ℕ) → TagOf s.now depth v after tag → (kind_meant kind ≡ TS → fault_of time ≡ time_fault shift v.attrs) → fault_of result ≡ first_of (flat_map (attribute_faults shift (standing_meant standing) (kind_meant kind)) v.attrs) }
 {
     let mut so_far = others_fault(tag.others, tag.namespaces, standing);
-    let mut n = 0;
-    while n < KNOWN {
-        let place = tag.places[n];
+    for (n, &place) in tag.places.iter().enumerate() {
         if place != 0 {
             so_far = first(
                 so_far,
                 attribute_fault(s, n, place, kind, standing, time, shift),
             );
         }
-        n += 1;
     }
     so_far
 }
@@ -129,12 +121,10 @@ fn is_column(column: Column) -> bool
 pub fn has_own(tag: Tag, kind: Kind) -> bool
     ensures { (s : List ℕ) (l : List Attribute) → Tells s l tag.places → result ≡ exists (carries l) (line_of (kind_meant kind)).columns }
 {
-    let mut n = 0;
-    while n < KNOWN {
-        if is_column(own_column(kind, n)) & (tag.places[n] != 0) {
+    for (n, &place) in tag.places.iter().enumerate() {
+        if is_column(own_column(kind, n)) & (place != 0) {
             return true;
         }
-        n += 1;
     }
     false
 }

@@ -21,7 +21,7 @@ use element::name::{KNOWN, XSI_TYPE};
 use element::tag;
 use element::tag::Tag;
 use own::{judge_with, time_in};
-use refusal::{Refusal, Verdict};
+use refusal::Refusal;
 use row::{Content, begin, child_asked, finish, with_child};
 
 // How many elements may be open at once.
@@ -52,7 +52,7 @@ fn judge_content(s: &[u8], tag: Tag, depth: usize, kind: Kind, shift: u64) -> Co
 // A record checked: its first fault, and what it is held as.
 #[derive(Clone, Copy)]
 pub struct Checked {
-    pub fault: Verdict,
+    pub fault: Result<(), Refusal>,
     pub record: Record,
 }
 
@@ -74,7 +74,7 @@ fn refused(refusal: Refusal) -> Checked
         tag,
     };
     Checked {
-        fault: Verdict::Refused(refusal),
+        fault: Err(refusal),
         record,
     }
 }
@@ -92,8 +92,7 @@ fn check_document(s: &[u8], shift: u64) -> Checked
     };
     let content = judge_content(s, tag, DEPTH, kind, shift);
     let time = time_in(s, tag, kind, shift);
-    let text = time.fault;
-    let fault = judge_with(s, tag, kind, Standing::Top, text, content, shift);
+    let fault = judge_with(s, tag, kind, Standing::Top, time.fault, content, shift);
     let record = Record { kind, tag };
     Checked { fault, record }
 }

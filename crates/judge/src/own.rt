@@ -15,14 +15,14 @@ ghost use Rattle.judge.specs.Faults.{judged};
 ghost use Rattle.judge.specs.Rows.{said_of, ContentAs};
 
 use crate::carried::{attributes_fault, has_own, lacks};
-use crate::row::{Content, refused_if};
+use crate::row::Content;
 use crate::rule::breaks;
 use datatype::kind::Kind;
 use datatype::said::{Said, Time, time_of};
 use datatype::table::Standing;
 use element::name::NULL_FLAVOR;
 use element::tag::{Tag, has};
-use refusal::{Refusal, Verdict, first};
+use refusal::{Refusal, first, refused_if};
 
 // What a time says and what its value is refused for; another element says nothing.
 pub fn time_in(s: &[u8], tag: Tag, kind: Kind, shift: u64) -> Time
@@ -34,7 +34,7 @@ pub fn time_in(s: &[u8], tag: Tag, kind: Kind, shift: u64) -> Time
         return time_of(s, tag, shift);
     }
     Time {
-        fault: Verdict::Accepted,
+        fault: Ok(()),
         said: Said::Nothing,
     }
 }
@@ -63,10 +63,10 @@ pub fn judge_with(
     tag: Tag,
     kind: Kind,
     standing: Standing,
-    text: Verdict,
+    text: Result<(), Refusal>,
     content: Content,
     shift: u64,
-) -> Verdict
+) -> Result<(), Refusal>
     requires fact_1 { TagIn s.now tag }
     requires fact_2 { shift ≤ 1680 }
     ensures { (depth : ℕ) (v : Element) (after : List ℕ) → TagOf s.now depth v after tag → (kind_meant kind ≡ TS → fault_of text ≡ time_fault shift v.attrs) → ContentAs s.now shift (kind_meant kind) v after content → fault_of result ≡ first_of (judged shift (standing_meant standing) (some (kind_meant kind)) v) }
@@ -75,6 +75,5 @@ pub fn judge_with(
     let missing = refused_if(Refusal::Shape, lacks(tag, kind));
     let broken = refused_if(Refusal::Rule, is_broken(s, tag, kind, content));
     let own = first(carried, first(missing, broken));
-    let below = content.fault;
-    first(own, below)
+    first(own, content.fault)
 }

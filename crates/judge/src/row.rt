@@ -21,13 +21,13 @@ use datatype::said::Said;
 use datatype::table::{Next, Standing, enough};
 use element::name::{NULL_FLAVOR, XSI_TYPE};
 use element::tag::{Tag, has};
-use refusal::{Refusal, Verdict, first};
+use refusal::{Refusal, first, refused_if};
 
 // A row of children judged: the first fault, the stage that it has come to, whether there are any, what the last child after which the row
 // stands at stage 1, and the last other one, say as bounds, and where it ends.
 #[derive(Clone, Copy)]
 pub struct Row {
-    pub fault: Verdict,
+    pub fault: Result<(), Refusal>,
     pub stage: u64,
     pub any: bool,
     pub low: Said,
@@ -39,7 +39,7 @@ pub struct Row {
 // the element ends.
 #[derive(Clone, Copy)]
 pub struct Content {
-    pub fault: Verdict,
+    pub fault: Result<(), Refusal>,
     pub any: bool,
     pub broken: bool,
     pub end: usize,
@@ -49,7 +49,7 @@ pub struct Content {
 // the row is brought to.
 #[derive(Clone, Copy)]
 pub struct Asked {
-    pub fault: Verdict,
+    pub fault: Result<(), Refusal>,
     pub kind: Kind,
     pub standing: Standing,
     pub stage: u64,
@@ -60,7 +60,7 @@ fn refuse(refusal: Refusal, stage: u64) -> Asked
     ensures { (fault_of result.fault ≡ some (refusal_of refusal)) × (result.kind ≡ Part) × (result.stage ≡ stage) }
 {
     Asked {
-        fault: Verdict::Refused(refusal),
+        fault: Err(refusal),
         kind: Kind::Part,
         standing: Standing::Inside,
         stage,
@@ -75,7 +75,7 @@ fn member_asked(s: &[u8], tag: Tag, to: u64) -> Asked
     let named = type_at(s, tag.places[XSI_TYPE], false);
     match named {
         Named::Is(kind) => Asked {
-            fault: Verdict::Accepted,
+            fault: Ok(()),
             kind,
             standing: Standing::Member,
             stage: to,
@@ -92,23 +92,13 @@ pub fn child_asked(s: &[u8], tag: Tag, kind: Kind, stage: u64) -> Asked
     let step = step_of(s, tag, kind, stage);
     match step {
         Next::Always(inner, to) => Asked {
-            fault: Verdict::Accepted,
+            fault: Ok(()),
             kind: inner,
             standing: Standing::Inside,
             stage: to,
         },
         Next::Typed(to) => member_asked(s, tag, to),
         Next::Nothing => refuse(Refusal::Shape, stage),
-    }
-}
-
-// A child's refusal, or else what it is judged to be.
-fn unless_refused(refused: Verdict, judged: Verdict) -> Verdict
-    ensures { fault_of result ≡ if_some (fault_of refused) some (fault_of judged) }
-{
-    match refused {
-        Verdict::Accepted => judged,
-        Verdict::Refused(_) => refused,
     }
 }
 
@@ -122,22 +112,12 @@ fn step_of(s: &[u8], tag: Tag, kind: Kind, stage: u64) -> Next
     next_child(&s[from..to], kind, stage)
 }
 
-// A refusal, exactly if something is so.
-pub fn refused_if(refusal: Refusal, so: bool) -> Verdict
-    ensures { fault_of result ≡ first_of (refusal_of refusal when so) }
-{
-    if so {
-        return Verdict::Refused(refusal);
-    }
-    Verdict::Accepted
-}
-
 // A row before its first child, from a position on.
 pub fn begin(at: usize) -> Row
     ensures { (row_meant result ≡ beginning) × (result.end ≡ at) }
 {
     Row {
-        fault: Verdict::Accepted,
+        fault: Ok(()),
         stage: 0,
         any: false,
         low: Said::Nothing,
@@ -147,29 +127,21 @@ pub fn begin(at: usize) -> Row
 }
 
 // A row with a child more, after which it stands at a stage, and which has a first fault, says something and ends at a position.
-fn with_judged(row: Row, stage: u64, fault: Verdict, said: Said, end: usize) -> Row
+fn with_judged(row: Row, stage: u64, fault: Result<(), Refusal>, said: Said, end: usize) -> Row
     ensures { (row_meant result ≡ with_child (row_meant row) stage (fault_of fault) (said_meant said)) × (result.end ≡ end) }
 {
-    let before = row.fault;
-    let fault = first(before, fault);
-    if stage == 1 {
-        let high = row.high;
-        return Row {
-            fault,
-            stage,
-            any: true,
-            low: said,
-            high,
-            end,
-        };
-    }
-    let low = row.low;
+    let fault = first(row.fault, fault);
+    let (low, high) = if stage == 1 {
+        (said, row.high)
+    } else {
+        (row.low, said)
+    };
     Row {
         fault,
         stage,
         any: true,
         low,
-        high: said,
+        high,
         end,
     }
 }
@@ -181,19 +153,10 @@ pub fn with_child(s: &[u8], row: Row, tag: Tag, asked: Asked, content: Content, 
     ensures { (result.end ≡ content.end) × ((k : RulesKind) (depth : ℕ) (v : Element) (after : List ℕ) → TagOf s.now depth v after tag → AskedAs shift (step_among (line_of k).children row.stage v.name) row.stage v asked → ContentAs s.now shift (kind_meant asked.kind) v after content → row_meant result ≡ row_step shift k (row_meant row) v) }
 {
     let kind = asked.kind;
-    let standing = asked.standing;
     let time = time_in(s, tag, kind, shift);
-    let text = time.fault;
-    let judged = judge_with(s, tag, kind, standing, text, content, shift);
-    let refused = asked.fault;
-    let said = time.said;
-    with_judged(
-        row,
-        asked.stage,
-        unless_refused(refused, judged),
-        said,
-        content.end,
-    )
+    let judged = judge_with(s, tag, kind, asked.standing, time.fault, content, shift);
+    let fault = asked.fault.and(judged);
+    with_judged(row, asked.stage, fault, time.said, content.end)
 }
 
 // What is inside the element of a tag, by the row of its children, all judged; the element ends at a position.
@@ -202,14 +165,11 @@ pub fn finish(s: &[u8], tag: Tag, kind: Kind, row: Row, at: usize) -> Content
     ensures { (result.end ≡ at) × ((shift : ℕ) (v : Element) → Tells s.now v.attrs tag.places → Finished shift (kind_meant kind) v row at result) }
 {
     let null = has(tag, NULL_FLAVOR);
-    let before = row.fault;
     let missing = refused_if(Refusal::Shape, !null & (row.stage < enough(kind)));
-    let low = row.low;
-    let high = row.high;
     Content {
-        fault: first(before, missing),
+        fault: first(row.fault, missing),
         any: row.any,
-        broken: breaks_bounds(s, tag, kind, low, high),
+        broken: breaks_bounds(s, tag, kind, row.low, row.high),
         end: at,
     }
 }

@@ -25,7 +25,7 @@ use form::name::has_word;
 fn exactly_one(a: bool, b: bool) -> bool
     ensures { result ≡ exactly_one a b }
 {
-    if a { !b } else { b }
+    a != b
 }
 
 // A valued bound has no flag, or an unbounded one has flag `true`, by the place of the flag.

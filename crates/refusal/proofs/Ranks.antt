@@ -1,31 +1,84 @@
--- The places of refusals on the ladder: the number at each, and which of two comes first.
-use Prim.Native.Nat.{ℕ, zero, suc, ◌^◌, ◌≤◌, ◌<◌}
-use mathlib.Core.Path.{◌≡◌, refl, ◌∙◌}
-use mathlib.Core.List.{List, [], ◌∷◌, map}
+-- The derived order of the refusals is that of the ladder.
+use Prim.Native.Nat.{ℕ, zero, suc, ◌<◌}
+use mathlib.Core.Path.{◌≡◌, refl, sym, subst}
+use mathlib.Core.Bool.{Bool, true, false, not, cond}
+use mathlib.Core.List.{List, [], ◌∷◌}
 use mathlib.Core.Option.{some}
 use native.Mathlib.Omega.{arith}
-use borrow.Author.Tests.{le-leb, lt-leb}
+use lib.Dec.{leb}
 use lib.ListN.{length, get_or}
-use Rattle.rules.specs.Refusal.{Refusal, number, precedence, rank, earlier}
-use Rattle.rules.proofs.Precedence.{rank_below, number-at-rank}
-use Rattle.rules.proofs.ListingPromise.{small}
+use Rattle.std.specs.Ordering.{ord_min, is_lt}
+use Rattle.rules.specs.Refusal.{rank, rank_in, earlier}
+use Rattle.rules.specs.Basics.{every}
+use Rattle.rules.proofs.Precedence.{rank_below}
+use Rattle.rules.proofs.Tests.{every_true}
+use Rattle.refusal.specs.Meaning.{refusal_of}
+use Rattle.refusal.specs.declared.Refusal.{Refusal}
+use Rattle.refusal.specs.declared.Refusal.TheVariants.{Offset, TooLong, NotUtf8, Markup, «Type» as TypeFault, Shape, Value, Date, Clock, Zone, Rule as RuleFault, UnknownBound, TooMany, NotWritable, NoRoom, NoRow, Total, Damaged, NoDesk, DayFull}
+use Rattle.refusal.specs.contracts.RefusalOrd.TheImpl.{cmp-value}
 
-pub place_below : (r : Refusal) (n : ℕ) → n ≡ rank r → n < 20
-place_below r n e = omega (arith, e, rank_below r)
+abbrev ladder : List Refusal
+ladder =
+    NoDesk ∷ Damaged ∷ DayFull ∷ Offset ∷ TooLong ∷ NotUtf8 ∷ Markup ∷ TypeFault ∷ Shape ∷ Value ∷ Date ∷ Clock ∷ Zone ∷ RuleFault ∷ UnknownBound ∷ TooMany
+    ∷ NotWritable ∷ NoRoom ∷ NoRow ∷ Total ∷ []
 
-any_default : (l : List ℕ) (n a b : ℕ) → n < length l → get_or l n a ≡ get_or l n b
-any_default [] n a b h = absurd (omega arith)
-any_default (x ∷ l) zero a b h = refl
-any_default (x ∷ l) (suc n) a b h = any_default l n a b (omega arith)
+abbrev place : Refusal → ℕ
+place r = rank (refusal_of r)
 
-pub number_at : (r : Refusal) (n : ℕ) → n ≡ rank r → get_or (map number precedence) n 0 ≡ number r
-number_at r n e = rw e (any_default (map number precedence) (rank r) 0 1 (rank_below r) ∙ number-at-rank r)
+-- each stands at its place
+stands : (r : Refusal) → get_or ladder (place r) NoDesk ≡ r
+unfolding rank_in
+stands NoDesk = refl
+stands Damaged = refl
+stands DayFull = refl
+stands Offset = refl
+stands TooLong = refl
+stands NotUtf8 = refl
+stands Markup = refl
+stands TypeFault = refl
+stands Shape = refl
+stands Value = refl
+stands Date = refl
+stands Clock = refl
+stands Zone = refl
+stands RuleFault = refl
+stands UnknownBound = refl
+stands TooMany = refl
+stands NotWritable = refl
+stands NoRoom = refl
+stands NoRow = refl
+stands Total = refl
 
-pub number-below : (r : Refusal) (n : ℕ) → n ≡ rank r → get_or (map number precedence) n 0 < 2 ^ 64
-number-below r n e = rw (number_at r n e) (omega (arith, small r))
+-- what holds of all that stand on a list holds of the one at each place
+at-each : (p : Refusal → Bool) (l : List Refusal) → every p l ≡ true → (n : ℕ) → n < length l → p (get_or l n NoDesk) ≡ true
+at-each p [] e n h = absurd (omega arith)
+at-each p (q ∷ l) e zero h = (every_true p q l e).0
+at-each p (q ∷ l) e (suc n) h = at-each p l (every_true p q l e).1 n (omega arith)
 
-pub first-earlier : (a b : Refusal) (m n : ℕ) → m ≡ rank a → n ≡ rank b → m ≤ n → some a ≡ earlier (some a) (some b)
-first-earlier a b m n p q h = rw (le-leb (rank a) (rank b) (omega arith)) refl
+on-ladder : (p : Refusal → Bool) → every p ladder ≡ true → (r : Refusal) → p r ≡ true
+on-ladder p e r = subst (λ q. p q ≡ true) (stands r) (at-each p ladder e (place r) (rank_below (refusal_of r)))
 
-pub second-earlier : (a b : Refusal) (m n : ℕ) → m ≡ rank a → n ≡ rank b → n < m → some b ≡ earlier (some a) (some b)
-second-earlier a b m n p q h = rw (lt-leb (rank a) (rank b) (omega arith)) refl
+-- two tests agree
+abbrev agree : Bool → Bool → Bool
+agree true b = b
+agree false b = not b
+
+agreed : (a b : Bool) → agree a b ≡ true → a ≡ b
+agreed true true e = refl
+agreed true false e = sym e
+agreed false true e = e
+agreed false false e = refl
+
+-- the lesser of two stands before the other
+ordered : (a b : Refusal) → is_lt (cmp-value.it b a) ≡ not (leb (place a) (place b))
+unfolding rank_in every
+ordered a b = agreed _ _ (on-ladder (λ b. agree (is_lt (cmp-value.it b a)) (not (leb (place a) (place b))))
+    (on-ladder (λ a. every (λ b. agree (is_lt (cmp-value.it b a)) (not (leb (place a) (place b)))) ladder) refl a) b)
+
+-- of two, the lesser is told
+pub least_first : (a b : Refusal) → some (refusal_of (ord_min cmp-value.it a b)) ≡ earlier (some (refusal_of a)) (some (refusal_of b))
+least_first a b = rw (ordered a b) (go (leb (place a) (place b)))
+  where
+    go : (t : Bool) → some (refusal_of (cond (not t) b a)) ≡ some (cond t (refusal_of a) (refusal_of b))
+    go true = refl
+    go false = refl

@@ -1,10 +1,9 @@
 -- What the code's refusals and verdicts mean, in the words of the rules.
+use Rattle.std.specs.Prelude.{Result, Ok, Err}
 use Rattle.std.proofs.Math.Option.{Option, none, some}
 use Rattle.rules.specs.Refusal.{Refusal as Rule, OFFSET, TOO_LONG, NOT_UTF_8, MARKUP, TYPE, SHAPE, VALUE, DATE, CLOCK, ZONE, RULE, UNKNOWN_BOUND, TOO_MANY, NOT_WRITABLE, NO_ROOM, NO_ROW, TOTAL, DAMAGED, NO_DESK, DAY_FULL}
 use Rattle.refusal.specs.declared.Refusal.{Refusal}
 use Rattle.refusal.specs.declared.Refusal.TheVariants.{Offset, TooLong, NotUtf8, Markup, «Type» as TypeFault, Shape, Value, Date, Clock, Zone, Rule as RuleFault, UnknownBound, TooMany, NotWritable, NoRoom, NoRow, Total, Damaged, NoDesk, DayFull}
-use Rattle.refusal.specs.declared.Verdict.{Verdict}
-use Rattle.refusal.specs.declared.Verdict.TheVariants.{Accepted, Refused}
 
 abbrev pub refusal_of : Refusal → Rule
 refusal_of NoDesk = NO_DESK
@@ -29,6 +28,6 @@ refusal_of NoRow = NO_ROW
 refusal_of Total = TOTAL
 
 -- accepted is no fault
-abbrev pub fault_of : Verdict → Option Rule
-fault_of Accepted = none
-fault_of (Refused r) = some (refusal_of r)
+abbrev pub fault_of : Result (Unit {0}) Refusal → Option Rule
+fault_of (Ok x) = none
+fault_of (Err r) = some (refusal_of r)

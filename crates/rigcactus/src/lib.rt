@@ -8,7 +8,6 @@ ghost use Rattle.rules.specs.Timestamp.{tick_at};
 ghost use Rattle.rules.specs.Check.{is_offset, shift_by};
 ghost use Rattle.rules.specs.Services.{packed, refused_first, refused_second, answer_number, compared_number};
 ghost use Rattle.refusal.specs.Meaning.{refusal_of, fault_of};
-ghost use Rattle.timestamp.specs.Moments.{outcome_of};
 ghost use Rattle.comparison.specs.Meaning.{answer_meant, compared_meant};
 ghost use Rattle.listing.specs.Answers.{Few, listed_meant};
 ghost use Rattle.demands.specs.Services.{services};
@@ -21,8 +20,7 @@ ghost use Rattle.rigcactus.specs.Faults.{typed_faults, AllowedAs};
 use comparison::{Answer, Compared};
 use judge::Checked;
 use listing::Listed;
-use refusal::{Refusal, Verdict};
-use timestamp::Timestamp;
+use refusal::Refusal;
 use timestamp::tick::Tick;
 use totals::damage::is_full;
 use totals::entry::Reading;
@@ -64,12 +62,12 @@ fn shift_of(offset: i64) -> u64
 }
 
 // The number of a verdict's refusal, 0 if it is none.
-fn verdict_number(v: Verdict) -> u64
+fn verdict_number(v: Result<(), Refusal>) -> u64
     ensures { result ≡ if_some (fault_of v) page_number 0 }
 {
     match v {
-        Verdict::Accepted => 0,
-        Verdict::Refused(r) => refusal::number(r),
+        Ok(()) => 0,
+        Err(r) => refusal::number(r),
     }
 }
 
@@ -81,19 +79,18 @@ pub fn rigcactus_check(record: &[u8], offset: i64) -> u64
         return refusal::number(Refusal::Offset);
     }
     let checked = judge::check(record, shift_of(offset));
-    let fault = checked.fault;
-    verdict_number(fault)
+    verdict_number(checked.fault)
 }
 
 // The first fault of a checked record, with TYPE among its faults unless its type is one that is allowed.
-fn typed_fault(checked: Checked, allowed: bool) -> Verdict
+fn typed_fault(checked: Checked, allowed: bool) -> Result<(), Refusal>
     ensures { (shift : ℕ) (input : List ℕ) (may : Element → Bool) → CheckedAs input shift checked → AllowedAs checked allowed may → fault_of result ≡ first_of (typed_faults may shift input) }
 {
     let fault = checked.fault;
     if allowed {
         return fault;
     }
-    refusal::first(fault, Verdict::Refused(Refusal::Type))
+    refusal::first(fault, Err(Refusal::Type))
 }
 
 // The packed answer on a listing.
@@ -120,7 +117,7 @@ pub fn rigcactus_list(record: &[u8], offset: i64, list: &mut [u8]) -> u64
     let checked = judge::check(record, shift);
     let held = checked.record;
     let fault = typed_fault(checked, listing::is_listed(held));
-    if let Verdict::Refused(r) = fault {
+    if let Err(r) = fault {
         return refusal::number(r);
     }
     let listed = listing::list(record, held, shift, list);
@@ -189,13 +186,11 @@ pub fn rigcactus_compare(first: &[u8], second: &[u8], offset: i64) -> u64
     }
     let shift = shift_of(offset);
     let one = judge::check(first, shift);
-    let fault = one.fault;
-    if let Verdict::Refused(r) = fault {
+    if let Err(r) = one.fault {
         return first_refused(r);
     }
     let other = judge::check(second, shift);
-    let fault = other.fault;
-    if let Verdict::Refused(r) = fault {
+    if let Err(r) = other.fault {
         return second_refused(r);
     }
     let a = one.record;
@@ -211,16 +206,6 @@ fn signed_tick(start: u64) -> i64
     (start as i64) - (Tick::ORIGIN.0 as i64)
 }
 
-// The number of a timestamp's refusal, 0 if it is none.
-fn refusal_number(t: Timestamp) -> u64
-    ensures { result ≡ packed (λ m. 0) (outcome_of t) }
-{
-    match t {
-        Timestamp::At(_) => 0,
-        Timestamp::Refused(r) => refusal::number(r),
-    }
-}
-
 // Turns a timestamp into a tick. Bits 0 to 7 of the answer are the refusal's number, 0 if the text is accepted; the other bits are
 // its precision. The tick is written only then.
 pub fn rigcactus_tick(text: &[u8], offset: i64, tick: &mut i64) -> u64
@@ -233,12 +218,13 @@ pub fn rigcactus_tick(text: &[u8], offset: i64, tick: &mut i64) -> u64
     if MOST < text.len() {
         return refusal::number(Refusal::TooLong);
     }
-    let answer = timestamp::read(text, shift_of(offset));
-    let Timestamp::At(m) = answer else {
-        return refusal_number(answer);
-    };
-    *tick = signed_tick(m.start);
-    m.precision * 256
+    match timestamp::read(text, shift_of(offset)) {
+        Ok(m) => {
+            *tick = signed_tick(m.start);
+            m.precision * 256
+        }
+        Err(r) => refusal::number(r),
+    }
 }
 
 // What a record says of money: the reading of an MO, or the first refusal of the ladder, on which another type is TYPE.
@@ -251,7 +237,7 @@ fn read_money(record: &[u8], offset: i64) -> Reading
     let checked = judge::check(record, shift_of(offset));
     let held = checked.record;
     let fault = typed_fault(checked, entry::is_money(held));
-    if let Verdict::Refused(r) = fault {
+    if let Err(r) = fault {
         return Reading::Refused(r);
     }
     entry::read(record, held)

@@ -3,35 +3,35 @@ use Prim.Native.Nat.{ℕ, ◌+◌, ◌≤◌}
 use mathlib.Core.Path.{◌≡◌, refl, sym, ◌∙◌, ap, subst}
 use mathlib.Core.Bool.{Bool, true, false, ◌&&◌, cond, false≢true}
 use mathlib.Core.List.{List}
-use Rattle.rules.specs.Refusal.{Refusal, VALUE, DATE, CLOCK, ZONE, answered, refused}
+use Rattle.std.specs.Prelude.{Option, Some, None, Ok, Err, ok_or}
+use Rattle.refusal.specs.Meaning.{refusal_of}
+use Rattle.refusal.specs.declared.Refusal.{Refusal as RefusalTold}
+use Rattle.refusal.specs.declared.Refusal.TheVariants.{Value}
+use Rattle.rules.proofs.Tests.{clash}
+use Rattle.rules.specs.Refusal.{Refusal, DATE, CLOCK, ZONE, answered, refused}
 use Rattle.rules.specs.Timestamp.{is_date, is_clock, is_zone, start_of, unit_length, moment_of as rules_moment, read_timestamp}
 use Rattle.rules.proofs.Ticks.{read-wrong-form, read_right_form}
-use Rattle.timestamp.specs.Written.{FormOf, parts_of, zone_of, fourteen_written, FourteenOf}
+use Rattle.timestamp.specs.Written.{FormOf, parts_of, zone_of}
 use Rattle.timestamp.specs.Moments.{is_date_of, is_clock_of, unit_ticks, Possible, moment_of, moment_written}
 use Rattle.timestamp.specs.declared.form.Parts.{Parts}
-use Rattle.timestamp.specs.declared.fourteen.Numbers.{Numbers}
-use Rattle.timestamp.specs.declared.fourteen.Fourteen.{Fourteen}
-use Rattle.timestamp.specs.declared.fourteen.Fourteen.TheVariants.{Are}
-use Rattle.timestamp.specs.declared.form.Form.{Form}
-use Rattle.timestamp.specs.declared.form.Form.TheVariants.{Is, Bad}
 use Rattle.timestamp.specs.declared.form.Written.{Written}
 use Rattle.timestamp.proofs.Ranges.{unit_is}
 
-pub found_form : (s : List ℕ) (r : Form) (c : Written) → FormOf s r → r ≡ Is c → FormOf s (Is c)
-found_form s r c h e = subst (FormOf s) e h
-
-pub found_fourteen : (s : List ℕ) (r : Fourteen) (n : Numbers) → FourteenOf s r → r ≡ Are n → FormOf s (Is (fourteen_written n))
-found_fourteen s r n h e = subst (FourteenOf s) e h
+-- a text of the form of a timestamp
+pub found_form : (s : List ℕ) (r : Option Written) (c : Written) → FormOf s r → ok_or r Value ≡ Ok c → FormOf s (Some c)
+found_form s None c h e = clash (cc)
+found_form s (Some d) c h e = let z : d ≡ c = cc in subst (λ w. FormOf s (Some w)) z h
 
 -- a text of the wrong form
-pub wrong_form : (shift : ℕ) (s : List ℕ) (r : Form) → FormOf s r → r ≡ Bad → refused VALUE ≡ read_timestamp shift s
-wrong_form shift s r h e = sym (read-wrong-form shift s (subst (FormOf s) e h))
+pub wrong_form : (shift : ℕ) (s : List ℕ) (r : Option Written) (q : RefusalTold) → FormOf s r → ok_or r Value ≡ Err q → refused (refusal_of q) ≡ read_timestamp shift s
+wrong_form shift s None q h e = let z : Value ≡ q = cc in subst (λ x. refused (refusal_of x) ≡ read_timestamp shift s) z (sym (read-wrong-form shift s h))
+wrong_form shift s (Some c) q h e = clash (cc)
 
 -- what is wrong, by whether the date is possible, and the clock
 abbrev pub wrong_part : (date clock : Bool) → Refusal
 wrong_part date clock = cond date (cond clock ZONE CLOCK) DATE
 
-module _ (s : List ℕ) (c : Written) (f : FormOf s (Is c)) where
+module _ (s : List ℕ) (c : Written) (f : FormOf s (Some c)) where
   field : {A : Type 0} (get : Parts → A) → get c.parts ≡ get (parts_of f.0.parts c.parts.end)
   field get = ap get f.2.parts
 

@@ -8,6 +8,7 @@ use native.Mathlib.Omega.{arith}
 use borrow.Author.Tests.{lt-ltb}
 use lib.ListN.{length, get_or, take, drop, length-append, length-take, length-drop, take-append-drop, drop_of_length-le}
 use lib.Seq.{length-take-le, take-append-le, drop-append-le, take-take, drop-drop, take-add, take_all}
+use Rattle.std.specs.Prelude.{Some, None}
 use Rattle.rules.specs.Basics.{every, is_digit, decimal_from, decimal}
 use Rattle.rules.specs.LentLists.{is_byte, unsigned}
 use Rattle.rules.specs.Parsers.{ok}
@@ -20,10 +21,8 @@ use Rattle.text.specs.declared.digits.Number.TheVariants.{Is}
 use Rattle.text.specs.declared.words.Pairs.TheVariants.{Are}
 use Rattle.text.proofs.Numerals.{all-passed}
 use Rattle.text.proofs.Lanes.{word_split, word_append}
-use Rattle.timestamp.specs.Written.{PartsAt, ZoneBy, fraction_after, zone_after, FormOf, fourteen_written}
-use Rattle.timestamp.specs.declared.fourteen.Numbers.{Numbers}
-use Rattle.timestamp.specs.declared.form.Form.TheVariants.{Is as Form-as-Is}
-use Rattle.timestamp.specs.declared.form.Zone.TheVariants.{Agreed}
+use Rattle.timestamp.specs.Written.{PartsAt, ZoneBy, fraction_after, zone_after, FormOf}
+use Rattle.timestamp.specs.declared.form.Written.{Written}
 use Rattle.timestamp.proofs.Reading.{two_more, two_last, no_fraction, no_zone_lem}
 use Rattle.timestamp.proofs.Whole.{whole-written}
 
@@ -31,16 +30,19 @@ use Rattle.timestamp.proofs.Whole.{whole-written}
 abbrev pub padded : List ℕ → List ℕ
 padded s = drop 8 s ++ (48 ∷ 48 ∷ [])
 
--- the numbers of fourteen digits
-abbrev numbers_of : List ℕ → Numbers
-numbers_of s = record {
-  year = decimal (take 4 s);
-  month = decimal (take 2 (drop 4 s));
-  day = decimal (take 2 (drop 6 s));
-  hour = decimal (take 2 (drop 8 s));
-  minute = decimal (take 2 (drop 10 s));
-  second = decimal (take 2 (drop 12 s));
+-- what is written by the numbers of fourteen digits
+abbrev pub of_numbers : (year month day hour minute second : ℕ) → Written
+of_numbers year month day hour minute second = record {
+  year = year;
+  parts = record { count = 5; month = month; day = day; hour = hour; minute = minute; second = second; end = 14 };
+  fraction = record { value = 0; count = 0; end = 14 };
+  zone = None;
 }
+
+abbrev written_in : List ℕ → Written
+written_in s =
+    of_numbers (decimal (take 4 s)) (decimal (take 2 (drop 4 s))) (decimal (take 2 (drop 6 s))) (decimal (take 2 (drop 8 s))) (decimal (take 2 (drop 10 s)))
+    (decimal (take 2 (drop 12 s)))
 
 -- a part of a beginning is a part of the whole
 part_within : (k i n : ℕ) (l : List ℕ) → i + k ≤ n → take k (drop i (take n l)) ≡ take k (drop i l)
@@ -156,7 +158,7 @@ module _ (s : List ℕ) (size : length s ≡ 14) where
     pair : (at : ℕ) → at + 2 ≤ 14 → digits 2 (drop at s) ≡ ok (decimal (take 2 (drop at s))) (drop (at + 2) s)
     pair at h = (number at 2 h).2
 
-    parts : PartsAt s (fourteen_written (numbers_of s)).parts
+    parts : PartsAt s (written_in s).parts
     parts = record {
       list = decimal (take 2 (drop 4 s)) ∷ decimal (take 2 (drop 6 s)) ∷ decimal (take 2 (drop 8 s)) ∷ decimal (take 2 (drop 10 s)) ∷ decimal (take 2 (drop 12 s)) ∷ [];
       reads = two_more 4 _ _ (pair 4 (omega arith)) (two_more 3 _ _ (pair 6 (omega arith)) (two_more 2 _ _ (pair 8 (omega arith))
@@ -166,7 +168,7 @@ module _ (s : List ℕ) (size : length s ≡ 14) where
       high = omega (arith, size);
     }
 
-    fraction : FractionBy (fraction_after 5) s 14 (fourteen_written (numbers_of s)).fraction
+    fraction : FractionBy (fraction_after 5) s 14 (written_in s).fraction
     unfolding decimal_from
     fraction = record {
       list = [];
@@ -178,26 +180,20 @@ module _ (s : List ℕ) (size : length s ≡ 14) where
       high = omega (arith, size);
     }
 
-    zone : ZoneBy (zone_after 5) s 14 (record { zone = Agreed; end = 14 })
+    zone : ZoneBy (zone_after 5) s 14 (record { zone = None; end = 14 })
     zone = record { reads = no_zone_lem s 14 nothing; small = record {}; high = omega (arith, size) }
 
-    pub fourteen_written_lem : FormOf s (Form-as-Is (fourteen_written (numbers_of s)))
-    fourteen_written_lem = whole-written s (decimal (take 4 s)) (number 0 4 (omega arith)) _ parts _ fraction (record { zone = Agreed; end = 14 }) zone (sym size)
+    pub fourteen_written_lem : FormOf s (Some (written_in s))
+    fourteen_written_lem = whole-written s (decimal (take 4 s)) (number 0 4 (omega arith)) _ parts _ fraction (record { zone = None; end = 14 }) zone (sym size)
 
 -- as the two words give the numbers
 pub fourteen_read : (s : List ℕ) → length s ≡ 14 → (century rest month day hour minute second none : ℕ)
     → PairsOf (take 8 s) (Are century rest month day) → PairsOf (padded s) (Are hour minute second none)
-    → FormOf s (Form-as-Is (fourteen_written (record { year = 100 * century + rest; month = month; day = day; hour = hour; minute = minute; second = second })))
+    → FormOf s (Some (of_numbers (100 * century + rest) month day hour minute second))
 fourteen_read s size century rest month day hour minute second none d c =
     let year : decimal (take 4 s) ≡ 100 * century + rest
     = year-is s size d.0 c.0 ∙ ap₂ (λ (a b : ℕ). 100 * a + b) (two-first s ∙ sym d.1) (two-within s 2 (omega arith) ∙ sym d.2) in
-    subst (λ (n : Numbers). FormOf s (Form-as-Is (fourteen_written n)))
-    (λ i. record {
-      year = year i;
-      month = (two-within s 4 (omega arith) ∙ sym d.3) i;
-      day = (two-within s 6 (omega arith) ∙ sym d.4) i;
-      hour = (two-padded s size 0 (omega arith) ∙ sym c.1) i;
-      minute = (two-padded s size 2 (omega arith) ∙ sym c.2) i;
-      second = (two-padded s size 4 (omega arith) ∙ sym c.3) i;
-    })
+    subst (λ (w : Written). FormOf s (Some w))
+    (λ i. of_numbers (year i) ((two-within s 4 (omega arith) ∙ sym d.3) i) ((two-within s 6 (omega arith) ∙ sym d.4) i)
+    ((two-padded s size 0 (omega arith) ∙ sym c.1) i) ((two-padded s size 2 (omega arith) ∙ sym c.2) i) ((two-padded s size 4 (omega arith) ∙ sym c.3) i))
     (fourteen_written_lem s size d.0 c.0)

@@ -47,6 +47,11 @@ module _ (s : List ℕ) (p : Parts) (h : PartsTo s p) where
       let n : 5 - length h.list ≡ 0 = omega (arith, counted) in
       stays (rw n (two_last (drop p.end s)))
 
+  pub count_more : (n : ℕ) (r : Parts) → r ≡ parts_of (h.list ++ (n ∷ [])) (p.end + 2) → r.count ≡ p.count + 1
+  count_more n r e =
+      let size : length (h.list ++ (n ∷ [])) ≡ length h.list + 1 = length-append h.list (n ∷ []) in
+      omega (arith, ap (λ (q : Parts). q.count) e, size, counted)
+
   pub parts_more : (n : ℕ) (r : Parts) → p.count < 5 → NumberAt s p.end 2 (Is n) → r ≡ parts_of (h.list ++ (n ∷ [])) (p.end + 2) → PartsTo s r
   parts_more n r l d e = subst (PartsTo s) (sym e) (record { list = h.list ++ (n ∷ []); parts = refl; few = omega (arith, size, counted); high = d.0; goes = goes })
     where

@@ -1,6 +1,6 @@
 -- The ranges of dates, clocks, offsets and units.
-use Prim.Native.Nat.{ℕ, zero, suc, ◌+◌, ◌-◌, ◌*◌, ◌^◌, ◌≤◌, ◌<◌}
-use mathlib.Core.Path.{◌≡◌, refl, subst}
+use Prim.Native.Nat.{ℕ, zero, suc, ◌+◌, ◌-◌, ◌*◌, ◌^◌, ◌≤◌}
+use mathlib.Core.Path.{◌≡◌, refl}
 use mathlib.Core.Bool.{Bool, true, false, ◌&&◌, cond}
 use mathlib.Core.List.{List, [], ◌∷◌}
 use native.Mathlib.Nat.{pow-le-pow_right}
@@ -10,13 +10,10 @@ use lib.Dec.{leb}
 use lib.ListN.{length, get_or}
 use Rattle.rules.specs.Basics.{every, is_from}
 use Rattle.rules.specs.Calendar.{is_leap, year_length, month_lengths, month_length, days_before}
-use Rattle.rules.specs.Timestamp.{is_offset_time, is_zone, unit_length}
+use Rattle.rules.specs.Timestamp.{is_offset_time, unit_length}
 use Rattle.rules.proofs.Tests.{both_true, is_from-true, every_true}
 use Rattle.rules.proofs.Calendar.{days_of_years-most, months_in_year}
-use Rattle.timestamp.specs.Written.{zone_of, SmallZone}
 use Rattle.timestamp.specs.Moments.{InRange, is_date_of, is_clock_of, unit_ticks}
-use Rattle.timestamp.specs.declared.form.Zone.{Zone}
-use Rattle.timestamp.specs.declared.form.Zone.TheVariants.{Plus, Minus}
 
 entry_most : (n : ℕ) (l : List ℕ) (i : ℕ) → every (λ x. leb x n) l ≡ true → get_or l i 0 ≤ n
 unfolding every
@@ -50,19 +47,6 @@ clock-range h m s e =
 
 pub offset-most : (h m : ℕ) → is_offset_time h m ≡ true → 60 * h + m ≤ 840
 offset-most h m e = leb-true (60 * h + m) 840 (both_true (leb m 59) (leb (60 * h + m) 840) e).1
-
--- hours and minutes of an offset
-pub plus-small : (z : Zone) {h m : ℕ} → SmallZone z → z ≡ Plus h m → (h < 100) × (m < 100)
-plus-small z k e = subst SmallZone e k
-
-pub minus-small : (z : Zone) {h m : ℕ} → SmallZone z → z ≡ Minus h m → (h < 100) × (m < 100)
-minus-small z k e = subst SmallZone e k
-
-pub plus-most : (z : Zone) {h m : ℕ} → is_zone (zone_of z) ≡ true → z ≡ Plus h m → 60 * h + m ≤ 840
-plus-most z {h} {m} k e = offset-most h m (subst (λ (x : Zone). is_zone (zone_of x) ≡ true) e k)
-
-pub minus-most : (z : Zone) {h m : ℕ} → is_zone (zone_of z) ≡ true → z ≡ Minus h m → 60 * h + m ≤ 840
-minus-most z {h} {m} k e = offset-most h m (subst (λ (x : Zone). is_zone (zone_of x) ≡ true) e k)
 
 -- the days before a date in range
 pub days-most : (y m d : ℕ) → InRange y m d → days_before y m d ≤ 3_652_089

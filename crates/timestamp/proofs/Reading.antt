@@ -1,23 +1,26 @@
 -- The form of a timestamp, part by part.
-use Prim.Native.Nat.{ℕ, suc, ◌≤◌, ◌<◌}
+use Prim.Native.Nat.{ℕ, suc, ◌+◌, ◌≤◌, ◌<◌}
 use mathlib.Core.Path.{◌≡◌, refl, subst}
+use mathlib.Core.Bool.{Bool, true, false, ◌&&◌, not}
 use mathlib.Core.List.{List, [], ◌∷◌}
 use mathlib.Core.Option.{none, some}
 use native.Mathlib.Omega.{arith}
-use borrow.Author.Tests.{le-leb, lt-leb}
-use lib.ListN.{length, drop}
+use borrow.Author.Tests.{le-leb, lt-leb, eqb-true}
+use lib.Dec.{eqb}
+use lib.ListN.{length, get_or, drop}
+use Rattle.std.specs.Prelude.{Option, Some, None}
 use Rattle.rules.specs.Basics.{decimal_from}
 use Rattle.rules.specs.Parsers.{bad, ok, pure, ◌or◌, one, byte, finish, whole}
+use Rattle.rules.proofs.Tests.{clash}
+use Rattle.text.proofs.Numerals.{none-at, byte_at, no_byte}
 use Rattle.rules.specs.Timestamp.{Zone, no_zone, plus, minus, digits, two_digits, point, hours, zone, timestamp}
 use Rattle.text.specs.Numbers.{NumberAt, FractionBy, FractionAt}
 use Rattle.text.specs.declared.digits.Fraction.{Fraction}
 use Rattle.text.specs.declared.digits.Number.{Number}
 use Rattle.text.specs.declared.digits.Number.TheVariants.{Is, Nothing}
-use Rattle.timestamp.specs.Written.{HoursAt, ZoneBy, ZoneAt, fraction_after, zone_after}
-use Rattle.timestamp.specs.declared.form.Zone.TheVariants.{Agreed}
+use Rattle.timestamp.specs.Written.{sign_of, HoursAt, ZoneBy, ZoneAt, fraction_after, zone_after}
 use Rattle.timestamp.specs.declared.form.Zoned.{Zoned}
 use Rattle.timestamp.specs.declared.form.Hours.{Hours}
-use Rattle.timestamp.specs.declared.form.Hours.TheVariants.{Is as Hours-as-Is, Nothing as Hours-as-Nothing}
 
 -- what a number that was read says
 pub found : (s : List ℕ) (at n : ℕ) (r : Number) (v : ℕ) → NumberAt s at n r → r ≡ Is v → NumberAt s at n (Is v)
@@ -26,10 +29,10 @@ found s at n r v h e = subst (NumberAt s at n) e h
 pub missing : (s : List ℕ) (at n : ℕ) (r : Number) → NumberAt s at n r → r ≡ Nothing → digits n (drop at s) ≡ bad
 missing s at n r h e = subst (NumberAt s at n) e h
 
-pub found_hours : (s : List ℕ) (at : ℕ) (r : Hours) (h m e : ℕ) → HoursAt s at r → r ≡ Hours-as-Is h m e → HoursAt s at (Hours-as-Is h m e)
-found_hours s at r h m e k q = subst (HoursAt s at) q k
+pub found_hours : (s : List ℕ) (at : ℕ) (r : Option Hours) (h : Hours) → HoursAt s at r → r ≡ Some h → HoursAt s at (Some h)
+found_hours s at r h k q = subst (HoursAt s at) q k
 
-pub missing_hours : (s : List ℕ) (at : ℕ) (r : Hours) → HoursAt s at r → r ≡ Hours-as-Nothing → (sign : ℕ → ℕ → Zone) → hours sign (drop at s) ≡ bad
+pub missing_hours : (s : List ℕ) (at : ℕ) (r : Option Hours) → HoursAt s at r → r ≡ None → (sign : ℕ → ℕ → Zone) → hours sign (drop at s) ≡ bad
 missing_hours s at r k q = subst (HoursAt s at) q k
 
 -- two digits more, or none
@@ -79,6 +82,41 @@ pub zone-minus-none : (s t : List ℕ) → byte 43 s ≡ bad → byte 45 s ≡ o
 unfolding zone
 zone-minus-none s t d e f = rw (d, e, f) refl
 
+-- a byte that is neither sign, or a sign with hours or without, by the tests for a plus and for a minus
+module _ (s : List ℕ) (at : ℕ) (inside : at < length s) where
+  pub no_sign : (not (eqb (get_or s at 0) 43) && not (eqb (get_or s at 0) 45)) ≡ true → (zone or pure no_zone) (drop at s) ≡ ok no_zone (drop at s)
+  no_sign = go (eqb (get_or s at 0) 43) (eqb (get_or s at 0) 45) refl refl
+    where
+      go : (a b : Bool) → eqb (get_or s at 0) 43 ≡ a → eqb (get_or s at 0) 45 ≡ b → (not a && not b) ≡ true → (zone or pure no_zone) (drop at s) ≡ ok no_zone (drop at s)
+      go true b p q e = clash (cc)
+      go false true p q e = clash (cc)
+      go false false p q e = zone-none (drop at s) (none-at (λ c. eqb c 43) s at inside p) (none-at (λ c. eqb c 45) s at inside q)
+
+  pub no_hours : (not (eqb (get_or s at 0) 43) && not (eqb (get_or s at 0) 45)) ≡ false → ((sign : ℕ → ℕ → Zone) → hours sign (drop (at + 1) s) ≡ bad)
+      → (zone or pure no_zone) (drop at s) ≡ ok no_zone (drop at s)
+  no_hours e h = go (eqb (get_or s at 0) 43) (eqb (get_or s at 0) 45) refl refl e
+    where
+      go : (a b : Bool) → eqb (get_or s at 0) 43 ≡ a → eqb (get_or s at 0) 45 ≡ b → (not a && not b) ≡ false → (zone or pure no_zone) (drop at s) ≡ ok no_zone (drop at s)
+      go true b p q e =
+          let is = eqb-true _ 43 p in
+          zone-plus-none (drop at s) (drop (at + 1) s) (byte_at 43 s at inside is) (h plus) (no_byte 45 s at inside (λ z. omega (arith, is, z)))
+      go false true p q e =
+          zone-minus-none (drop at s) (drop (at + 1) s) (none-at (λ c. eqb c 43) s at inside p) (byte_at 45 s at inside (eqb-true _ 45 q)) (h minus)
+      go false false p q e = clash (cc)
+
+  pub signed : (o : Hours) → (not (eqb (get_or s at 0) 43) && not (eqb (get_or s at 0) 45)) ≡ false
+      → ((sign : ℕ → ℕ → Zone) → hours sign (drop (at + 1) s) ≡ ok (sign o.hours o.minutes) (drop o.end s))
+      → (zone or pure no_zone) (drop at s) ≡ ok (sign_of (eqb (get_or s at 0) 45) o.hours o.minutes) (drop o.end s)
+  signed o e h = go (eqb (get_or s at 0) 43) (eqb (get_or s at 0) 45) refl refl e
+    where
+      go : (a b : Bool) → eqb (get_or s at 0) 43 ≡ a → eqb (get_or s at 0) 45 ≡ b → (not a && not b) ≡ false
+          → (zone or pure no_zone) (drop at s) ≡ ok (sign_of b o.hours o.minutes) (drop o.end s)
+      go true true p q e = absurd (omega (arith, eqb-true _ 43 p, eqb-true _ 45 q))
+      go true false p q e = zone-plus (drop at s) (drop (at + 1) s) (byte_at 43 s at inside (eqb-true _ 43 p)) (h plus)
+      go false true p q e =
+          zone-minus (drop at s) (drop (at + 1) s) (none-at (λ c. eqb c 43) s at inside p) (byte_at 45 s at inside (eqb-true _ 45 q)) (h minus)
+      go false false p q e = clash (cc)
+
 -- a fraction, where one may stand
 pub fraction_early : (count : ℕ) (s : List ℕ) (at : ℕ) → count < 5 → at ≤ length s → FractionBy (fraction_after count) s at (record { value = 0; count = 0; end = at })
 unfolding decimal_from
@@ -96,7 +134,7 @@ fraction_late count s at f l h = record {
   high = h.high;
 }
 
-pub zone_early : (count : ℕ) (s : List ℕ) (at : ℕ) → count < 3 → at ≤ length s → ZoneBy (zone_after count) s at (record { zone = Agreed; end = at })
+pub zone_early : (count : ℕ) (s : List ℕ) (at : ℕ) → count < 3 → at ≤ length s → ZoneBy (zone_after count) s at (record { zone = None; end = at })
 zone_early count s at l h = record { reads = rw (lt-leb 3 count l) refl; small = tt; high = h }
 
 pub zone_late : (count : ℕ) (s : List ℕ) (at : ℕ) (z : Zoned) → 3 ≤ count → ZoneAt s at z → ZoneBy (zone_after count) s at z

@@ -1,5 +1,5 @@
 -- Dates, clocks and units as code has them, and a timestamp's answer, in the words of the rules.
-use Rattle.std.specs.Prelude.{ℕ, zero, suc, ◌+◌, ◌-◌, ◌*◌, ◌^◌, ◌≤◌, ◌<◌, ◌≡◌, Bool, true, ◌&&◌, leb}
+use Rattle.std.specs.Prelude.{ℕ, zero, suc, ◌+◌, ◌-◌, ◌*◌, ◌^◌, ◌≤◌, ◌<◌, ◌≡◌, Bool, true, ◌&&◌, leb, Result, Ok, Err}
 use Rattle.rules.specs.Basics.{is_from}
 use Rattle.rules.specs.Refusal.{Outcome, answered, refused}
 use Rattle.rules.specs.Calendar.{year_length, month_length, days_before, second, minute, hour, day}
@@ -8,8 +8,7 @@ use Rattle.refusal.specs.Meaning.{refusal_of}
 use Rattle.timestamp.specs.Written.{zone_of, SmallZone}
 use Rattle.timestamp.specs.declared.form.Written.{Written}
 use Rattle.timestamp.specs.declared.Moment.{Moment}
-use Rattle.timestamp.specs.declared.Timestamp.{Timestamp}
-use Rattle.timestamp.specs.declared.Timestamp.TheVariants.{At, Refused}
+use Rattle.refusal.specs.declared.Refusal.{Refusal}
 
 -- numbers small enough to be a date's
 pub record InRange (year month day : ℕ) : Type 0 where
@@ -40,9 +39,9 @@ unit_ticks y m (suc (suc (suc (suc (suc n))))) d = 10 ^ (4 - d)
 abbrev pub moment_of : Moment → RulesMoment
 moment_of m = record { start = m.start; precision = m.precision; next = m.next }
 
-abbrev pub outcome_of : Timestamp → Outcome RulesMoment
-outcome_of (At m) = answered (moment_of m)
-outcome_of (Refused r) = refused (refusal_of r)
+abbrev pub outcome_of : Result Moment Refusal → Outcome RulesMoment
+outcome_of (Ok m) = answered (moment_of m)
+outcome_of (Err r) = refused (refusal_of r)
 
 -- what is written is possible, and the agreed offset is in range
 pub record Possible (shift : ℕ) (w : Written) : Type 0 where

@@ -1,22 +1,15 @@
 -- What is written in a timestamp, as code holds it, in the words of the rules.
-use Rattle.std.specs.Prelude.{ℕ, ◌≤◌, ◌<◌, ◌≡◌, false, List, [], leb, length, get_or, drop}
+use Rattle.std.specs.Prelude.{ℕ, ◌≤◌, ◌<◌, ◌≡◌, Bool, true, false, List, [], leb, length, get_or, drop, Option, Some, None}
 use Rattle.std.proofs.Math.Option.{none, some}
 use Rattle.rules.specs.Basics.{every, is_digit}
 use Rattle.rules.specs.Parsers.{Parser, bad, ok, pure, guard, ◌>>◌, ◌or◌, whole}
 use Rattle.rules.specs.Timestamp.{two_digits, point, hours, zone as zone_parser, timestamp, ten_thousandths}
 use Rattle.rules.specs.Timestamp.{Zone as RulesZone, no_zone, plus, minus, Written as RulesWritten}
 use Rattle.timestamp.specs.declared.form.Parts.{Parts}
-use Rattle.timestamp.specs.declared.form.Zone.{Zone}
-use Rattle.timestamp.specs.declared.form.Zone.TheVariants.{Agreed, Plus, Minus}
+use Rattle.timestamp.specs.declared.form.Offset.{Offset}
 use Rattle.timestamp.specs.declared.form.Hours.{Hours}
-use Rattle.timestamp.specs.declared.form.Hours.TheVariants.{Is, Nothing}
 use Rattle.timestamp.specs.declared.form.Zoned.{Zoned}
 use Rattle.timestamp.specs.declared.form.Written.{Written}
-use Rattle.timestamp.specs.declared.fourteen.Numbers.{Numbers}
-use Rattle.timestamp.specs.declared.fourteen.Fourteen.{Fourteen}
-use Rattle.timestamp.specs.declared.fourteen.Fourteen.TheVariants.{Are, Not}
-use Rattle.timestamp.specs.declared.form.Form.{Form}
-use Rattle.timestamp.specs.declared.form.Form.TheVariants.{Is as Form-as-Is, Bad}
 
 -- the code's parts of a list of two-digit numbers; missing ones take their first value
 abbrev pub parts_of : List ℕ → (end : ℕ) → Parts
@@ -31,21 +24,24 @@ pub record PartsAt (s : List ℕ) (p : Parts) : Type 0 where
   pub high : p.end ≤ length s
 
 -- an offset as the rules have it
-abbrev pub zone_of : Zone → RulesZone
-zone_of Agreed = no_zone
-zone_of (Plus h m) = plus h m
-zone_of (Minus h m) = minus h m
+abbrev pub sign_of : Bool → ℕ → ℕ → RulesZone
+sign_of true = minus
+sign_of false = plus
+
+abbrev pub zone_of : Option Offset → RulesZone
+zone_of None = no_zone
+zone_of (Some o) = sign_of o.is_behind o.hours o.minutes
 
 -- hours and minutes of two digits
-abbrev pub SmallZone : Zone → Type 0
-SmallZone Agreed = Unit {0}
-SmallZone (Plus h m) = (h < 100) × (m < 100)
-SmallZone (Minus h m) = (h < 100) × (m < 100)
+abbrev pub SmallZone : Option Offset → Type 0
+SmallZone None = Unit {0}
+SmallZone (Some o) = (o.hours < 100) × (o.minutes < 100)
 
 -- hours and minutes after any sign, read
-abbrev pub HoursAt : List ℕ → (at : ℕ) → Hours → Type 0
-HoursAt s at (Is h m e) = ((sign : ℕ → ℕ → RulesZone) → hours sign (drop at s) ≡ ok (sign h m) (drop e s)) × (h < 100) × (m < 100) × (e ≤ length s)
-HoursAt s at Nothing = (sign : ℕ → ℕ → RulesZone) → hours sign (drop at s) ≡ bad
+abbrev pub HoursAt : List ℕ → (at : ℕ) → Option Hours → Type 0
+HoursAt s at (Some h) =
+    ((sign : ℕ → ℕ → RulesZone) → hours sign (drop at s) ≡ ok (sign h.hours h.minutes) (drop h.end s)) × (h.hours < 100) × (h.minutes < 100) × (h.end ≤ length s)
+HoursAt s at None = (sign : ℕ → ℕ → RulesZone) → hours sign (drop at s) ≡ bad
 
 -- what a parser of offsets reads at a position
 pub record ZoneBy (P : Parser RulesZone) (s : List ℕ) (at : ℕ) (z : Zoned) : Type 0 where
@@ -76,20 +72,11 @@ pub record Writes (w : RulesWritten) (c : Written) : Type 0 where
   pub small : (c.fraction.value < 10_000) × SmallZone c.zone
 
 -- a text of the form of a timestamp, or another
-abbrev pub FormOf : List ℕ → Form → Type 0
-FormOf s (Form-as-Is c) = (w : RulesWritten) × (whole timestamp s ≡ some w) × Writes w c
-FormOf s Bad = whole timestamp s ≡ none
+abbrev pub FormOf : List ℕ → Option Written → Type 0
+FormOf s (Some c) = (w : RulesWritten) × (whole timestamp s ≡ some w) × Writes w c
+FormOf s None = whole timestamp s ≡ none
 
--- fourteen digits, as what is written
-abbrev pub fourteen_written : Numbers → Written
-fourteen_written n = record {
-  year = n.year;
-  parts = record { count = 5; month = n.month; day = n.day; hour = n.hour; minute = n.minute; second = n.second; end = 14 };
-  fraction = record { value = 0; count = 0; end = 14 };
-  zone = Agreed;
-}
-
--- fourteen digits and nothing else, or another text
-abbrev pub FourteenOf : List ℕ → Fourteen → Type 0
-FourteenOf s (Are n) = FormOf s (Form-as-Is (fourteen_written n))
-FourteenOf s Not = length s ≡ 14 → every is_digit s ≡ false
+-- fourteen digits and nothing else, as what is written, or another text
+abbrev pub FourteenOf : List ℕ → Option Written → Type 0
+FourteenOf s (Some c) = FormOf s (Some c)
+FourteenOf s None = length s ≡ 14 → every is_digit s ≡ false

@@ -18,25 +18,26 @@ pub struct Parts {
     pub end: usize,
 }
 
-// An offset as written, in hours and minutes, or none: then the agreed one holds.
+// An offset as written: whether it is behind, written with a minus, and its hours and minutes.
 #[derive(Clone, Copy)]
-pub enum Zone {
-    Agreed,
-    Plus(u64, u64),
-    Minus(u64, u64),
+pub struct Offset {
+    pub is_behind: bool,
+    pub hours: u64,
+    pub minutes: u64,
 }
 
-// Hours and minutes of an offset and the position past them, or that none stand there.
+// Hours and minutes of an offset; `end` is past them.
 #[derive(Clone, Copy)]
-pub enum Hours {
-    Is(u64, u64, usize),
-    Nothing,
+pub struct Hours {
+    pub hours: u64,
+    pub minutes: u64,
+    pub end: usize,
 }
 
-// An offset; `end` is past it.
+// An offset, or none: then the agreed one holds; `end` is past it.
 #[derive(Clone, Copy)]
 pub struct Zoned {
-    pub zone: Zone,
+    pub zone: Option<Offset>,
     pub end: usize,
 }
 
@@ -46,14 +47,7 @@ pub struct Written {
     pub year: u64,
     pub parts: Parts,
     pub fraction: Fraction,
-    pub zone: Zone,
-}
-
-// A timestamp as written, or that a text has not the form of one.
-#[derive(Clone, Copy)]
-pub enum Form {
-    Is(Written),
-    Bad,
+    pub zone: Option<Offset>,
 }
 
 // A number where one more part is read into its place, the number before elsewhere.
@@ -84,6 +78,9 @@ fn with_next(p: Parts, n: u64) -> Parts
     }
 }
 
+// How many parts may follow the year: MM, DD, hh, mm and ss.
+const MOST: usize = 5;
+
 // The parts after the year.
 fn read_parts(s: &[u8]) -> Parts
     requires { 4 ≤ length s.now }
@@ -98,7 +95,7 @@ fn read_parts(s: &[u8]) -> Parts
         second: 0,
         end: 4,
     };
-    while p.count < 5 {
+    for part in 0..MOST {
         let Number::Is(n) = digits::read(s, p.end, 2) else {
             return p;
         };
@@ -108,17 +105,25 @@ fn read_parts(s: &[u8]) -> Parts
 }
 
 // Hours of two digits, and minutes of two more if they stand there.
-fn read_hours(s: &[u8], at: usize) -> Hours
+fn read_hours(s: &[u8], at: usize) -> Option<Hours>
     requires { at ≤ length s.now }
     ensures { HoursAt s.now at result }
 {
-    let Number::Is(h) = digits::read(s, at, 2) else {
-        return Hours::Nothing;
+    let Number::Is(hours) = digits::read(s, at, 2) else {
+        return None;
     };
-    let Number::Is(m) = digits::read(s, at + 2, 2) else {
-        return Hours::Is(h, 0, at + 2);
+    let Number::Is(minutes) = digits::read(s, at + 2, 2) else {
+        return Some(Hours {
+            hours,
+            minutes: 0,
+            end: at + 2,
+        });
     };
-    Hours::Is(h, m, at + 2 + 2)
+    Some(Hours {
+        hours,
+        minutes,
+        end: at + 2 + 2,
+    })
 }
 
 // An offset, a sign with hours and minutes, or none.
@@ -127,32 +132,34 @@ fn read_zone(s: &[u8], at: usize) -> Zoned
     ensures { ZoneAt s.now at result }
 {
     let none = Zoned {
-        zone: Zone::Agreed,
+        zone: None,
         end: at,
     };
     if s.len() <= at {
         return none;
     }
     let sign = s[at];
-    if sign == 43 {
-        let Hours::Is(h, m, end) = read_hours(s, at + 1) else {
-            return none;
-        };
-        return Zoned {
-            zone: Zone::Plus(h, m),
-            end,
-        };
+    if (sign != b'+') & (sign != b'-') {
+        return none;
     }
-    if sign == 45 {
-        let Hours::Is(h, m, end) = read_hours(s, at + 1) else {
-            return none;
-        };
-        return Zoned {
-            zone: Zone::Minus(h, m),
+    let Some(
+        Hours {
+            hours,
+            minutes,
             end,
-        };
+        },
+    ) = read_hours(s, at + 1)
+    else {
+        return none;
+    };
+    Zoned {
+        zone: Some(Offset {
+            is_behind: sign == b'-',
+            hours,
+            minutes,
+        }),
+        end,
     }
-    none
 }
 
 // A fraction, where one may stand: after the seconds.
@@ -177,7 +184,7 @@ fn read_zone_after(s: &[u8], count: usize, at: usize) -> Zoned
 {
     if count < 3 {
         return Zoned {
-            zone: Zone::Agreed,
+            zone: None,
             end: at,
         };
     }
@@ -185,24 +192,22 @@ fn read_zone_after(s: &[u8], count: usize, at: usize) -> Zoned
 }
 
 // What is written in a text, if it has the form of a timestamp.
-pub fn read_form(s: &[u8]) -> Form
+pub fn read_form(s: &[u8]) -> Option<Written>
     ensures { FormOf s.now result }
 {
     let Number::Is(year) = digits::read(s, 0, 4) else {
-        return Form::Bad;
+        return None;
     };
     let parts = read_parts(s);
-    let count = parts.count;
-    let fraction = read_fraction_after(s, count, parts.end);
-    let zoned = read_zone_after(s, count, fraction.end);
+    let fraction = read_fraction_after(s, parts.count, parts.end);
+    let zoned = read_zone_after(s, parts.count, fraction.end);
     if zoned.end != s.len() {
-        return Form::Bad;
+        return None;
     }
-    let zone = zoned.zone;
-    Form::Is(Written {
+    Some(Written {
         year,
         parts,
         fraction,
-        zone,
+        zone: zoned.zone,
     })
 }

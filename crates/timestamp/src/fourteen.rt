@@ -1,48 +1,42 @@
 // Fourteen digits, the usual timestamp, read eight bytes at a time.
 ghost use Rattle.timestamp.specs.Written.{FourteenOf};
 
+use crate::form::{Parts, Written};
+use text::digits::Fraction;
 use text::words;
 use text::words::Pairs;
 
-// The numbers of a date and a clock.
-#[derive(Clone, Copy)]
-pub struct Numbers {
-    pub year: u64,
-    pub month: u64,
-    pub day: u64,
-    pub hour: u64,
-    pub minute: u64,
-    pub second: u64,
-}
-
-// The numbers of fourteen digits, or that a text is something else.
-#[derive(Clone, Copy)]
-pub enum Fourteen {
-    Are(Numbers),
-    Not,
-}
-
 // Reads a text that is fourteen digits. Two digits 0 after the clock fill its word up to eight bytes.
-pub fn read(s: &[u8]) -> Fourteen
+pub fn read(s: &[u8]) -> Option<Written>
     ensures { FourteenOf s.now result }
 {
     if s.len() != 14 {
-        return Fourteen::Not;
+        return None;
     }
     let date = words::four(s, 0) + 0x1_0000_0000 * words::four(s, 4);
     let Pairs::Are(century, rest, month, day) = words::read_pairs(date) else {
-        return Fourteen::Not;
+        return None;
     };
     let clock = words::four(s, 8) + 0x1_0000_0000 * (words::two(s, 12) + 0x3030_0000);
     let Pairs::Are(hour, minute, second, _) = words::read_pairs(clock) else {
-        return Fourteen::Not;
+        return None;
     };
-    Fourteen::Are(Numbers {
+    Some(Written {
         year: 100 * century + rest,
-        month,
-        day,
-        hour,
-        minute,
-        second,
+        parts: Parts {
+            count: 5,
+            month,
+            day,
+            hour,
+            minute,
+            second,
+            end: 14,
+        },
+        fraction: Fraction {
+            value: 0,
+            count: 0,
+            end: 14,
+        },
+        zone: None,
     })
 }

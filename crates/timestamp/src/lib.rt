@@ -4,7 +4,7 @@
 ghost use Rattle.std.specs.Prelude.{◌≡◌, true, ◌+◌, ◌-◌, ◌*◌, ◌^◌, ◌≤◌, ◌<◌};
 ghost use Rattle.rules.specs.Basics.{is_from};
 ghost use Rattle.rules.specs.Timestamp.{is_offset_time, is_zone, shift_of, read_timestamp};
-ghost use Rattle.timestamp.specs.Written.{zone_of, SmallZone, fourteen_written};
+ghost use Rattle.timestamp.specs.Written.{zone_of, SmallZone, FormOf};
 ghost use Rattle.timestamp.specs.Moments.{is_date_of, is_clock_of, unit_ticks, Possible, moment_written, outcome_of};
 
 pub mod calendar;
@@ -12,6 +12,7 @@ mod form;
 mod fourteen;
 pub mod tick;
 
+use form::{Offset, Written};
 use refusal::Refusal;
 use tick::Tick;
 
@@ -24,18 +25,11 @@ pub struct Moment {
     pub next: u64,
 }
 
-// What a text says as a timestamp: a moment, or a refusal.
-#[derive(Clone, Copy)]
-pub enum Timestamp {
-    At(Moment),
-    Refused(Refusal),
-}
-
 // Whether a number lies in a range.
 fn in_range(x: u64, low: u64, high: u64) -> bool
     ensures { result ≡ is_from low high x }
 {
-    (low <= x) & (x <= high)
+    (low..=high).contains(&x)
 }
 
 // Whether numbers are a date of the calendar, in years 0001 to 9999. Every month has at least 28 days, and only a later day asks for its length.
@@ -69,29 +63,32 @@ fn is_offset_time(hours: u64, minutes: u64) -> bool
     (minutes <= 59) & (60 * hours + minutes <= 840)
 }
 
-// Whether an offset is possible.
-fn is_zone(zone: form::Zone) -> bool
+// Whether an offset is possible; the agreed one, where none is written, is.
+fn is_zone(zone: Option<Offset>) -> bool
     requires { SmallZone zone }
     ensures { result ≡ is_zone (zone_of zone) }
 {
-    match zone {
-        form::Zone::Agreed => true,
-        form::Zone::Plus(h, m) => is_offset_time(h, m),
-        form::Zone::Minus(h, m) => is_offset_time(h, m),
-    }
+    let Some(offset) = zone else {
+        return true;
+    };
+    is_offset_time(offset.hours, offset.minutes)
 }
 
 // The minutes to add for an offset, which is subtracted: 840 less the one written, or `shift`, 840 less the one agreed.
-fn minutes_to_add(zone: form::Zone, shift: u64) -> u64
+fn minutes_to_add(zone: Option<Offset>, shift: u64) -> u64
     requires fact_1 { SmallZone zone }
     requires fact_2 { is_zone (zone_of zone) ≡ true }
     requires fact_3 { shift ≤ 1680 }
     ensures { (result ≡ shift_of shift (zone_of zone)) × (result ≤ 1680) }
 {
-    match zone {
-        form::Zone::Agreed => shift,
-        form::Zone::Plus(h, m) => 840 - (60 * h + m),
-        form::Zone::Minus(h, m) => 840 + (60 * h + m),
+    let Some(offset) = zone else {
+        return shift;
+    };
+    let minutes = 60 * offset.hours + offset.minutes;
+    if offset.is_behind {
+        840 + minutes
+    } else {
+        840 - minutes
     }
 }
 
@@ -128,16 +125,15 @@ fn unit_ticks(year: u64, month: u64, parts: usize, digits: usize) -> u64
 }
 
 // The moment of what is written.
-fn make_moment(w: form::Written, shift: u64) -> Moment
+fn make_moment(w: Written, shift: u64) -> Moment
     requires { Possible shift w }
     ensures { result ≡ moment_written shift w }
 {
     let p = w.parts;
     let f = w.fraction;
-    let z = w.zone;
     let date = Tick::of_date(w.year, p.month, p.day);
     let clock = Tick::of_clock(p.hour, p.minute, p.second, f.value);
-    let start = date.0 + clock.0 + minutes_to_add(z, shift) * Tick::MINUTE.0;
+    let start = date.0 + clock.0 + minutes_to_add(w.zone, shift) * Tick::MINUTE.0;
     Moment {
         start,
         precision: 4 + 2 * (p.count as u64) + (f.count as u64),
@@ -145,50 +141,29 @@ fn make_moment(w: form::Written, shift: u64) -> Moment
     }
 }
 
-// The moment of fourteen digits.
-fn fourteen_moment(n: fourteen::Numbers, shift: u64) -> Moment
-    requires { Possible shift (fourteen_written n) }
-    ensures { result ≡ moment_written shift (fourteen_written n) }
+// What is written in a text of the form of a timestamp. Fourteen digits go a shorter way to the same answer.
+fn written(text: &[u8]) -> Option<Written>
+    ensures { FormOf text.now result }
 {
-    let date = Tick::of_date(n.year, n.month, n.day);
-    let clock = Tick::of_clock(n.hour, n.minute, n.second, 0);
-    let start = date.0 + clock.0 + shift * Tick::MINUTE.0;
-    Moment {
-        start,
-        precision: 14,
-        next: start + Tick::SECOND.0,
-    }
+    fourteen::read(text).or_else(|| form::read_form(text))
 }
 
 // Reads a text as a timestamp; `shift` is 840 less the agreed offset in minutes. A text of the wrong form is VALUE. Of one of the right
-// form an impossible date is DATE, else an impossible clock CLOCK, else an impossible offset ZONE. Fourteen digits go a shorter way to the
-// same answer.
-pub fn read(text: &[u8], shift: u64) -> Timestamp
+// form an impossible date is DATE, else an impossible clock CLOCK, else an impossible offset ZONE.
+pub fn read(text: &[u8], shift: u64) -> Result<Moment, Refusal>
     requires { shift ≤ 1680 }
     ensures { outcome_of result ≡ read_timestamp shift text.now }
 {
-    if let fourteen::Fourteen::Are(n) = fourteen::read(text) {
-        if !is_date(n.year, n.month, n.day) {
-            return Timestamp::Refused(Refusal::Date);
-        }
-        if !is_clock(n.hour, n.minute, n.second) {
-            return Timestamp::Refused(Refusal::Clock);
-        }
-        return Timestamp::At(fourteen_moment(n, shift));
-    }
-    let form::Form::Is(w) = form::read_form(text) else {
-        return Timestamp::Refused(Refusal::Value);
-    };
+    let w = written(text).ok_or(Refusal::Value)?;
     let p = w.parts;
     if !is_date(w.year, p.month, p.day) {
-        return Timestamp::Refused(Refusal::Date);
+        return Err(Refusal::Date);
     }
     if !is_clock(p.hour, p.minute, p.second) {
-        return Timestamp::Refused(Refusal::Clock);
+        return Err(Refusal::Clock);
     }
-    let z = w.zone;
-    if !is_zone(z) {
-        return Timestamp::Refused(Refusal::Zone);
+    if !is_zone(w.zone) {
+        return Err(Refusal::Zone);
     }
-    Timestamp::At(make_moment(w, shift))
+    Ok(make_moment(w, shift))
 }

@@ -19,8 +19,8 @@ shift_of-requires c = sym c.is_offset.ensures ∙ c.if-not-is_offset.false
 pub check-checked-requires : goal.check-checked-requires
 check-checked-requires c = c.shift_of.ensures.1
 
-pub returns-in-Refused : goal.returns-in-Refused
-returns-in-Refused c = refused-read c.args.offset c.args.«record».now (money-refused c.args.offset c.args.«record».now (sym (subst (λ z. c.is_offset.result ≡ is_offset z) (to_z-of_z w64 c.args.offset c.ranges.offset) c.is_offset.ensures) ∙ c.if-not-is_offset.false) (subst (λ z. c.shift_of.result ≡ shift_by z) (to_z-of_z w64 c.args.offset c.ranges.offset) c.shift_of.ensures.0) (sym (ap fault_of c.in-Refused.is) ∙ (c.typed_fault-fault.ensures c.shift_of.result c.args.«record».now is_money c.check-checked.ensures c.is_money.ensures)))
+pub returns-in-Err : goal.returns-in-Err
+returns-in-Err c = refused-read c.args.offset c.args.«record».now (money-refused c.args.offset c.args.«record».now (sym (subst (λ z. c.is_offset.result ≡ is_offset z) (to_z-of_z w64 c.args.offset c.ranges.offset) c.is_offset.ensures) ∙ c.if-not-is_offset.false) (subst (λ z. c.shift_of.result ≡ shift_by z) (to_z-of_z w64 c.args.offset c.ranges.offset) c.shift_of.ensures.0) (sym (ap fault_of c.in-Err.is) ∙ (c.typed_fault-fault.ensures c.shift_of.result c.args.«record».now is_money c.check-checked.ensures c.is_money.ensures)))
 
 pub read-requires : goal.read-requires
 read-requires c = c.check-checked.ensures.within

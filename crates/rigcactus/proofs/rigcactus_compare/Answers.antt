@@ -17,19 +17,19 @@ shift_of-shift-requires c = sym c.is_offset.ensures ∙ c.if-not-is_offset.false
 pub check-one-requires : goal.check-one-requires
 check-one-requires c = c.shift_of-shift.ensures.1
 
-pub returns-in-Refused : goal.returns-in-Refused
-returns-in-Refused c =
-    c.first_refused-in-Refused.ensures ∙ compare_first c.args.offset c.args.first.now c.args.second.now _
-    (judged-refused c.args.offset c.args.first.now (sym (subst (λ z. c.is_offset.result ≡ is_offset z) (to_z-of_z w64 c.args.offset c.ranges.offset) c.is_offset.ensures) ∙ c.if-not-is_offset.false) (subst (λ z. c.shift_of-shift.result ≡ shift_by z) (to_z-of_z w64 c.args.offset c.ranges.offset) c.shift_of-shift.ensures.0) _ (sym (ap fault_of c.in-Refused.is) ∙ c.check-one.ensures.fault))
+pub returns-in-Err : goal.returns-in-Err
+returns-in-Err c =
+    c.first_refused-in-Err.ensures ∙ compare_first c.args.offset c.args.first.now c.args.second.now _
+    (judged-refused c.args.offset c.args.first.now (sym (subst (λ z. c.is_offset.result ≡ is_offset z) (to_z-of_z w64 c.args.offset c.ranges.offset) c.is_offset.ensures) ∙ c.if-not-is_offset.false) (subst (λ z. c.shift_of-shift.result ≡ shift_by z) (to_z-of_z w64 c.args.offset c.ranges.offset) c.shift_of-shift.ensures.0) _ (sym (ap fault_of c.in-Err.is) ∙ c.check-one.ensures.fault))
 
 pub check-other-requires : goal.check-other-requires
 check-other-requires c = c.shift_of-shift.ensures.1
 
-pub returns-in-Refused-fault : goal.returns-in-Refused-fault
-returns-in-Refused-fault c =
+pub returns-in-Err-fault : goal.returns-in-Err-fault
+returns-in-Err-fault c =
     let (a, h) = judged-accepted c.args.offset c.args.first.now (sym (subst (λ z. c.is_offset.result ≡ is_offset z) (to_z-of_z w64 c.args.offset c.ranges.offset) c.is_offset.ensures) ∙ c.if-not-is_offset.false) (subst (λ z. c.shift_of-shift.result ≡ shift_by z) (to_z-of_z w64 c.args.offset c.ranges.offset) c.shift_of-shift.ensures.0) (sym (ap fault_of c.in_default.is) ∙ c.check-one.ensures.fault) in
     c.second_refused.ensures ∙ compare_second c.args.offset c.args.first.now c.args.second.now a h _
-    (judged-refused c.args.offset c.args.second.now (sym (subst (λ z. c.is_offset.result ≡ is_offset z) (to_z-of_z w64 c.args.offset c.ranges.offset) c.is_offset.ensures) ∙ c.if-not-is_offset.false) (subst (λ z. c.shift_of-shift.result ≡ shift_by z) (to_z-of_z w64 c.args.offset c.ranges.offset) c.shift_of-shift.ensures.0) _ (sym (ap fault_of c.in-Refused-fault.is) ∙ c.check-other.ensures.fault))
+    (judged-refused c.args.offset c.args.second.now (sym (subst (λ z. c.is_offset.result ≡ is_offset z) (to_z-of_z w64 c.args.offset c.ranges.offset) c.is_offset.ensures) ∙ c.if-not-is_offset.false) (subst (λ z. c.shift_of-shift.result ≡ shift_by z) (to_z-of_z w64 c.args.offset c.ranges.offset) c.shift_of-shift.ensures.0) _ (sym (ap fault_of c.in-Err-fault.is) ∙ c.check-other.ensures.fault))
 
 pub compare-requires : goal.compare-requires
 compare-requires c =

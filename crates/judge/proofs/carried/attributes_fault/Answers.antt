@@ -15,22 +15,10 @@ pub loop-n-init : goal.loop-n-init
 unfolding below
 loop-n-init c = (omega arith, λ l t h. sym (earlier-none_right (fault_of c.others_fault-so_far.result)))
 
-pub offset_bounds-tag-n : goal.offset_bounds-tag-n
-offset_bounds-tag-n c = omega (arith, c.loop-n-test.true)
-
-pub bounds-tag-n : goal.bounds-tag-n
-bounds-tag-n c = omega (arith, c.loop-n-test.true)
-
 pub attribute_fault-requires : goal.attribute_fault-requires
 attribute_fault-requires c =
     let q = c.requires.fact_1.placed c.loop-n.n in
     record { fact_1 = c.loop-n-test.true; fact_2 = omega (arith, c.if-place-ne0.true); fact_3 = omega (arith, q, c.if-place-ne0.true); fact_4 = c.requires.fact_2 }
-
-pub overflow_add-n : goal.overflow_add-n
-overflow_add-n c = omega (arith, c.loop-n-test.true)
-
-pub loop-n-smaller : goal.loop-n-smaller
-loop-n-smaller c = omega (arith, c.loop-n-test.true)
 
 pub loop-n-preserved : goal.loop-n-preserved
 loop-n-preserved c = (

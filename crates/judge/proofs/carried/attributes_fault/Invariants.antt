@@ -1,6 +1,6 @@
 -- `judge::carried::attributes_fault` meets its contract. The loop's invariant: so far the fault is the first of those of names that are not known and of
 -- those of the numbers before.
-use Prim.Native.Nat.{◌-◌, ◌≤◌}
+use Prim.Native.Nat.{◌≤◌}
 use mathlib.Core.Path.{◌≡◌}
 use mathlib.Core.List.{List}
 use Rattle.rules.specs.Refusal.{earlier}
@@ -18,8 +18,5 @@ use Rattle.judge.proofs.carried.attributes_fault.Given as goal
 
 abbrev pub invariant-loop-n : goal.invariant-loop-n
 invariant-loop-n l = (l.n ≤ known)
-    × ((attrs : List Attribute) → Tells l.s attrs l.tag.places → (kind_meant l.kind ≡ TS → fault_of l.time ≡ time_fault l.shift attrs)
+    × ((attrs : List Attribute) → Tells l.s attrs l.fn.tag.places → (kind_meant l.kind ≡ TS → fault_of l.time ≡ time_fault l.shift attrs)
     → fault_of l.so_far ≡ earlier (fault_of l.initial.so_far) (below (attribute_faults l.shift (standing_meant l.standing) (kind_meant l.kind)) attrs l.n))
-
-abbrev pub decreases-loop-n : goal.decreases-loop-n
-decreases-loop-n l = known - l.n

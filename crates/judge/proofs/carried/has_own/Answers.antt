@@ -7,28 +7,13 @@ use Rattle.judge.proofs.carried.has_own.Goals as goal
 pub loop-n-init : goal.loop-n-init
 loop-n-init c = (omega arith, λ s l t. own_numbers (kind_meant c.args.kind) l)
 
-pub own_column-requires : goal.own_column-requires
-own_column-requires c = omega (arith, c.loop-n-test.true)
-
-pub offset_bounds-tag-n : goal.offset_bounds-tag-n
-offset_bounds-tag-n c = omega (arith, c.loop-n-test.true)
-
-pub bounds-tag-n : goal.bounds-tag-n
-bounds-tag-n c = omega (arith, c.loop-n-test.true)
-
-pub returns-then-is_column-tag : goal.returns-then-is_column-tag
-returns-then-is_column-tag c = λ s l t.
+pub returns-then-is_column-place : goal.returns-then-is_column-place
+returns-then-is_column-place c = λ s l t.
     let n = c.loop-n.n in
     let k = kind_meant c.args.kind in
     let h = c.loop-n-test.true in
-    let e = own_told k l n c.own_column.ensures c.is_column.ensures (t.placed n h) c.if-is_column-tag.true in
+    let e = own_told k l n c.own_column.ensures c.is_column.ensures (t.placed n h) c.if-is_column-place.true in
     sym (own_found k l n h e) ∙ c.loop-n.invariant.1 s l t
-
-pub overflow_add-n : goal.overflow_add-n
-overflow_add-n c = omega (arith, c.loop-n-test.true)
-
-pub loop-n-smaller : goal.loop-n-smaller
-loop-n-smaller c = omega (arith, c.loop-n-test.true)
 
 pub loop-n-preserved : goal.loop-n-preserved
 loop-n-preserved c = (
@@ -37,7 +22,7 @@ loop-n-preserved c = (
       let n = c.loop-n.n in
       let k = kind_meant c.args.kind in
       let h = c.loop-n-test.true in
-      let e = own_told k l n c.own_column.ensures c.is_column.ensures (t.placed n h) c.if-is_column-tag.false in
+      let e = own_told k l n c.own_column.ensures c.is_column.ensures (t.placed n h) c.if-is_column-place.false in
       sym (own_passed k l n h e) ∙ c.loop-n.invariant.1 s l t,
 )
 

@@ -14,7 +14,4 @@ use Rattle.judge.proofs.carried.has_own.Given as goal
 
 abbrev pub invariant-loop-n : goal.invariant-loop-n
 invariant-loop-n l = (l.n ≤ known)
-    × ((s : List ℕ) (attrs : List Attribute) → Tells s attrs l.tag.places → own_from (kind_meant l.kind) attrs l.n (known - l.n) ≡ exists (carries attrs) (line_of (kind_meant l.kind)).columns)
-
-abbrev pub decreases-loop-n : goal.decreases-loop-n
-decreases-loop-n l = known - l.n
+    × ((s : List ℕ) (attrs : List Attribute) → Tells s attrs l.fn.tag.places → own_from (kind_meant l.kind) attrs l.n (known - l.n) ≡ exists (carries attrs) (line_of (kind_meant l.kind)).columns)

@@ -1,28 +1,25 @@
-use mathlib.Core.Path.{refl, ap}
-use Rattle.timestamp.specs.declared.form.Parts.{Parts}
+-- `timestamp::form::read_parts` meets its contract, by the laws of `Parting`.
+use mathlib.Core.Path.{refl}
 use mathlib.Core.List.{[]}
 use native.Mathlib.Omega.{arith}
 use Rattle.timestamp.proofs.Reading.{found, missing}
-use Rattle.timestamp.proofs.Parting.{parts-stop, parts_last, parts_more}
+use Rattle.timestamp.proofs.Parting.{count_more, parts-stop, parts_last, parts_more}
 use Rattle.timestamp.proofs.form.read_parts.Goals as goal
 
-pub loop-p-init : goal.loop-p-init
-loop-p-init c = record { list = []; parts = refl; few = omega arith; high = c.requires; goes = λ more e h. h }
+pub loop-part-init : goal.loop-part-init
+loop-part-init c = (record { list = []; parts = refl; few = omega arith; high = c.requires; goes = λ more e h. h }, refl)
 
 pub read-requires : goal.read-requires
-read-requires c = record { fact_1 = omega arith; fact_2 = c.loop-p.invariant.high }
+read-requires c = record { fact_1 = omega arith; fact_2 = c.loop-part.invariant.0.high }
 
 pub returns-in_default : goal.returns-in_default
-returns-in_default c = parts-stop c.args.s.now c.loop-p.p c.loop-p.invariant c.loop-p-test.true (missing c.args.s.now c.loop-p.p.end 2 c.read.result c.read.ensures c.in_default.is)
+returns-in_default c = parts-stop c.args.s.now c.loop-part.p c.loop-part.invariant.0 (omega (arith, c.loop-part.invariant.1, c.loop-part-test.true)) (missing c.args.s.now c.loop-part.p.end 2 c.read.result c.read.ensures c.in_default.is)
 
 pub with_next-p-requires : goal.with_next-p-requires
-with_next-p-requires c = record { fact_1 = c.loop-p-test.true; fact_2 = omega (arith, (found c.args.s.now c.loop-p.p.end 2 c.read.result _ c.read.ensures c.in-Is.is).0) }
+with_next-p-requires c = record { fact_1 = omega (arith, c.loop-part.invariant.1, c.loop-part-test.true); fact_2 = omega (arith, (found c.args.s.now c.loop-part.p.end 2 c.read.result _ c.read.ensures c.in-Is.is).0) }
 
-pub loop-p-smaller : goal.loop-p-smaller
-loop-p-smaller c = omega (arith, ap (λ (q : Parts). q.end) (c.with_next-p.ensures c.loop-p.invariant.list c.loop-p.invariant.parts), (found c.args.s.now c.loop-p.p.end 2 c.read.result _ c.read.ensures c.in-Is.is).0)
-
-pub loop-p-preserved : goal.loop-p-preserved
-loop-p-preserved c = parts_more c.args.s.now c.loop-p.p c.loop-p.invariant _ c.with_next-p.result c.loop-p-test.true (found c.args.s.now c.loop-p.p.end 2 c.read.result _ c.read.ensures c.in-Is.is) (c.with_next-p.ensures c.loop-p.invariant.list c.loop-p.invariant.parts)
+pub loop-part-preserved : goal.loop-part-preserved
+loop-part-preserved c = (parts_more c.args.s.now c.loop-part.p c.loop-part.invariant.0 _ c.with_next-p.result (omega (arith, c.loop-part.invariant.1, c.loop-part-test.true)) (found c.args.s.now c.loop-part.p.end 2 c.read.result _ c.read.ensures c.in-Is.is) (c.with_next-p.ensures c.loop-part.invariant.0.list c.loop-part.invariant.0.parts), omega (arith, count_more c.args.s.now c.loop-part.p c.loop-part.invariant.0 _ c.with_next-p.result (c.with_next-p.ensures c.loop-part.invariant.0.list c.loop-part.invariant.0.parts), c.loop-part.invariant.1))
 
 pub returns : goal.returns
-returns c = parts_last c.args.s.now c.loop-p.p c.loop-p.invariant c.loop-p-test.false
+returns c = parts_last c.args.s.now c.loop-part.p c.loop-part.invariant.0 (omega (arith, c.loop-part.invariant.1, c.loop-part-test.false))
