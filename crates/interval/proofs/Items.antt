@@ -5,7 +5,6 @@ use mathlib.Core.HLevel.{is_prop→PathP}
 use Rattle.std.proofs.Props.{props}
 use Rattle.rules.specs.Basics.{exists}
 use Rattle.rules.specs.Sets.{Place, holds, is_in}
-use Rattle.interval.specs.declared.Bound.TheVariants.{Unbounded}
 use Rattle.interval.specs.declared.Interval.{Interval}
 use Rattle.interval.specs.declared.Stretches.{Stretches}
 use Rattle.interval.specs.Meaning.{interval_of, Ticked, AllTicked, used, stretches_of, Canonical}
@@ -17,10 +16,6 @@ use Rattle.interval.proofs.Sweep.{length-snoc, store, padded-length}
 -- what owning an array of structs tells of its list, for `search`
 pub length_mapped : (X Y : Type 0) (f : X → Y) (l : List X) (n : ℕ) → length (map f l) ≡ n → length l ≡ n
 length_mapped X Y f l n p = sym (length-map l f) ∙ p
-
--- what an array of intervals is past its end
-abbrev pub nowhere : Interval
-nowhere = record { low = Unbounded; high = Unbounded; low_ticked = omega arith; high_ticked = omega arith }
 
 -- intervals with the same bounds are the same
 pub same_interval : {v w : Interval} → v.low ≡ w.low → v.high ≡ w.high → v ≡ w

@@ -14,7 +14,6 @@ pub use list::write_list;
 pub use set::{all, apply, combine, contains, empty, is_in, same, single};
 
 // A bound of an interval. A tick (the page's term) is counted from fourteen hours before 0001-01-01 00:00, so that none is negative.
-// The first variant stays `Unbounded`: the logic takes it for what is past an array's end.
 #[derive(Clone, Copy, PartialEq, Eq)]
 pub enum Bound {
     Unbounded,
