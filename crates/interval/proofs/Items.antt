@@ -1,9 +1,10 @@
 -- The items of a set as edges, which the code stores in an array of 65 with `top` after them.
-use Rattle.std.proofs.Common.{◌≡◌, ℕ, zero, suc, ◌+◌, ◌-◌, ◌*◌, ◌<◌, ◌≤◌, false, ◌||◌, List, [], ◌∷◌, ◌++◌, map, length, get_or, take, drop, set, sym, refl, ap, ◌∙◌, append_assoc, zero-le, add-one, arith, drop_of_length-le, length-take, length-take-le, drop-cons, get_or-take, take-suc}
+use Rattle.std.proofs.Common.{◌≡◌, ℕ, suc, ◌+◌, ◌-◌, ◌*◌, ◌<◌, ◌≤◌, false, ◌||◌, List, [], ◌∷◌, ◌++◌, map, length, get_or, take, drop, set, sym, refl, ap, ◌∙◌, append_assoc, zero-le, add-one, arith, drop_of_length-le, length-take, length-take-le, drop-cons, take-suc}
 use lib.ListN.{length-map}
+use mathlib.Core.HLevel.{is_prop→PathP}
+use Rattle.std.proofs.Props.{props}
 use Rattle.rules.specs.Basics.{exists}
 use Rattle.rules.specs.Sets.{Place, holds, is_in}
-use Rattle.interval.specs.declared.Bound.TheVariants.{Unbounded}
 use Rattle.interval.specs.declared.Interval.{Interval}
 use Rattle.interval.specs.declared.Stretches.{Stretches}
 use Rattle.interval.specs.Meaning.{interval_of, Ticked, AllTicked, used, stretches_of, Canonical}
@@ -16,9 +17,14 @@ use Rattle.interval.proofs.Sweep.{length-snoc, store, padded-length}
 pub length_mapped : (X Y : Type 0) (f : X → Y) (l : List X) (n : ℕ) → length (map f l) ≡ n → length l ≡ n
 length_mapped X Y f l n p = sym (length-map l f) ∙ p
 
--- what an array of intervals is past its end
-abbrev pub nowhere : Interval
-nowhere = record { low = Unbounded; high = Unbounded }
+-- intervals with the same bounds are the same
+pub same_interval : {v w : Interval} → v.low ≡ w.low → v.high ≡ w.high → v ≡ w
+same_interval {v} {w} p q = λ i. record {
+  low = p i;
+  high = q i;
+  low_ticked = is_prop→PathP (λ j. Ticked (p j)) (λ j. Prim.hlevel props) v.low_ticked w.low_ticked i;
+  high_ticked = is_prop→PathP (λ j. Ticked (q j)) (λ j. Prim.hlevel props) v.high_ticked w.high_ticked i;
+}
 
 -- ---- edges of lists of intervals
 edges-length : (l : List Interval) → length (edges l) ≡ 2 * length l
@@ -29,14 +35,9 @@ pub edges-snoc : (l : List Interval) (v : Interval) → edges (l ++ v ∷ []) �
 edges-snoc [] v = refl
 edges-snoc (w ∷ l) v = ap (λ (r : List ℕ). low_edge w.low ∷ high_edge w.high ∷ r) (edges-snoc l v)
 
-pub ticked-snoc : (l : List Interval) (v : Interval) → AllTicked l → Ticked v.low → Ticked v.high → AllTicked (l ++ v ∷ [])
-ticked-snoc [] v t a b = (a, b, tt)
-ticked-snoc (w ∷ l) v t a b = (t.0, t.1, ticked-snoc l v t.2 a b)
-
-pub ticked-at : (l : List Interval) (k : ℕ) → AllTicked l → k < length l → Ticked (get_or l k nowhere).low × Ticked (get_or l k nowhere).high
-ticked-at [] k t h = absurd (omega arith)
-ticked-at (v ∷ l) zero t h = (t.0, t.1)
-ticked-at (v ∷ l) (suc k) t h = ticked-at l k t.2 (omega arith)
+pub all-ticked : (l : List Interval) → AllTicked l
+all-ticked [] = tt
+all-ticked (v ∷ l) = (v.low_ticked, v.high_ticked, all-ticked l)
 
 -- two edges stored at the end of padded edges
 store_pair : (l : List ℕ) (k a e : ℕ) → length l ≡ 2 * k → k < 32 → set (set (padded l) (2 * k) a) (2 * k + 1) e ≡ padded (l ++ a ∷ e ∷ [])
@@ -45,19 +46,19 @@ store_pair l k a e h lt =
     (ap padded (append_assoc l (a ∷ []) (e ∷ [])))
 
 -- ---- the items in use, one after another
-module _ (l : List Interval) (k : ℕ) (h : k < length l) where
+module _ (l : List Interval) (k : ℕ) (h : k < length l) (d : Interval) where
   -- the edges of one more item
-  pub edges-stored : length l ≤ 32 → let v = get_or l k nowhere in set (set (padded (edges (take k l))) (2 * k) (low_edge v.low)) (2 * k + 1) (high_edge v.high) ≡ padded (edges (take (k + 1) l))
+  pub edges-stored : length l ≤ 32 → let v = get_or l k d in set (set (padded (edges (take k l))) (2 * k) (low_edge v.low)) (2 * k + 1) (high_edge v.high) ≡ padded (edges (take (k + 1) l))
   edges-stored most =
-      let v = get_or l k nowhere in
-      let e : take (k + 1) l ≡ take k l ++ v ∷ [] = rw add-one (take-suc l k nowhere h) in
+      let v = get_or l k d in
+      let e : take (k + 1) l ≡ take k l ++ v ∷ [] = rw add-one (take-suc l k d h) in
       let n : length (edges (take k l)) ≡ 2 * k = omega (arith, edges-length (take k l), length-take-le k l (omega arith)) in
       rw (e, edges-snoc (take k l) v) (store_pair (edges (take k l)) k (low_edge v.low) (high_edge v.high) n (omega arith))
 
   -- whether a place is in an item, or in one that follows it
-  pub is_in-next : (x : Place) → is_in (map interval_of (drop k l)) x ≡ holds (interval_of (get_or l k nowhere)) x || is_in (map interval_of (drop (k + 1) l)) x
+  pub is_in-next : (x : Place) → is_in (map interval_of (drop k l)) x ≡ holds (interval_of (get_or l k d)) x || is_in (map interval_of (drop (k + 1) l)) x
   unfolding exists
-  is_in-next x = rw (drop-cons l k nowhere h, add-one)
+  is_in-next x = rw (drop-cons l k d h, add-one)
 
 pub is_in-past : (l : List Interval) (k : ℕ) (x : Place) → length l ≤ k → is_in (map interval_of (drop k l)) x ≡ false
 unfolding exists
@@ -70,11 +71,11 @@ module _ (s : Stretches) where
 
   module _ (c : Canonical s) where
     pub edges_rise : Rising 0 (edges (used s))
-    edges_rise = canonical_rising (used s) c.ticked c.rises
+    edges_rise = canonical_rising (used s) c.rises
 
     pub is_in-edges : (x : Place) → is_in (stretches_of s) x ≡ within (padded (edges (used s))) (spot x)
     is_in-edges x =
-        is_in-within (used s) 0 c.ticked edges_rise x
+        is_in-within (used s) 0 edges_rise x
         ∙ sym (rw (rank-append (edges (used s)) (65 - length (edges (used s))) (suc (spot x)) (spot_below x)) refl)
 
     pub edges_climb : Climbs 0 (padded (edges (used s)))
@@ -91,10 +92,3 @@ module _ (s : Stretches) where
   module _ (long : length s.items ≡ 32) (fits : s.count ≤ 32) where
     pub used-length : length (used s) ≡ s.count
     used-length = length-take-le s.count s.items (omega arith)
-
-    module _ (k : ℕ) (h : k < s.count) where
-      used-at : get_or (used s) k nowhere ≡ get_or s.items k nowhere
-      used-at = get_or-take s.count s.items k nowhere h
-
-      pub used-ticked : AllTicked (used s) → Ticked (get_or s.items k nowhere).low × Ticked (get_or s.items k nowhere).high
-      used-ticked t = rw used-at at (ticked-at (used s) k t (rw used-length h))

@@ -17,6 +17,7 @@ use Rattle.interval.specs.declared.Bound.TheVariants.{Unbounded, Open, Closed}
 use Rattle.interval.specs.declared.Interval.{Interval}
 use Rattle.interval.specs.declared.Stretches.{Stretches}
 use Rattle.interval.specs.Meaning.{bound_of, interval_of, tick, used, stretches_of, Canonical, SaysSame}
+use Rattle.interval.proofs.Items.{same_interval}
 use Rattle.interval.specs.contracts.BoundPartialEq.TheImpl.{eq-value as bound}
 use Rattle.interval.specs.contracts.IntervalPartialEq.TheImpl.{eq-value as interval}
 
@@ -60,8 +61,7 @@ items_one (v ∷ l) (w ∷ k) e =
     let d : interval_of v ≡ interval_of w = cc in
     let p : v.low ≡ w.low = bound_one v.low w.low (ap (λ (i : PageInterval). i.low) d) in
     let q : v.high ≡ w.high = bound_one v.high w.high (ap (λ (i : PageInterval). i.high) d) in
-    let i : v ≡ w = λ i. record { low = p i; high = q i } in
-    ap₂ ◌∷◌ i (items_one l k (cc))
+    ap₂ ◌∷◌ (same_interval p q) (items_one l k (cc))
 
 -- ---- `==` of bounds and of intervals, as it is derived
 bound_decides : (a b : Bound) → Decides (bound.it a b) (a ≡ b)
@@ -77,7 +77,7 @@ bound_decides (Closed m) (Closed n) = Decides-like _ (ap Closed) (ap tick) (Deci
 
 interval_decides : (v w : Interval) → Decides (interval.it v w) (v ≡ w)
 interval_decides v w =
-    Decides-like _ (λ (p, q). λ i. record { low = p i; high = q i }) (λ e. (ap (λ (x : Interval). x.low) e, ap (λ (x : Interval). x.high) e))
+    Decides-like _ (λ (p, q). same_interval p q) (λ e. (ap (λ (x : Interval). x.low) e, ap (λ (x : Interval). x.high) e))
     (Decides-and (bound.it v.low w.low) (bound.it v.high w.high) (bound_decides v.low w.low) (bound_decides v.high w.high))
 
 pub items_decide : (l k : List Interval) (r : Bool) → r ≡ pointwise interval.it l k → Decides r (l ≡ k)

@@ -1,3 +1,4 @@
+pub mod Ticks
 pub mod Meaning
 pub mod Edges
 pub mod Joining

@@ -1,7 +1,7 @@
 // The union with one interval, which joins the stretches that it meets.
 ghost use Rattle.std.specs.Prelude.{◌≡◌, ◌+◌, ◌<◌, ◌≤◌};
 ghost use Rattle.interval.specs.Meaning.{Ticked, Canonical, Holds, joined_by};
-ghost use Rattle.interval.specs.Joining.{lower_of, higher_of, Passed, Joins, Replaced};
+ghost use Rattle.interval.specs.Joining.{lower_of, higher_of, hull_of, Passed, Joins, Replaced};
 
 use crate::edge::{high_edge, low_edge};
 use crate::{Bound, Interval, Stretches};
@@ -24,10 +24,19 @@ fn higher(a: Bound, b: Bound) -> Bound
     if high_edge(b) <= high_edge(a) { a } else { b }
 }
 
+// From the lower low of two intervals to the higher high.
+fn hull(v: Interval, w: Interval) -> Interval
+    ensures { result ≡ hull_of v w }
+{
+    Interval {
+        low: lower(v.low, w.low),
+        high: higher(v.high, w.high),
+    }
+}
+
 // How many stretches of a set end before an interval, with a place between.
 fn count_before(s: Stretches, v: Interval) -> usize
-    requires fact_1 { Canonical s }
-    requires fact_2 { Ticked v.low }
+    requires { Canonical s }
     ensures { Passed s v result }
 {
     let from = low_edge(v.low);
@@ -50,8 +59,6 @@ struct Joint {
 fn join_from(s: Stretches, p: usize, v: Interval) -> Joint
     requires fact_1 { Canonical s }
     requires fact_2 { p ≤ s.count }
-    requires fact_3 { Ticked v.low }
-    requires fact_4 { Ticked v.high }
     ensures { Joins s v p result }
 {
     let mut whole = v;
@@ -60,8 +67,7 @@ fn join_from(s: Stretches, p: usize, v: Interval) -> Joint
         if high_edge(whole.high) < low_edge(w.low) {
             return Joint { whole, next: k };
         }
-        whole.low = lower(whole.low, w.low);
-        whole.high = higher(whole.high, w.high);
+        whole = hull(whole, w);
     }
     Joint {
         whole,
@@ -87,8 +93,6 @@ fn replace(s: Stretches, p: usize, q: usize, v: Interval) -> Stretches
 pub fn with_interval(s: Stretches, v: Interval) -> Stretches
     requires fact_1 { Canonical s }
     requires fact_2 { s.count < 32 }
-    requires fact_3 { Ticked v.low }
-    requires fact_4 { Ticked v.high }
     ensures { Holds (joined_by s v) (s.count + 1) result }
 {
     if high_edge(v.high) <= low_edge(v.low) {

@@ -18,7 +18,7 @@ use Rattle.lent.specs.Rows.{row_at, stretches_from}
 use Rattle.lent.proofs.Rows.{listed-rows}
 use Rattle.lent.proofs.Proper.{proper-length, proper-kinds}
 use Rattle.printing.specs.Terms.{stretch_of}
-use Rattle.printing.specs.Records.{no_place, term_count, term_row, terms_from, terms_text}
+use Rattle.printing.specs.Records.{term_count, term_row, terms_from, terms_text}
 
 -- the next term of those that are left, and none
 pub terms_more : (list : List ℕ) (k n : ℕ) → k < n → terms_from list k (n - k) ≡ stretch_of (term_row list k) ∷ terms_from list (k + 1) (n - (k + 1))
@@ -40,9 +40,6 @@ module _ (list : List ℕ) (e : length list ≡ 0) where
   pub count_none : term_count list ≡ 1
   count_none = rw (eq-eqb (length list) 0 e)
 
-  pub row-none : (k : ℕ) → term_row list k ≡ no_place
-  row-none k = rw (eq-eqb (length list) 0 e)
-
 module _ (list : List ℕ) (e : length list ≡ 0 → ⊥) where
   pub count-some : term_count list ≡ length list / 32
   count-some = rw (ne_eqb (length list) 0 e)
@@ -51,13 +48,6 @@ module _ (list : List ℕ) (e : length list ≡ 0 → ⊥) where
   row-some k = rw (ne_eqb (length list) 0 e)
 
 module _ (list : List ℕ) (p : is_improper_list list ≡ false) where
-  pub count_most : term_count list ≤ 32
-  count_most = go (eqb (length list) 0)
-    where
-      go : (b : Bool) → cond b 1 (length list / 32) ≤ 32
-      go true = omega arith
-      go false = omega (arith, proper-length list p)
-
   pub written_terms : written (listed list) ≡ terms_from list 0 (term_count list)
   unfolding terms_from stretches_from
   written_terms = go (eqb (length list) 0) refl

@@ -1,22 +1,23 @@
 // A list of stretches printed back as a record: whether it can be written, how long it is, and its bytes.
 #![tactic(auto)]
 
-ghost use Rattle.std.specs.Prelude.{◌≡◌, true, false, not, ◌+◌, ◌%◌, ◌<◌, ◌≤◌, length};
+ghost use Rattle.std.specs.Prelude.{◌≡◌, true, false, not, ◌+◌, ◌<◌, ◌≤◌, length};
 ghost use Rattle.rules.specs.Basics.{every};
 ghost use Rattle.rules.specs.LentLists.{is_improper_list, listed};
 ghost use Rattle.rules.specs.Printing.{record_text, is_writable_bound, is_writable_stretch, is_unwritable};
 ghost use Rattle.rules.specs.Services.{overwrite};
 ghost use Rattle.writer.specs.Placing.{Put};
-ghost use Rattle.printing.specs.Terms.{bound_of, stretch_of};
+ghost use Rattle.printing.specs.Terms.{stretch_of, bound_meant, stretch_meant};
 ghost use Rattle.printing.specs.Records.{term_count, term_row, terms_text};
 
 mod date;
 mod size;
 mod stamp;
+mod stretch;
 mod term;
 
-use lent::Row;
 use size::term_size;
+use stretch::{Bound, Stretch, stretch_from};
 use term::put_term;
 use writer::put;
 
@@ -30,38 +31,36 @@ fn term_count(list: &[u8]) -> usize
     if list.len() == 0 { 1 } else { list.len() / 32 }
 }
 
-// The numbers of the k-th term, counted from 0.
-fn term_row(list: &[u8], k: usize) -> Row
-    requires fact_1 { length list.now % 32 ≡ 0 }
+// The k-th term, counted from 0.
+fn term_at(list: &[u8], k: usize) -> Stretch
+    requires fact_1 { is_improper_list list.now ≡ false }
     requires fact_2 { k < term_count list.now }
-    ensures { result ≡ term_row list.now k }
+    ensures { stretch_meant result ≡ stretch_of (term_row list.now k) }
 {
     if list.len() == 0 {
-        return Row {
-            low_kind: 1,
-            low_tick: 0,
-            high_kind: 1,
-            high_tick: 0,
+        return Stretch {
+            low: Bound::Open(0),
+            high: Bound::Open(0),
         };
     }
-    lent::read_row(list, k)
+    stretch_from(lent::read_row(list, k))
 }
 
 // Whether a bound can be written: it is unbounded, or its tick is in years 0001 to 9999.
-fn is_writable_bound(kind: u64, tick: u64) -> bool
-    requires { kind < 3 }
-    ensures { result ≡ is_writable_bound (bound_of kind tick) }
+fn is_writable_bound(b: Bound) -> bool
+    ensures { result ≡ is_writable_bound (bound_meant b) }
 {
-    (kind == 0) | (tick < YEARS_END)
+    match b {
+        Bound::Unbounded => true,
+        Bound::Open(t) | Bound::Closed(t) => t < YEARS_END,
+    }
 }
 
 // Whether both bounds of a stretch can be.
-fn is_writable_row(row: Row) -> bool
-    requires fact_1 { row.low_kind < 3 }
-    requires fact_2 { row.high_kind < 3 }
-    ensures { result ≡ is_writable_stretch (stretch_of row) }
+fn is_writable_stretch(s: Stretch) -> bool
+    ensures { result ≡ is_writable_stretch (stretch_meant s) }
 {
-    is_writable_bound(row.low_kind, row.low_tick) & is_writable_bound(row.high_kind, row.high_tick)
+    is_writable_bound(s.low) & is_writable_bound(s.high)
 }
 
 // Whether all stretches of a proper list can be written.
@@ -71,8 +70,7 @@ fn are_writable(list: &[u8]) -> bool
 {
     let n = term_count(list);
     for k in 0..n {
-        let row = term_row(list, k);
-        if !is_writable_row(row) {
+        if !is_writable_stretch(term_at(list, k)) {
             return false;
         }
     }
@@ -97,8 +95,7 @@ pub fn record_length(list: &[u8]) -> usize
     let n = term_count(list);
     let mut total = 31;
     for k in 0..n {
-        let row = term_row(list, k);
-        total += term_size(row);
+        total += term_size(term_at(list, k));
     }
     total
 }
@@ -112,8 +109,7 @@ fn put_terms(out: &mut [u8], at: usize, list: &[u8]) -> usize
     let n = term_count(list);
     let mut next = at;
     for k in 0..n {
-        let row = term_row(list, k);
-        next = put_term(out, next, row);
+        next = put_term(out, next, term_at(list, k));
     }
     next
 }

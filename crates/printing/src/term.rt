@@ -1,12 +1,13 @@
 // A term of the record: a stretch as an IVL_TS, with the flags of its bounds and the bounds.
 ghost use Rattle.std.specs.Prelude.{◌≡◌, true, ◌+◌, ◌<◌, ◌≤◌, length};
+ghost use Rattle.rules.specs.Dates.{years_end};
 ghost use Rattle.rules.specs.Sets.{unbounded};
 ghost use Rattle.rules.specs.Printing.{flag_text, bound_text, term_text, is_writable_bound, is_writable_stretch};
 ghost use Rattle.writer.specs.Placing.{Put};
-ghost use Rattle.printing.specs.Terms.{side_of, bound_of, stretch_of, opening_text, tag_text};
+ghost use Rattle.printing.specs.Terms.{side_of, bound_meant, stretch_meant, opening_text, value_text, tag_text};
 
 use crate::stamp::put_timestamp;
-use lent::Row;
+use crate::stretch::{Bound, Stretch};
 use writer::put;
 
 // Which bound of an interval.
@@ -16,19 +17,18 @@ pub enum Side {
     High,
 }
 
-// Writes the flag of a bound of some kind: nothing at an unbounded end.
-fn put_flag(out: &mut [u8], at: usize, side: Side, kind: u64) -> usize
-    requires fact_1 { kind < 3 }
-    requires fact_2 { at + length (flag_text (side_of side) (bound_of kind 0)) ≤ length out.old }
-    ensures { Put at (flag_text (side_of side) (bound_of kind 0)) out.old result out.new }
+// Writes the flag of a bound: nothing at an unbounded end.
+fn put_flag(out: &mut [u8], at: usize, side: Side, b: Bound) -> usize
+    requires { at + length (flag_text (side_of side) (bound_meant b)) ≤ length out.old }
+    ensures { Put at (flag_text (side_of side) (bound_meant b)) out.old result out.new }
 {
-    match kind {
-        0 => at,
-        1 => match side {
+    match b {
+        Bound::Unbounded => at,
+        Bound::Open(_) => match side {
             Side::Low => put(out, at, b" lowClosed=\"false\""),
             Side::High => put(out, at, b" highClosed=\"false\""),
         },
-        _ => match side {
+        Bound::Closed(_) => match side {
             Side::Low => put(out, at, b" lowClosed=\"true\""),
             Side::High => put(out, at, b" highClosed=\"true\""),
         },
@@ -57,44 +57,48 @@ fn put_opening(out: &mut [u8], at: usize, side: Side) -> usize
     }
 }
 
-// Writes a bound.
-fn put_bound(out: &mut [u8], at: usize, side: Side, kind: u64, tick: u64) -> usize
-    requires fact_1 { kind < 3 }
-    requires fact_2 { is_writable_bound (bound_of kind tick) ≡ true }
-    requires fact_3 { at + length (bound_text (side_of side) (bound_of kind tick)) ≤ length out.old }
-    ensures { Put at (bound_text (side_of side) (bound_of kind tick)) out.old result out.new }
+// Writes a bound at a tick of years 0001 to 9999.
+fn put_value(out: &mut [u8], at: usize, side: Side, tick: u64) -> usize
+    requires fact_1 { tick < years_end }
+    requires fact_2 { at + length (value_text (side_of side) tick) ≤ length out.old }
+    ensures { Put at (value_text (side_of side) tick) out.old result out.new }
 {
-    if kind == 0 {
-        return put_infinite(out, at, side);
-    }
     let a = put_opening(out, at, side);
     let b = put_timestamp(out, a, tick);
     put(out, b, b"\"/>")
 }
 
+// Writes a bound.
+fn put_bound(out: &mut [u8], at: usize, side: Side, b: Bound) -> usize
+    requires fact_1 { is_writable_bound (bound_meant b) ≡ true }
+    requires fact_2 { at + length (bound_text (side_of side) (bound_meant b)) ≤ length out.old }
+    ensures { Put at (bound_text (side_of side) (bound_meant b)) out.old result out.new }
+{
+    match b {
+        Bound::Unbounded => put_infinite(out, at, side),
+        Bound::Open(t) | Bound::Closed(t) => put_value(out, at, side, t),
+    }
+}
+
 // Writes the start tag of a term.
-fn put_tag(out: &mut [u8], at: usize, row: Row) -> usize
-    requires fact_1 { row.low_kind < 3 }
-    requires fact_2 { row.high_kind < 3 }
-    requires fact_3 { at + length (tag_text (stretch_of row)) ≤ length out.old }
-    ensures { Put at (tag_text (stretch_of row)) out.old result out.new }
+fn put_tag(out: &mut [u8], at: usize, s: Stretch) -> usize
+    requires { at + length (tag_text (stretch_meant s)) ≤ length out.old }
+    ensures { Put at (tag_text (stretch_meant s)) out.old result out.new }
 {
     let a = put(out, at, b"<term xsi:type=\"IVL_TS\"");
-    let b = put_flag(out, a, Side::Low, row.low_kind);
-    let c = put_flag(out, b, Side::High, row.high_kind);
+    let b = put_flag(out, a, Side::Low, s.low);
+    let c = put_flag(out, b, Side::High, s.high);
     put(out, c, b">")
 }
 
 // Writes a term.
-pub fn put_term(out: &mut [u8], at: usize, row: Row) -> usize
-    requires fact_1 { row.low_kind < 3 }
-    requires fact_2 { row.high_kind < 3 }
-    requires fact_3 { is_writable_stretch (stretch_of row) ≡ true }
-    requires fact_4 { at + length (term_text (stretch_of row)) ≤ length out.old }
-    ensures { Put at (term_text (stretch_of row)) out.old result out.new }
+pub fn put_term(out: &mut [u8], at: usize, s: Stretch) -> usize
+    requires fact_1 { is_writable_stretch (stretch_meant s) ≡ true }
+    requires fact_2 { at + length (term_text (stretch_meant s)) ≤ length out.old }
+    ensures { Put at (term_text (stretch_meant s)) out.old result out.new }
 {
-    let a = put_tag(out, at, row);
-    let b = put_bound(out, a, Side::Low, row.low_kind, row.low_tick);
-    let c = put_bound(out, b, Side::High, row.high_kind, row.high_tick);
+    let a = put_tag(out, at, s);
+    let b = put_bound(out, a, Side::Low, s.low);
+    let c = put_bound(out, b, Side::High, s.high);
     put(out, c, b"</term>")
 }

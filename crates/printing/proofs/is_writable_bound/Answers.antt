@@ -1,6 +1,7 @@
 -- `printing::is_writable_bound` meets its contract.
-use Rattle.printing.proofs.Terms.{writable_bound}
+use Rattle.std.proofs.Common.{⊎_elim}
+use Rattle.printing.proofs.Terms.{writable_tick}
 use Rattle.printing.proofs.is_writable_bound.Goals as goal
 
-pub returns : goal.returns
-returns c = writable_bound c.args.kind c.args.tick c.requires
+pub returns-in-Open : goal.returns-in-Open
+returns-in-Open c = ⊎_elim (λ e. rw e (writable_tick c.in-Open.t)) (λ e. rw e (writable_tick c.in-Open.t)) c.in-Open.is

@@ -1,10 +1,10 @@
 use mathlib.Core.Path.{ap}
-use Rattle.lent.proofs.Proper.{proper-length}
 use Rattle.writer.proofs.Placing.{placed-none, put_rest}
-use Rattle.printing.proofs.Records.{row-kinds, writable_here, left_more, left_length, left_none, left_all, is-proper, all_writable}
+use Rattle.printing.proofs.Records.{writable_here, left_more, left_length, left_none, left_all, all_writable}
 use mathlib.Core.Path.{refl, sym, ◌∙◌}
 use native.Mathlib.Omega.{arith}
 use lib.ListN.{length}
+use Rattle.rules.specs.Printing.{term_text, is_writable_stretch}
 use Rattle.writer.specs.Placing.{placed}
 use Rattle.printing.proofs.put_terms.Goals as goal
 
@@ -14,17 +14,27 @@ term_count-n-requires c = tt
 pub loop-k-init : goal.loop-k-init
 loop-k-init c = (omega arith, refl, all_writable c.args.list.now c.requires.fact_1 c.term_count-n.result c.term_count-n.ensures, refl, refl)
 
-pub term_row-row-requires : goal.term_row-row-requires
-term_row-row-requires c = record { fact_1 = (proper-length c.args.list.now (is-proper c.args.list.now c.requires.fact_1)).0; fact_2 = omega (arith, c.term_count-n.ensures, c.loop-k-test.true) }
-
 pub put_term-next-requires : goal.put_term-next-requires
 put_term-next-requires c =
-    let k = row-kinds c.args.list.now (is-proper c.args.list.now c.requires.fact_1) c.loop-k.k (omega (arith, c.term_count-n.ensures, c.loop-k-test.true)) in
-    rw c.term_row-row.ensures (record { fact_1 = k.0; fact_2 = k.1; fact_3 = (writable_here c.args.list.now c.loop-k.k c.term_count-n.result c.loop-k-test.true c.loop-k.invariant.2).0; fact_4 = omega (arith, c.loop-k.invariant.1, c.loop-k.invariant.3, left_length c.args.list.now c.loop-k.k c.term_count-n.result c.loop-k-test.true, ap length (left_all c.args.list.now c.term_count-n.result c.term_count-n.ensures), c.requires.fact_2) })
+    let l = c.args.list.now in
+    let e = c.term_at.ensures in
+    let t = c.loop-k-test.true in
+    record {
+      fact_1 = ap is_writable_stretch e ∙ (writable_here l c.loop-k.k c.term_count-n.result t c.loop-k.invariant.2).0;
+      fact_2 = omega (
+        arith,
+        ap (λ s. length (term_text s)) e,
+        c.loop-k.invariant.1,
+        c.loop-k.invariant.3,
+        left_length l c.loop-k.k c.term_count-n.result t,
+        ap length (left_all l c.term_count-n.result c.term_count-n.ensures),
+        c.requires.fact_2,
+      );
+    }
 
 pub loop-k-preserved : goal.loop-k-preserved
 loop-k-preserved c =
-    let p = rw c.term_row-row.ensures at c.put_term-next.ensures in
+    let p = rw c.term_at.ensures at c.put_term-next.ensures in
     let l = c.loop-k in
     let t = c.loop-k-test.true in (
       omega (arith, t),

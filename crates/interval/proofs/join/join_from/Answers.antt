@@ -1,67 +1,24 @@
-use Rattle.std.proofs.Common.{◌≡◌, length, get_or, refl, ◌∙◌, arith}
-use Rattle.interval.specs.declared.Interval.{Interval}
-use Rattle.interval.proofs.Items.{nowhere, length_mapped, used-ticked}
-use Rattle.interval.proofs.Joining.{hull_low, hull_high, join_end, join_past, join_here}
+use Rattle.std.proofs.Common.{◌≡◌, length, ◌∙◌, arith}
+use Rattle.interval.proofs.Items.{length_mapped}
+use Rattle.interval.proofs.Joining.{join_end, join_past, join_here}
 use Rattle.interval.proofs.join.join_from.Goals as goal
-
-pub loop-k-init : goal.loop-k-init
-loop-k-init c = (c.requires.fact_3, c.requires.fact_4, refl)
-
-pub offset_bounds-s-k : goal.offset_bounds-s-k
-offset_bounds-s-k c = omega (arith, c.requires.fact_1.fits)
-
-pub bounds-s-k : goal.bounds-s-k
-bounds-s-k c = omega (arith, c.requires.fact_1.fits)
-
-pub high_edge-requires : goal.high_edge-requires
-high_edge-requires c = c.loop-k.invariant.1
-
-pub low_edge-requires : goal.low_edge-requires
-low_edge-requires c =
-    let g : length c.args.s.items ≡ 32 = search length_mapped in
-    (used-ticked c.args.s g c.requires.fact_1.fits c.loop-k.k c.loop-k-test.true c.requires.fact_1.ticked).0
 
 pub returns-then-high_edge-low_edge : goal.returns-then-high_edge-low_edge
 returns-then-high_edge-low_edge c =
     let g : length c.args.s.items ≡ 32 = search length_mapped in
-    let v = c.loop-k.whole in
     record {
       least = omega arith;
       most = omega (arith, c.loop-k-test);
-      low = c.loop-k.invariant.0;
-      high = c.loop-k.invariant.1;
-      rest = c.loop-k.invariant.2 ∙ join_past c.args.s g c.requires.fact_1.fits c.loop-k.k c.loop-k-test.true v (omega (arith, c.low_edge.ensures, c.high_edge.ensures, c.if-high_edge-low_edge.true));
+      rest = c.loop-k.invariant ∙ join_past c.args.s g c.requires.fact_1.fits c.loop-k.k c.loop-k-test.true c.index-s-k.result c.loop-k.whole (omega (arith, c.low_edge.ensures, c.high_edge.ensures, c.if-high_edge-low_edge.true));
     }
-
-pub lower-whole-requires : goal.lower-whole-requires
-lower-whole-requires c =
-    let g : length c.args.s.items ≡ 32 = search length_mapped in
-    record { fact_1 = c.loop-k.invariant.0; fact_2 = (used-ticked c.args.s g c.requires.fact_1.fits c.loop-k.k c.loop-k-test.true c.requires.fact_1.ticked).0 }
-
-pub higher-whole-requires : goal.higher-whole-requires
-higher-whole-requires c =
-    let g : length c.args.s.items ≡ 32 = search length_mapped in
-    record { fact_1 = c.loop-k.invariant.1; fact_2 = (used-ticked c.args.s g c.requires.fact_1.fits c.loop-k.k c.loop-k-test.true c.requires.fact_1.ticked).1 }
 
 pub loop-k-preserved : goal.loop-k-preserved
 loop-k-preserved c =
     let g : length c.args.s.items ≡ 32 = search length_mapped in
-    let v = c.loop-k.whole in
-    let w : Interval = get_or c.args.s.items c.loop-k.k nowhere in
-    let t = used-ticked c.args.s g c.requires.fact_1.fits c.loop-k.k c.loop-k-test.true c.requires.fact_1.ticked in (
-      rw c.lower-whole.ensures (hull_low v w c.loop-k.invariant.0 c.loop-k.invariant.1 t.0 t.1),
-      rw c.higher-whole.ensures (hull_high v w c.loop-k.invariant.0 c.loop-k.invariant.1 t.0 t.1),
-      c.loop-k.invariant.2 ∙ rw (c.lower-whole.ensures, c.higher-whole.ensures) (join_here c.args.s g c.requires.fact_1.fits c.loop-k.k c.loop-k-test.true v (omega (arith, c.low_edge.ensures, c.high_edge.ensures, c.if-high_edge-low_edge.false))),
-    )
+    c.loop-k.invariant ∙ rw c.hull-whole.ensures (join_here c.args.s g c.requires.fact_1.fits c.loop-k.k c.loop-k-test.true c.index-s-k.result c.loop-k.whole (omega (arith, c.low_edge.ensures, c.high_edge.ensures, c.if-high_edge-low_edge.false)))
 
 pub returns : goal.returns
 returns c =
     let g : length c.args.s.items ≡ 32 = search length_mapped in
     let e : c.loop-k.k ≡ c.args.s.count = omega (arith, c.requires.fact_2) in
-    record {
-      least = c.requires.fact_2;
-      most = omega arith;
-      low = c.loop-k.invariant.0;
-      high = c.loop-k.invariant.1;
-      rest = rw e at (c.loop-k.invariant.2 ∙ join_end c.args.s g c.requires.fact_1.fits c.loop-k.k c.loop-k.whole c.loop-k-test.false);
-    }
+    record { least = c.requires.fact_2; most = omega arith; rest = rw e at (c.loop-k.invariant ∙ join_end c.args.s g c.requires.fact_1.fits c.loop-k.k c.loop-k.whole c.loop-k-test.false) }

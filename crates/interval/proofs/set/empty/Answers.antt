@@ -1,7 +1,7 @@
--- `interval::empty` meets its contract.
+-- `interval::set::empty` meets its contract.
 use Rattle.std.proofs.Common.{refl, zero-le}
 use Rattle.rules.specs.Basics.{exists}
-use Rattle.interval.proofs.empty.Goals as goal
+use Rattle.interval.proofs.set.empty.Goals as goal
 
 pub returns : goal.returns
 unfolding exists

@@ -1,0 +1,1 @@
+-- `interval::join::hull` meets its contract.
