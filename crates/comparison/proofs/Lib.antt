@@ -1,7 +1,7 @@
 pub mod Options
 pub mod Answers
 pub mod Signs
-pub mod Numbers
+pub mod SameKinds
 pub mod Types
 pub mod Parts
 pub mod Flags

@@ -1,4 +1,3 @@
 pub mod Meaning
-pub mod Kinds
 pub mod Sides
 pub mod Readings

@@ -11,7 +11,6 @@ ghost use Rattle.element.specs.Tags.{TagOf, TagIn};
 ghost use Rattle.datatype.specs.Meaning.{kind_meant};
 ghost use Rattle.datatype.specs.Records.{RecordOf};
 ghost use Rattle.comparison.specs.Meaning.{answer_meant, compared_meant, unknown_if};
-ghost use Rattle.comparison.specs.Kinds.{Numbered};
 
 pub mod names;
 pub mod texts;
@@ -56,83 +55,53 @@ pub fn also(a: Answer, b: Answer) -> Answer
     }
 }
 
-// The answer on two records, or that they are not compared: their types differ, or are set types.
-#[derive(Clone, Copy)]
-pub enum Compared {
-    Is(Answer),
-    Other,
-}
-
-// The number of a kind.
-fn number(kind: Kind) -> usize
-    ensures { Numbered (kind_meant kind) result }
-{
-    match kind {
-        Kind::Ts => 0,
-        Kind::IvlTs => 1,
-        Kind::QsuTs => 2,
-        Kind::QsiTs => 3,
-        Kind::QsdTs => 4,
-        Kind::Mo => 5,
-        Kind::Ii => 6,
-        Kind::Cd => 7,
-        Kind::En => 8,
-        Kind::DisplayName => 9,
-        Kind::Part => 10,
-    }
-}
-
 // Unknown where a value is null; records that are not compared stay so.
-fn unknown_if(compared: Compared, null: bool) -> Compared
+fn unknown_if(compared: Option<Answer>, null: bool) -> Option<Answer>
     ensures { compared_meant result ≡ unknown_if null (compared_meant compared) }
 {
-    match compared {
-        Compared::Is(a) => {
-            if null {
-                return Compared::Is(Answer::Unknown);
-            }
-            Compared::Is(a)
-        }
-        Compared::Other => Compared::Other,
+    let answer = compared?;
+    if null {
+        return Some(Answer::Unknown);
     }
+    Some(answer)
 }
 
 // How many elements may be open at once.
 const DEPTH: usize = 8;
 
-// The answer on two values of a kind, neither null, or that values of the kind are not compared.
-fn compare_kind(s: &[u8], a: Tag, t: &[u8], b: Tag, kind: Kind, shift: u64) -> Compared
+// The answer on two values of a kind, neither null, if values of the kind are compared.
+fn compare_kind(s: &[u8], a: Tag, t: &[u8], b: Tag, kind: Kind, shift: u64) -> Option<Answer>
     requires fact_1 { TagIn s.now a }
     requires fact_2 { TagIn t.now b }
     requires fact_3 { shift ≤ 1680 }
     ensures { (v w : Element) (after rest : List ℕ) → TagOf s.now 8 v after a → TagOf t.now 8 w rest b → compared_meant result ≡ if_some (comparer_of (kind_meant kind)) (λ f. as_compared (f shift v w)) (refused_second TYPE) }
 {
     match kind {
-        Kind::Ts => Compared::Is(times::compare_times(s, a, t, b, shift)),
-        Kind::IvlTs => Compared::Is(times::compare_intervals(s, a, t, b, DEPTH, shift)),
-        Kind::QsuTs => Compared::Other,
-        Kind::QsiTs => Compared::Other,
-        Kind::QsdTs => Compared::Other,
-        Kind::Mo => Compared::Is(values::compare_money(s, a, t, b)),
-        Kind::Ii => Compared::Is(values::compare_identifiers(s, a, t, b)),
-        Kind::Cd => Compared::Is(values::compare_codes(s, a, t, b)),
-        Kind::En => Compared::Is(names::compare_names(s, a, t, b, DEPTH)),
-        Kind::DisplayName => Compared::Other,
-        Kind::Part => Compared::Other,
+        Kind::Ts => Some(times::compare_times(s, a, t, b, shift)),
+        Kind::IvlTs => Some(times::compare_intervals(s, a, t, b, DEPTH, shift)),
+        Kind::QsuTs => None,
+        Kind::QsiTs => None,
+        Kind::QsdTs => None,
+        Kind::Mo => Some(values::compare_money(s, a, t, b)),
+        Kind::Ii => Some(values::compare_identifiers(s, a, t, b)),
+        Kind::Cd => Some(values::compare_codes(s, a, t, b)),
+        Kind::En => Some(names::compare_names(s, a, t, b, DEPTH)),
+        Kind::DisplayName => None,
+        Kind::Part => None,
     }
 }
 
-// The answer on two records, or that they are not compared; `shift` is 840 less the agreed offset in minutes.
-pub fn compare(s: &[u8], a: Record, t: &[u8], b: Record, shift: u64) -> Compared
+// The answer on two records, if they are compared: none where their types differ, or are set types. `shift` is 840 less the agreed offset in
+// minutes.
+pub fn compare(s: &[u8], a: Record, t: &[u8], b: Record, shift: u64) -> Option<Answer>
     requires fact_1 { TagIn s.now a.tag }
     requires fact_2 { TagIn t.now b.tag }
     requires fact_3 { shift ≤ 1680 }
     ensures { (v w : Element) → RecordOf s.now v a → RecordOf t.now w b → compared_meant result ≡ compare_checked shift (answered v) (answered w) }
 {
     let kind = a.kind;
-    let other = b.kind;
-    if number(kind) != number(other) {
-        return Compared::Other;
+    if kind != b.kind {
+        return None;
     }
     let first = a.tag;
     let second = b.tag;

@@ -1,13 +1,12 @@
 // Amounts, identifiers and codes, compared.
-ghost use Rattle.std.specs.Prelude.{◌≡◌, not, List, ℕ, ◌<◌};
-ghost use Rattle.rules.specs.Basics.{is_some};
+ghost use Rattle.std.specs.Prelude.{◌≡◌, List, ℕ, ◌<◌};
 ghost use Rattle.rules.specs.Markup.{Attribute, Element};
 ghost use Rattle.rules.specs.Comparison.{same_option, same_amount, compare_money, compare_identifiers, compare_codes};
 ghost use Rattle.form.specs.Amounts.{amount_of};
 ghost use Rattle.element.specs.Names.{known, name_at};
 ghost use Rattle.element.specs.Tags.{Tells, TagIn};
 ghost use Rattle.comparison.specs.Meaning.{answer_meant};
-ghost use Rattle.comparison.specs.Readings.{same_read};
+ghost use Rattle.comparison.specs.Readings.{same_amount_read};
 
 use crate::texts::same_attribute;
 use crate::{Answer, answer_if};
@@ -16,58 +15,27 @@ use element::name::{CODE, CODE_SYSTEM, CURRENCY, EXTENSION, ROOT, VALUE};
 use element::tag::{Tag, has};
 use form::money::Amount;
 
-// Whether there is no amount.
-fn is_bad(amount: Amount) -> bool
-    ensures { result ≡ not (is_some (amount_of amount)) }
-{
-    match amount {
-        Amount::Is {
-            negative: _,
-            value: _,
-        } => false,
-        Amount::Bad => true,
-    }
-}
-
 // Whether two amounts are the same number, or neither is one; zero has no sign.
-fn same_amount(a: Amount, b: Amount) -> bool
+fn same_amount(a: Option<Amount>, b: Option<Amount>) -> bool
     ensures { result ≡ same_option same_amount (amount_of a) (amount_of b) }
 {
-    let Amount::Is {
-        negative: m,
-        value: x,
-    } = a
-    else {
-        return is_bad(b);
+    let Some(x) = a else {
+        return b.is_none();
     };
-    let Amount::Is {
-        negative: n,
-        value: y,
-    } = b
-    else {
+    let Some(y) = b else {
         return false;
     };
-    (x == y) & ((m == n) | (x == 0))
+    (x.value == y.value) & ((x.negative == y.negative) | (x.value == 0))
 }
 
-// How the values of an attribute are compared: as texts, or as the amounts that they are.
-#[derive(Clone, Copy)]
-enum Reading {
-    Text,
-    Amount,
-}
-
-// Whether two elements say the same in the attribute of a number, read so, or both lack it, by their tags.
-fn same_value(s: &[u8], a: Tag, t: &[u8], b: Tag, n: usize, reading: Reading) -> bool
+// Whether two elements say the same amount in the attribute of a number, or neither says one, by their tags.
+fn same_amount_at(s: &[u8], a: Tag, t: &[u8], b: Tag, n: usize) -> bool
     requires fact_1 { TagIn s.now a }
     requires fact_2 { TagIn t.now b }
     requires fact_3 { n < known }
-    ensures { (l m : List Attribute) → Tells s.now l a.places → Tells t.now m b.places → result ≡ same_read reading (name_at n) l m }
+    ensures { (l m : List Attribute) → Tells s.now l a.places → Tells t.now m b.places → result ≡ same_amount_read (name_at n) l m }
 {
-    match reading {
-        Reading::Text => same_attribute(s, a, t, b, n),
-        Reading::Amount => same_amount(amount_at(s, a.places[n]), amount_at(t, b.places[n])),
-    }
+    same_amount(amount_at(s, a.places[n]), amount_at(t, b.places[n]))
 }
 
 // MO: amount, as a number, and currency.
@@ -76,8 +44,8 @@ pub fn compare_money(s: &[u8], a: Tag, t: &[u8], b: Tag) -> Answer
     requires fact_2 { TagIn t.now b }
     ensures { (n : ℕ) (v w : Element) → Tells s.now v.attrs a.places → Tells t.now w.attrs b.places → answer_meant result ≡ compare_money n v w }
 {
-    let amounts = same_value(s, a, t, b, VALUE, Reading::Amount);
-    answer_if(amounts & same_value(s, a, t, b, CURRENCY, Reading::Text))
+    let amounts = same_amount_at(s, a, t, b, VALUE);
+    answer_if(amounts & same_attribute(s, a, t, b, CURRENCY))
 }
 
 // II: root and extension.

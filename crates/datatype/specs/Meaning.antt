@@ -1,12 +1,10 @@
 -- What the code's kinds mean, in the words of the rules ("Types, after decoding the five references").
-use Rattle.std.specs.Prelude.{ℕ, Bool, true, false, cond, List, [], ◌∷◌}
+use Rattle.std.specs.Prelude.{ℕ, Bool, true, false, cond, List, [], ◌∷◌, Option as StdOption, Some, None}
 use Rattle.std.proofs.Math.Option.{Option, none, some}
 use Rattle.rules.specs.Basics.{same}
 use Rattle.rules.specs.Types.{Kind as RulesKind, TS, IVL_TS, QSU_TS, QSI_TS, QSD_TS, MO, II, CD, EN, DisplayName as Display, Part as NamePart, name_of, member_types, all_types}
 use Rattle.datatype.specs.declared.kind.Kind.{Kind}
 use Rattle.datatype.specs.declared.kind.Kind.TheVariants.{Ts, IvlTs, QsuTs, QsiTs, QsdTs, Mo, Ii, Cd, En, DisplayName, Part}
-use Rattle.datatype.specs.declared.kind.Named.{Named}
-use Rattle.datatype.specs.declared.kind.Named.TheVariants.{Is, Nothing}
 
 abbrev pub kind_meant : Kind → RulesKind
 kind_meant Ts = TS
@@ -21,9 +19,9 @@ kind_meant En = EN
 kind_meant DisplayName = Display
 kind_meant Part = NamePart
 
-abbrev pub type_meant : Named → Option RulesKind
-type_meant (Is k) = some (kind_meant k)
-type_meant Nothing = none
+abbrev pub type_meant : StdOption Kind → Option RulesKind
+type_meant (Some k) = some (kind_meant k)
+type_meant None = none
 
 -- the one of some kinds that a text names
 abbrev pub named_among : List RulesKind → List ℕ → Option RulesKind

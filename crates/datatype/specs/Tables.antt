@@ -1,10 +1,11 @@
 -- What the code's table says, in the words of the rules ("Types, after decoding the five references").
-use Rattle.std.specs.Prelude.{ℕ, ◌≡◌, Bool, true, false, ◌&&◌, cond, List, [], ◌∷◌, ◌++◌}
+use Rattle.std.specs.Prelude.{ℕ, ◌≡◌, Bool, true, false, ◌&&◌, cond, List, [], ◌∷◌, ◌++◌, Option as StdOption, Some, None}
 use Rattle.std.proofs.Math.Option.{Option, none, some}
 use Rattle.rules.specs.Basics.{same, is_from}
 use Rattle.rules.specs.Forms.{Form}
 use Rattle.rules.specs.Types.{Kind, Column as RulesColumn, ChildKind, always, typed, Child, Line as RulesLine, IVL_TS, QSU_TS, QSD_TS, CD, EN, line_of}
 use Rattle.rules.specs.Judge.{Standing as RulesStanding, top, member, inside, type_columns, null_columns}
+use Rattle.form.specs.declared.Form.{Form as CodeForm}
 use Rattle.form.specs.Meaning.{form_of}
 use Rattle.datatype.specs.Meaning.{kind_meant}
 use Rattle.datatype.specs.declared.table.Standing.{Standing}
@@ -12,19 +13,17 @@ use Rattle.datatype.specs.declared.table.Standing.TheVariants.{Top, Member, Insi
 use Rattle.datatype.specs.declared.table.Row.{Row}
 use Rattle.datatype.specs.declared.table.Row.TheVariants.{Empty, Bounds, Terms, Difference, Display, Parts}
 use Rattle.datatype.specs.declared.table.Line.{Line}
-use Rattle.datatype.specs.declared.table.Next.{Next}
-use Rattle.datatype.specs.declared.table.Next.TheVariants.{Always, Typed, Nothing as NoStep}
-use Rattle.datatype.specs.declared.table.Column.{Column}
-use Rattle.datatype.specs.declared.table.Column.TheVariants.{Takes, Nothing}
+use Rattle.datatype.specs.declared.table.Step.{Step as CodeStep}
+use Rattle.datatype.specs.declared.table.Step.TheVariants.{Always, Typed}
 
 abbrev pub standing_meant : Standing → RulesStanding
 standing_meant Top = top
 standing_meant Member = member
 standing_meant Inside = inside
 
-abbrev pub form_meant : Column → Option Form
-form_meant (Takes f) = some (form_of f)
-form_meant Nothing = none
+abbrev pub form_meant : StdOption CodeForm → Option Form
+form_meant (Some f) = some (form_of f)
+form_meant None = none
 
 -- f of the first of a list for which a test holds
 abbrev pub pick : {A B : Type 0} → (A → Bool) → (A → B) → List A → Option B
@@ -65,10 +64,10 @@ pub record Step : Type 0 where
   pub kind : ChildKind
   pub to : ℕ
 
-abbrev pub step_meant : Next → Option Step
-step_meant (Always k t) = some (record { kind = always (kind_meant k); to = t })
-step_meant (Typed t) = some (record { kind = typed; to = t })
-step_meant NoStep = none
+abbrev pub step_meant : StdOption CodeStep → Option Step
+step_meant (Some (Always k t)) = some (record { kind = always (kind_meant k); to = t })
+step_meant (Some (Typed t)) = some (record { kind = typed; to = t })
+step_meant None = none
 
 -- the step that a child of a name is, among some children, where the row stands at a stage
 abbrev pub step_among : List Child → (stage : ℕ) → List ℕ → Option Step

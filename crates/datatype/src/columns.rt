@@ -10,7 +10,7 @@ ghost use Rattle.datatype.specs.Meaning.{kind_meant};
 ghost use Rattle.datatype.specs.Tables.{form_meant, form_among, columns_of, standing_meant};
 
 use crate::kind::Kind;
-use crate::table::{Column, Standing, is_nullable, is_typed};
+use crate::table::{Standing, is_nullable, is_typed};
 use element::name::{
     CODE, CODE_SYSTEM, CODE_SYSTEM_NAME, CODE_SYSTEM_VERSION, CURRENCY, EXTENSION, HIGH_CLOSED,
     LOW_CLOSED, NULL_FLAVOR, PART_TYPE, QUALIFIER, ROOT, VALUE, XSI_TYPE,
@@ -18,50 +18,49 @@ use element::name::{
 use form::Form;
 
 // The form of the attribute of a number, or, if another is asked for, what is known of that.
-fn takes(n: usize, number: usize, form: Form, other: Column) -> Column
+fn takes(n: usize, number: usize, form: Form, other: Option<Form>) -> Option<Form>
     requires fact_1 { n < known }
     requires fact_2 { number < known }
     ensures { form_meant result ≡ cond (same (name_at number) (name_at n)) (some (form_of form)) (form_meant other) }
 {
     if number == n {
-        return Column::Takes(form);
+        return Some(form);
     }
     other
 }
 
 // The form of the attribute of a number on the type line of a kind, beside nullFlavor and xsi:type.
-pub fn own_column(kind: Kind, n: usize) -> Column
+pub fn own_column(kind: Kind, n: usize) -> Option<Form>
     requires { n < known }
     ensures { form_meant result ≡ form_among (line_of (kind_meant kind)).columns (name_at n) }
 {
-    let none = Column::Nothing;
     match kind {
-        Kind::Ts => takes(n, VALUE, Form::Timestamp, none),
+        Kind::Ts => takes(n, VALUE, Form::Timestamp, None),
         Kind::IvlTs => {
-            let high = takes(n, HIGH_CLOSED, Form::Flag, none);
+            let high = takes(n, HIGH_CLOSED, Form::Flag, None);
             takes(n, LOW_CLOSED, Form::Flag, high)
         }
-        Kind::QsuTs => none,
-        Kind::QsiTs => none,
-        Kind::QsdTs => none,
+        Kind::QsuTs => None,
+        Kind::QsiTs => None,
+        Kind::QsdTs => None,
         Kind::Mo => {
-            let currency = takes(n, CURRENCY, Form::Currency, none);
+            let currency = takes(n, CURRENCY, Form::Currency, None);
             takes(n, VALUE, Form::Amount, currency)
         }
         Kind::Ii => {
-            let extension = takes(n, EXTENSION, Form::NonEmpty, none);
+            let extension = takes(n, EXTENSION, Form::NonEmpty, None);
             takes(n, ROOT, Form::Root, extension)
         }
         Kind::Cd => {
-            let version = takes(n, CODE_SYSTEM_VERSION, Form::NonEmpty, none);
+            let version = takes(n, CODE_SYSTEM_VERSION, Form::NonEmpty, None);
             let named = takes(n, CODE_SYSTEM_NAME, Form::NonEmpty, version);
             let system = takes(n, CODE_SYSTEM, Form::Root, named);
             takes(n, CODE, Form::NonEmpty, system)
         }
-        Kind::En => none,
-        Kind::DisplayName => takes(n, VALUE, Form::NonEmpty, none),
+        Kind::En => None,
+        Kind::DisplayName => takes(n, VALUE, Form::NonEmpty, None),
         Kind::Part => {
-            let qualifier = takes(n, QUALIFIER, Form::Qualifiers, none);
+            let qualifier = takes(n, QUALIFIER, Form::Qualifiers, None);
             let part = takes(n, PART_TYPE, Form::PartType, qualifier);
             takes(n, VALUE, Form::AnyText, part)
         }
@@ -69,7 +68,7 @@ pub fn own_column(kind: Kind, n: usize) -> Column
 }
 
 // The form of the attribute of a number that an element of a kind may carry wherever it stands.
-fn null_column(kind: Kind, n: usize) -> Column
+fn null_column(kind: Kind, n: usize) -> Option<Form>
     requires { n < known }
     ensures { form_meant result ≡ form_among (null_columns (kind_meant kind) ++ (line_of (kind_meant kind)).columns) (name_at n) }
 {
@@ -81,7 +80,7 @@ fn null_column(kind: Kind, n: usize) -> Column
 }
 
 // The form of the attribute of a number that an element of a kind may carry where it stands.
-pub fn column_of(kind: Kind, standing: Standing, n: usize) -> Column
+pub fn column_of(kind: Kind, standing: Standing, n: usize) -> Option<Form>
     requires { n < known }
     ensures { form_meant result ≡ form_among (columns_of (standing_meant standing) (kind_meant kind)) (name_at n) }
 {

@@ -10,7 +10,7 @@ ghost use Rattle.datatype.specs.Meaning.{type_meant, named_among, types_for};
 use text::words::stands_at;
 
 // The nine types, and the two kinds of element inside them that have no type.
-#[derive(Clone, Copy)]
+#[derive(Clone, Copy, PartialEq, Eq)]
 pub enum Kind {
     Ts,
     IvlTs,
@@ -25,64 +25,57 @@ pub enum Kind {
     Part,
 }
 
-// The type that a text names, or that it names none of those asked for.
-#[derive(Clone, Copy)]
-pub enum Named {
-    Is(Kind),
-    Nothing,
-}
-
 // The type that the value at a position names, where a member of a set may be of it: an IVL_TS or a set type. No byte of a name can be written as
 // a reference, so the value is the name exactly if that stands there, in its quotes.
-fn named_member(s: &[u8], at: usize) -> Named
+fn named_member(s: &[u8], at: usize) -> Option<Kind>
     requires { at ≤ length s.now }
     ensures { (v after : List ℕ) → value (drop at s.now) ≡ ok v after → type_meant result ≡ named_among member_types v }
 {
     if stands_at(s, at, b"\"IVL_TS\"") {
-        return Named::Is(Kind::IvlTs);
+        return Some(Kind::IvlTs);
     }
     if stands_at(s, at, b"\"QSU_TS\"") {
-        return Named::Is(Kind::QsuTs);
+        return Some(Kind::QsuTs);
     }
     if stands_at(s, at, b"\"QSI_TS\"") {
-        return Named::Is(Kind::QsiTs);
+        return Some(Kind::QsiTs);
     }
     if stands_at(s, at, b"\"QSD_TS\"") {
-        return Named::Is(Kind::QsdTs);
+        return Some(Kind::QsdTs);
     }
-    Named::Nothing
+    None
 }
 
 // The type that the value at a position names.
-fn named_type(s: &[u8], at: usize) -> Named
+fn named_type(s: &[u8], at: usize) -> Option<Kind>
     requires { at ≤ length s.now }
     ensures { (v after : List ℕ) → value (drop at s.now) ≡ ok v after → type_meant result ≡ named_among all_types v }
 {
     if stands_at(s, at, b"\"TS\"") {
-        return Named::Is(Kind::Ts);
+        return Some(Kind::Ts);
     }
     if stands_at(s, at, b"\"MO\"") {
-        return Named::Is(Kind::Mo);
+        return Some(Kind::Mo);
     }
     if stands_at(s, at, b"\"II\"") {
-        return Named::Is(Kind::Ii);
+        return Some(Kind::Ii);
     }
     if stands_at(s, at, b"\"CD\"") {
-        return Named::Is(Kind::Cd);
+        return Some(Kind::Cd);
     }
     if stands_at(s, at, b"\"EN\"") {
-        return Named::Is(Kind::En);
+        return Some(Kind::En);
     }
     named_member(s, at)
 }
 
 // The type that an element names whose `xsi:type` has its value at a place: one that a record may have, or one that a member of a set may have.
-pub fn type_at(s: &[u8], place: usize, top: bool) -> Named
+pub fn type_at(s: &[u8], place: usize, top: bool) -> Option<Kind>
     requires { place ≤ length s.now }
     ensures { (l : List Attribute) → Place s.now (lookup (bytes "xsi:type") l) place → type_meant result ≡ type_among (types_for top) l }
 {
     if place == 0 {
-        return Named::Nothing;
+        return None;
     }
     if top {
         named_type(s, place)

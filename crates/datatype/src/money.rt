@@ -10,14 +10,14 @@ ghost use Rattle.element.specs.Tags.{Place};
 use element::value;
 use form::money::Amount;
 
-// The amount of the value at a place.
-pub fn amount_at(s: &[u8], place: usize) -> Amount
+// The amount of the value at a place, if it is one.
+pub fn amount_at(s: &[u8], place: usize) -> Option<Amount>
     requires { place ≤ length s.now - 1 }
     ensures small { Small result }
     ensures tells { (o : Option (List ℕ)) → Place s.now o place → amount_of result ≡ if_some o (whole amount_text) none }
 {
     if place == 0 {
-        return Amount::Bad;
+        return None;
     }
     let end = value::end(s, place);
     form::amount(s, place, end)

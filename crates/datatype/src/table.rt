@@ -5,7 +5,6 @@ ghost use Rattle.datatype.specs.Meaning.{kind_meant};
 ghost use Rattle.datatype.specs.Tables.{standing_meant, has_type_column, row_meant, LineMeant};
 
 use crate::kind::Kind;
-use form::Form;
 
 // Where an element stands: at the top, as a member of a set, or inside another value.
 #[derive(Clone, Copy)]
@@ -13,13 +12,6 @@ pub enum Standing {
     Top,
     Member,
     Inside,
-}
-
-// The form of an attribute that may be carried, or that it may not.
-#[derive(Clone, Copy)]
-pub enum Column {
-    Takes(Form),
-    Nothing,
 }
 
 // The rows of children that kinds have: none; low and high; terms; a minuend and a subtrahend; a displayName; parts.
@@ -89,10 +81,9 @@ pub fn is_typed(standing: Standing) -> bool
     }
 }
 
-// How a row of children goes on: with a child of a kind, or with one of the type that it names, to a stage; or that it does not.
+// How a row of children goes on: with a child of a kind, or with one of the type that it names, to a stage.
 #[derive(Clone, Copy)]
-pub enum Next {
+pub enum Step {
     Always(Kind, u64),
     Typed(u64),
-    Nothing,
 }

@@ -1,4 +1,5 @@
 -- The attributes of a start tag put into their places, one after another.
+use Rattle.std.specs.Prelude.{Some}
 use Prim.Native.Nat.{ℕ, zero, suc, ◌+◌, ◌-◌, ◌≤◌, ◌<◌}
 use mathlib.Core.Path.{◌≡◌, refl, sym, ◌∙◌, ap}
 use mathlib.Core.Bool.{Bool, true, false, not, ◌||◌, cond}
@@ -23,7 +24,6 @@ use Rattle.element.specs.Carried.{PastEquals, AttributesTo, CarriedIn, CarriedAs
 use Rattle.element.specs.Plain.{StartAt}
 use Rattle.element.specs.declared.tag.Carried.{Carried}
 use Rattle.element.specs.declared.tag.Start.{Start}
-use Rattle.element.specs.declared.tag.Start.TheVariants.{Named}
 use Rattle.element.proofs.Numbers.{number-name, has-number}
 use Rattle.element.proofs.Quotes.{value-to}
 
@@ -116,10 +116,9 @@ pub record Turn (s : List ℕ) (i j k n q e : ℕ) : Type 0 where
   pub high : e ≤ length s
   pub ends : (v : List ℕ) (k : ℕ) → k ≤ length s → value (drop q s) ≡ ok v (drop k s) → e ≡ k
 
-pub turn : {s : List ℕ} {i j k n q e : ℕ} {r : Start} → Good 0 space s i j → r ≡ Named k n q → StartAt s j r → (q < length s → q < e)
-    → (e ≤ length s) × ((v : List ℕ) (k : ℕ) → k ≤ length s → value (drop q s) ≡ ok v (drop k s) → e ≡ k) → Turn s i j k n q e
-turn g z start on (high, ends) =
-    let (b, p, w) = rw z at start in
+pub turn : {s : List ℕ} {i j e : ℕ} {t : Start} → Good 0 space s i j → StartAt s j (Some t) → (t.value < length s → t.value < e)
+    → (e ≤ length s) × ((v : List ℕ) (k : ℕ) → k ≤ length s → value (drop t.value s) ≡ ok v (drop k s) → e ≡ k) → Turn s i j t.number t.name_end t.value e
+turn g (b, p, w) on (high, ends) =
     record { gap = g; named = b; equals = p; number = w; further = on p.high; high = high; ends = ends }
 
 module _ {s : List ℕ} {i j k n q e : ℕ} (x : Turn s i j k n q e) where

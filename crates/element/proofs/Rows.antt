@@ -1,4 +1,6 @@
 -- Elements side by side, one after another, as far as the end tag.
+use Rattle.std.specs.Prelude.{Option}
+use Rattle.std.proofs.Common.{unwrap_or}
 use Prim.Native.Nat.{ℕ, zero, suc, ◌+◌, ◌-◌, ◌≤◌, ◌<◌}
 use mathlib.Core.Path.{◌≡◌, refl, sym, ◌∙◌, ap, subst}
 use mathlib.Core.Bool.{Bool, true, false, not, ◌&&◌}
@@ -12,7 +14,7 @@ use Rattle.rules.specs.Parsers.{Parsed, bad, ok, next, else, pure, ◌>>=◌, �
 use Rattle.rules.specs.Markup.{is_space, space, is_name_start, is_name_byte, name, Nodes, end, node, Element, end_tag, element, content}
 use Rattle.rules.proofs.Parsers.{next-ok, map-ok, cons_ok, one_ok, byte-ok}
 use Rattle.rules.proofs.Tests.{clash}
-use Rattle.text.specs.Reads.{Good}
+use Rattle.text.specs.Reads.{Good, Reads, upto, none}
 use Rattle.text.proofs.Reading.{good, here}
 use Rattle.markup.specs.Elements.{ReadsContent}
 use Rattle.element.specs.Tags.{ElementTo, closed, RowTo, Inner, empty, full, TagOf}
@@ -103,12 +105,12 @@ too_short s at h = go (drop at s) (rw length-drop (omega (arith, h)))
 pub two_bytes : (s : List ℕ) (at : ℕ) → 2 ≤ length s - at → (eqb (get_or s at 0) 60 && not (eqb (get_or s (at + 1) 0) 47)) ≡ is_child (drop at s)
 two_bytes s at h = rw (here s at (omega (arith, h)), here s (at + 1) (omega (arith, h)))
 
--- past the end tag
-pub ends_there : {s : List ℕ} (n : List ℕ) {at e : ℕ} → Good 1 (end_tag n) s at e → (c : ℕ) (after : List ℕ) → end_tag n (drop at s) ≡ ok c after → after ≡ drop e s
-ends_there {s} n {at} {e} g c after q = let z : ◌≡◌ {A = Parsed ℕ} (ok g.value (drop e s)) (ok c after) = sym g.reads ∙ q in cc
-
-pub ends_nowhere : (s n : List ℕ) (at : ℕ) → end_tag n (drop at s) ≡ bad → (c : ℕ) (after : List ℕ) → end_tag n (drop at s) ≡ ok c after → {P : Type 0} → P
-ends_nowhere s n at b c after q = let z = sym b ∙ q in clash (cc)
+-- past the end tag, by the answer on it
+pub end_tag_past : {s : List ℕ} (n : List ℕ) {at : ℕ} {r : Option ℕ} → at ≤ length s → Reads 1 (end_tag n) s at r
+    → ((at ≤ unwrap_or r at) × (unwrap_or r at ≤ length s)) × ((c : ℕ) (after : List ℕ) → end_tag n (drop at s) ≡ ok c after → after ≡ drop (unwrap_or r at) s)
+end_tag_past {s} n l (upto e g) =
+    ((omega (arith, g.low), g.high), λ c after q. let z : ◌≡◌ {A = Parsed ℕ} (ok g.value (drop e s)) (ok c after) = sym g.reads ∙ q in cc)
+end_tag_past {s} n l (none b) = ((omega arith, l), λ c after q. let z = sym b ∙ q in clash (cc))
 
 -- past the content of a tag
 pub content-past : {s : List ℕ} {depth e : ℕ} (v : Element) (after : List ℕ) (t : Tag) → t.full ≡ true → ReadsContent s t.end (depth - 1) e → TagOf s depth v after t

@@ -1,4 +1,6 @@
 -- A start tag put together: its head, what it carries, and how it closes.
+use Rattle.std.specs.Prelude.{Option, None}
+use Rattle.std.proofs.Common.{unwrap_or}
 use Prim.Native.Nat.{ℕ, zero, suc, ◌+◌, ◌-◌, ◌≤◌, ◌<◌}
 use mathlib.Core.Path.{◌≡◌, refl, sym, ◌∙◌, subst}
 use mathlib.Core.Bool.{Bool, true, false}
@@ -11,8 +13,7 @@ use Rattle.rules.specs.Parsers.{Parser, Parsed, bad, ok, pure, guard, ◌>>=◌,
 use Rattle.rules.specs.Markup.{Attribute, space, name, tag_attributes, attributes, is_distinct, Nodes, end, Element, end_tag, body, element, content}
 use Rattle.rules.proofs.Parsers.{next-ok, map-ok, else-ok, byte-ok}
 use Rattle.rules.proofs.Tests.{clash}
-use Rattle.text.specs.Reads.{Good, Reads}
-use Rattle.text.specs.declared.Read.TheVariants.{Bad}
+use Rattle.text.specs.Reads.{Good, Reads, upto, none}
 use Rattle.text.proofs.Reading.{none_of}
 use Rattle.markup.specs.Tags.{HeadTo}
 use Rattle.markup.proofs.Names.{name_is}
@@ -30,8 +31,12 @@ past_there {s} {at} {k} {e} t g = record {
   past = λ u left q. let z : ◌≡◌ {A = Parsed (Unit {0})} (ok g.value (drop e s)) (ok u left) = sym g.reads ∙ q in let w : left ≡ drop e s = cc in w;
 }
 
-pub past-nothing : {s : List ℕ} {at k : ℕ} (t : List ℕ) → at ≤ length s → Reads k (literal t) s at Bad → PastLiteral s at t at
+pub past-nothing : {s : List ℕ} {at k : ℕ} (t : List ℕ) → at ≤ length s → Reads k (literal t) s at None → PastLiteral s at t at
 past-nothing {s} {at} t h b = record { low = omega arith; high = h; past = λ u left q. let z = sym (none_of (literal t) b) ∙ q in clash (cc) }
+
+pub literal_past : {s : List ℕ} {at k : ℕ} {r : Option ℕ} (t : List ℕ) → at ≤ length s → Reads k (literal t) s at r → PastLiteral s at t (unwrap_or r at)
+literal_past t l (upto e g) = past_there t g
+literal_past {k = k} t l (none b) = past-nothing {k = k} t l (none b)
 
 -- how it closes
 module _ {s : List ℕ} {at i : ℕ} (g : Good 0 space s at i) (n : List ℕ) (p : Parser Nodes) (kids : Nodes) (after : List ℕ)
@@ -46,7 +51,7 @@ module _ {s : List ℕ} {at i : ℕ} (g : Good 0 space s at i) (n : List ℕ) (p
       not_slash : literal (bytes "/>") (drop i s) ≡ bad
       not_slash = rw (byte-ok 62 (drop i s) h.reads)
 
-  pub shuts : {e : ℕ} → Reads 1 (byte 62) s i Bad → PastLiteral s i (bytes "/>") e → Closes s n p e after kids false
+  pub shuts : {e : ℕ} → Reads 1 (byte 62) s i None → PastLiteral s i (bytes "/>") e → Closes s n p e after kids false
   shuts {e} b h = elim (else-ok ((literal (bytes "/>") >> pure end) (drop i s)) _ at_body) [
     | inl x ↦
         let (u, y, z) = map-ok (literal (bytes "/>") (drop i s)) (λ u. end) x in

@@ -81,7 +81,7 @@ pub fn number_of(name: &[u8]) -> usize
     }
 }
 
-// A known name with `="` right after it: its number and how long it is; KNOWN where none is found.
+// A known name with `="` right after it: its number and how long it is.
 #[derive(Clone, Copy)]
 pub struct Plain {
     pub number: usize,
@@ -89,45 +89,34 @@ pub struct Plain {
 }
 
 // A number and a size, if a text stands at a position.
-fn plain_if(s: &[u8], at: usize, text: &[u8], number: usize, size: usize) -> Plain
+fn plain_if(s: &[u8], at: usize, text: &[u8], number: usize, size: usize) -> Option<Plain>
     requires { at ≤ length s.now }
     ensures { PlainIf s.now at text.now number size result }
 {
-    if stands_at(s, at, text) {
-        return Plain { number, size };
-    }
-    Plain {
-        number: KNOWN,
-        size: 0,
-    }
+    stands_at(s, at, text).then_some(Plain { number, size })
 }
 
 // A known name that begins with c and stands at a position with `="` right after it. Two that few records have are not looked for.
-fn plain_c(s: &[u8], at: usize) -> Plain
+fn plain_c(s: &[u8], at: usize) -> Option<Plain>
     requires { at ≤ length s.now }
     ensures { PlainAt s.now at result }
 {
-    let code = plain_if(s, at, b"code=\"", CODE, 4);
-    if code.number < KNOWN {
-        return code;
+    if let Some(code) = plain_if(s, at, b"code=\"", CODE, 4) {
+        return Some(code);
     }
-    let system = plain_if(s, at, b"codeSystem=\"", CODE_SYSTEM, 10);
-    if system.number < KNOWN {
-        return system;
+    if let Some(system) = plain_if(s, at, b"codeSystem=\"", CODE_SYSTEM, 10) {
+        return Some(system);
     }
     plain_if(s, at, b"currency=\"", CURRENCY, 8)
 }
 
 // A known name that stands at a position with `="` right after it, as most are written. Not all are looked for.
-pub fn plain_at(s: &[u8], at: usize) -> Plain
+pub fn plain_at(s: &[u8], at: usize) -> Option<Plain>
     requires { at ≤ length s.now }
     ensures { PlainAt s.now at result }
 {
     if at == s.len() {
-        return Plain {
-            number: KNOWN,
-            size: 0,
-        };
+        return None;
     }
     match s[at] {
         b'v' => plain_if(s, at, b"value=\"", VALUE, 5),
@@ -140,9 +129,6 @@ pub fn plain_at(s: &[u8], at: usize) -> Plain
         b'e' => plain_if(s, at, b"extension=\"", EXTENSION, 9),
         b't' => plain_if(s, at, b"type=\"", PART_TYPE, 4),
         b'q' => plain_if(s, at, b"qualifier=\"", QUALIFIER, 9),
-        _ => Plain {
-            number: KNOWN,
-            size: 0,
-        },
+        _ => None,
     }
 }

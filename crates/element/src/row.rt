@@ -8,7 +8,6 @@ ghost use Rattle.element.specs.Rows.{is_child};
 use crate::tag::Tag;
 use markup::read_content;
 use markup::tag::read_end_tag;
-use text::Read;
 
 // Whether an element, and not an end tag, stands at a position, where one of the two does.
 pub fn is_child(s: &[u8], at: usize) -> bool
@@ -29,11 +28,7 @@ pub fn past_end_tag(s: &[u8], at: usize, name: usize, past: usize) -> usize
     ensures within { (at ≤ result) × (result ≤ length s.now) }
     ensures tells { (c : ℕ) (after : List ℕ) → end_tag (take (past - name) (drop name s.now)) (drop at s.now) ≡ ok c after → after ≡ drop result s.now }
 {
-    let read = read_end_tag(s, at, name, past);
-    match read {
-        Read::At(e) => e,
-        Read::Bad => at,
-    }
+    read_end_tag(s, at, name, past).unwrap_or(at)
 }
 
 // The position past the element of a tag, where `depth` may be open at once; nothing in it is asked.

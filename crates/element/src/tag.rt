@@ -9,8 +9,8 @@ ghost use Rattle.element.specs.Plain.{StartAt};
 
 use crate::name::{KNOWN, number_of, plain_at};
 use markup::scan::{read_byte, read_literal, read_name, skip_space};
-use markup::tag::{Head, read_head};
-use text::{Read, begins_with};
+use markup::tag::read_head;
+use text::begins_with;
 
 // A start tag: for each known name where its value stands, with the quotes, 0 if there is none; how many other names do not begin with xmlns,
 // and how many do; where the name of the element stands, up to `past`; where the tag ends, and whether content follows.
@@ -66,40 +66,33 @@ fn past_equals(s: &[u8], at: usize) -> usize
     at - 1
 }
 
-// The attribute at a position: the number of its name, where the name ends, and where its value stands; or that no name stands there.
+// An attribute: the number of its name, where the name ends, and where its value stands.
 #[derive(Clone, Copy)]
-enum Start {
-    Named {
-        number: usize,
-        name_end: usize,
-        value: usize,
-    },
-    Nothing,
+struct Start {
+    number: usize,
+    name_end: usize,
+    value: usize,
 }
 
-// The attribute at a position. Where a known name is found with `="` right after it, it is not read again as a name.
-fn start_at(s: &[u8], at: usize) -> Start
+// The attribute at a position, if a name stands there. Where a known name is found with `="` right after it, it is not read again as a name.
+fn start_at(s: &[u8], at: usize) -> Option<Start>
     requires { at ≤ length s.now }
     ensures { StartAt s.now at result }
 {
-    let plain = plain_at(s, at);
-    if plain.number < KNOWN {
+    if let Some(plain) = plain_at(s, at) {
         let name_end = at + plain.size;
-        return Start::Named {
+        return Some(Start {
             number: plain.number,
             name_end,
             value: name_end + 1,
-        };
+        });
     }
-    let named = read_name(s, at);
-    let Read::At(name_end) = named else {
-        return Start::Nothing;
-    };
-    Start::Named {
+    let name_end = read_name(s, at)?;
+    Some(Start {
         number: number_of(&s[at..name_end]),
         name_end,
         value: past_equals(s, name_end),
-    }
+    })
 }
 
 // The attributes that stand from a position on. Values are passed by their quotes.
@@ -114,13 +107,7 @@ fn read_carried(s: &[u8], at: usize) -> Carried
     let mut end = at;
     loop {
         let i = skip_space(s, end);
-        let start = start_at(s, i);
-        let Start::Named {
-            number,
-            name_end,
-            value,
-        } = start
-        else {
+        let Some(start) = start_at(s, i) else {
             return Carried {
                 places,
                 others,
@@ -128,13 +115,14 @@ fn read_carried(s: &[u8], at: usize) -> Carried
                 end,
             };
         };
-        end = crate::value::end(s, value);
+        let number = start.number;
+        end = crate::value::end(s, start.value);
         if number < KNOWN {
             if places[number] == 0 {
-                places[number] = value;
+                places[number] = start.value;
             }
         } else {
-            let space = begins_with(&s[i..name_end], b"xmlns");
+            let space = begins_with(&s[i..start.name_end], b"xmlns");
             others = others + one_if(!space);
             namespaces = namespaces + one_if(space);
         }
@@ -146,11 +134,7 @@ fn past_literal(s: &[u8], at: usize, t: &[u8]) -> usize
     requires { at ≤ length s.now }
     ensures { PastLiteral s.now at t.now result }
 {
-    let read = read_literal(s, at, t);
-    match read {
-        Read::At(e) => e,
-        Read::Bad => at,
-    }
+    read_literal(s, at, t).unwrap_or(at)
 }
 
 // A tag by what it carries, up to where it closes: white space may stand before that.
@@ -160,8 +144,7 @@ fn close(s: &[u8], name: usize, past: usize, c: Carried) -> Tag
 {
     let places = c.places;
     let i = skip_space(s, c.end);
-    let greater = read_byte(s, i, b'>');
-    if let Read::At(end) = greater {
+    if let Some(end) = read_byte(s, i, b'>') {
         return Tag {
             places,
             others: c.others,
@@ -189,8 +172,7 @@ pub fn read(s: &[u8], at: usize) -> Tag
     ensures within { TagIn s.now result × (at < length s.now → at < result.end) }
     ensures tells { (depth : ℕ) (v : Element) (after : List ℕ) → ElementTo s.now at depth v after → TagOf s.now depth v after result }
 {
-    let head = read_head(s, at);
-    let Head::Named { name, name_end } = head else {
+    let Some(head) = read_head(s, at) else {
         return Tag {
             places: [0; KNOWN],
             others: 0,
@@ -201,5 +183,5 @@ pub fn read(s: &[u8], at: usize) -> Tag
             full: false,
         };
     };
-    close(s, name, name_end, read_carried(s, name_end))
+    close(s, head.name, head.name_end, read_carried(s, head.name_end))
 }

@@ -4,11 +4,10 @@ ghost use Rattle.rules.specs.Basics.{is_empty, same};
 ghost use Rattle.rules.specs.Parsers.{ok, many};
 ghost use Rattle.rules.specs.Markup.{value};
 ghost use Rattle.text.specs.Reads.{Good};
-ghost use Rattle.element.specs.Texts.{is_bare, TextAt, CharOn, Chars, is_nothing};
+ghost use Rattle.element.specs.Texts.{is_bare, TextAt, CharOn, Chars};
 
-use markup::scan::read_byte;
-use markup::value::{Char, is_simple, read_char};
-use text::Read;
+use markup::scan::{read_byte, skip};
+use markup::value::{is_simple, read_char};
 
 // Where the characters of the value at a position stand.
 pub fn start(s: &[u8], at: usize) -> usize
@@ -16,11 +15,14 @@ pub fn start(s: &[u8], at: usize) -> usize
     ensures within { result ≤ length s.now }
     ensures tells { (v after : List ℕ) → value (drop at s.now) ≡ ok v after → TextAt s.now result v }
 {
-    let opening = read_byte(s, at, b'"');
-    let Read::At(i) = opening else {
-        return at;
-    };
-    i
+    read_byte(s, at, b'"').unwrap_or(at)
+}
+
+// Whether a byte is no quote.
+fn is_bare(c: u8) -> bool
+    ensures { result ≡ is_bare c }
+{
+    c != b'"'
 }
 
 // Where the next quote stands from a position on; the end of the text, if there is none.
@@ -28,14 +30,7 @@ fn quote(s: &[u8], at: usize) -> usize
     requires { at ≤ length s.now }
     ensures { Good 0 (many is_bare) s.now at result }
 {
-    let mut i = at;
-    while i < s.len() {
-        if s[i] == b'"' {
-            return i;
-        }
-        i += 1;
-    }
-    i
+    skip(s, at, is_bare)
 }
 
 // Where the value at a position ends, past its second quote. A quote within a value is written as a reference, so no character is read.
@@ -55,7 +50,7 @@ pub fn end(s: &[u8], at: usize) -> usize
 }
 
 // The first of the characters that stand from a position on: the byte that it stands for, and where the others stand; or that there is none.
-pub fn next(s: &[u8], at: usize) -> Char
+pub fn next(s: &[u8], at: usize) -> Option<(u8, usize)>
     requires { at ≤ length s.now }
     ensures on { CharOn s.now at result }
     ensures tells { (v : List ℕ) → TextAt s.now at v → Chars s.now v result }
@@ -63,12 +58,11 @@ pub fn next(s: &[u8], at: usize) -> Char
     if at < s.len() {
         let c = s[at];
         if is_simple(c) {
-            return Char::Is(c, at + 1);
+            return Some((c, at + 1));
         }
     }
-    let closing = read_byte(s, at, b'"');
-    if let Read::At(_) = closing {
-        return Char::Nothing;
+    if let Some(_) = read_byte(s, at, b'"') {
+        return None;
     }
     read_char(s, at)
 }
@@ -78,9 +72,7 @@ pub fn is_empty(s: &[u8], at: usize) -> bool
     requires { at ≤ length s.now }
     ensures { (v after : List ℕ) → value (drop at s.now) ≡ ok v after → result ≡ is_empty v }
 {
-    let from = start(s, at);
-    let first = next(s, from);
-    is_nothing(first)
+    next(s, start(s, at)).is_none()
 }
 
 // Whether the value at a position is a given text.
@@ -90,21 +82,16 @@ pub fn is(s: &[u8], at: usize, t: &[u8]) -> bool
 {
     let from = start(s, at);
     let mut i = from;
-    let mut k = 0;
-    loop {
-        let first = next(s, i);
-        let Char::Is(c, e) = first else {
-            return k == t.len();
+    for b in t {
+        let Some((c, end)) = next(s, i) else {
+            return false;
         };
-        if k == t.len() {
+        if c != *b {
             return false;
         }
-        if c != t[k] {
-            return false;
-        }
-        i = e;
-        k += 1;
+        i = end;
     }
+    next(s, i).is_none()
 }
 
 // Whether the value at a position of a text and the value at a position of another are the same, decoded.
@@ -117,29 +104,15 @@ pub fn is_same(s: &[u8], at: usize, t: &[u8], other: usize) -> bool
     let onset = start(t, other);
     let mut i = from;
     let mut j = onset;
-    loop {
-        let first = next(s, i);
-        let second = next(t, j);
-        let Char::Is(c, e) = first else {
-            return is_nothing(second);
-        };
-        let Char::Is(d, f) = second else {
+    while let Some((c, end)) = next(s, i) {
+        let Some((d, other_end)) = next(t, j) else {
             return false;
         };
         if c != d {
             return false;
         }
-        i = e;
-        j = f;
+        i = end;
+        j = other_end;
     }
-}
-
-// Whether no character was found.
-fn is_nothing(c: Char) -> bool
-    ensures { result ≡ is_nothing c }
-{
-    match c {
-        Char::Is(_, _) => false,
-        Char::Nothing => true,
-    }
+    next(t, j).is_none()
 }

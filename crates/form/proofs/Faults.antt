@@ -5,6 +5,7 @@ use mathlib.Core.Bool.{Bool, true, false, not}
 use mathlib.Core.List.{List}
 use mathlib.Core.Option.{Option, none, some}
 use lib.IntN.{ℤ}
+use Rattle.std.specs.Prelude.{Option as StdOption, Some, None, is_some as std_is_some}
 use lib.ListN.{length, drop}
 use Rattle.std.specs.Prelude.{Result, Ok, Err}
 use Rattle.rules.specs.Basics.{is_some, exists}
@@ -22,7 +23,6 @@ use Rattle.form.specs.Meaning.{form_of, between}
 use Rattle.form.specs.Amounts.{amount_of}
 use Rattle.form.specs.declared.Form.{Form}
 use Rattle.form.specs.declared.money.Amount.{Amount}
-use Rattle.form.specs.declared.money.Amount.TheVariants.{Is, Bad}
 use Rattle.form.proofs.Quoted.{by_raw}
 
 -- the refusal of a form that is a test
@@ -43,11 +43,9 @@ pub by_faults : {o : Option Rule} (shift : ℕ) {form : Form} (x : Form) (v : Li
 by_faults shift x v e z = rw z e
 
 -- an amount, or none
-pub amount_found : (a : Amount) (n : Bool) (value : ℕ) {o : Option ℤ} → a ≡ Is n value → amount_of a ≡ o → true ≡ is_some o
-amount_found a n value z e = ap is_some (sym (ap amount_of z) ∙ e)
-
-pub amount_missing : (a : Amount) {o : Option ℤ} → a ≡ Bad → amount_of a ≡ o → false ≡ is_some o
-amount_missing a z e = ap is_some (sym (ap amount_of z) ∙ e)
+pub amount_found : (a : StdOption Amount) {o : Option ℤ} → amount_of a ≡ o → std_is_some a ≡ is_some o
+amount_found (Some a) e = ap is_some e
+amount_found None e = ap is_some e
 
 -- a moment, or a refusal passed on
 pub moment_found : (t : Result MomentRead Refusal) (m : MomentRead) {o : Outcome Moment} → t ≡ Ok m → outcome_of t ≡ o → none ≡ first_of (faults_of o)

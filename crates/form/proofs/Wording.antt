@@ -1,4 +1,5 @@
 -- Whether a word is among those of a text, byte by byte.
+use Rattle.std.specs.Prelude.{Some, None}
 use Prim.Native.Nat.{ℕ, ◌+◌, ◌≤◌, ◌<◌}
 use mathlib.Core.Path.{◌≡◌, refl, sym, ◌∙◌, ap}
 use mathlib.Core.Bool.{Bool, true, false, ◌&&◌, ◌||◌, cond, and-false, or-false}
@@ -10,8 +11,6 @@ use lib.ListN.{length, get_or, drop, drop_of_length-le}
 use Rattle.rules.specs.Basics.{exists, same, onto, split, words}
 use Rattle.rules.proofs.Tests.{both_true}
 use Rattle.text.proofs.Reading.{here}
-use Rattle.markup.specs.declared.value.Char.{Char}
-use Rattle.markup.specs.declared.value.Char.TheVariants.{Is, Nothing}
 use Rattle.element.specs.Texts.{TextAt, Chars}
 use Rattle.element.proofs.Decoded.{chars-none, chars-some}
 use Rattle.form.specs.Words.{along_by}
@@ -117,13 +116,13 @@ HasWord s w i k b = (v : List ℕ) → TextAt s i v → b ≡ hits w k (words v)
 pub word_start : (s w : List ℕ) (i : ℕ) (b : Bool) → HasWord s w i 0 b → (v : List ℕ) → TextAt s i v → b ≡ exists (same w) (words v)
 word_start s w i b h v x = h v x ∙ hits_start w (words v)
 
-module _ {s : List ℕ} (w : List ℕ) {i : ℕ} (k : ℕ) {r : Char} (h : (v : List ℕ) → TextAt s i v → Chars s v r) where
-  pub word_end : r ≡ Nothing → HasWord s w i k (eqb k (length w))
-  word_end z v x = rw (chars-none z (h v x)) (hits_end w k)
+module _ {s : List ℕ} (w : List ℕ) {i : ℕ} (k : ℕ) where
+  pub word_end : ((v : List ℕ) → TextAt s i v → Chars s v None) → HasWord s w i k (eqb k (length w))
+  word_end h v x = rw (chars-none (h v x)) (hits_end w k)
 
-  module _ {c e : ℕ} (z : r ≡ Is c e) where
-    pub word_found : (eqb c 32 && eqb k (length w)) ≡ true → HasWord s w i k true
-    word_found f v x = let (u, y, t) = chars-some z (h v x) in rw y (hits_found w k c u f)
+  module _ {p : ℕ × ℕ} (h : (v : List ℕ) → TextAt s i v → Chars s v (Some p)) where
+    pub word_found : (eqb p.0 32 && eqb k (length w)) ≡ true → HasWord s w i k true
+    word_found f v x = let (u, y, t) = chars-some (h v x) in rw y (hits_found w k p.0 u f)
 
-    pub word_more : (eqb c 32 && eqb k (length w)) ≡ false → (b : Bool) → HasWord s w e (along_by w k c) b → HasWord s w i k b
-    word_more f b n v x = let (u, y, t) = chars-some z (h v x) in rw y (n u t ∙ sym (hits_more w k c u f))
+    pub word_more : (eqb p.0 32 && eqb k (length w)) ≡ false → (b : Bool) → HasWord s w p.1 (along_by w k p.0) b → HasWord s w i k b
+    word_more f b n v x = let (u, y, t) = chars-some (h v x) in rw y (n u t ∙ sym (hits_more w k p.0 u f))

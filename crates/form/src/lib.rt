@@ -64,8 +64,8 @@ pub fn moment(s: &[u8], q: usize, e: usize, shift: u64) -> Result<Moment, Refusa
     timestamp::read(raw, shift)
 }
 
-// The amount that a value says, or that it says none.
-pub fn amount(s: &[u8], q: usize, e: usize) -> Amount
+// The amount that a value says, if it says one.
+pub fn amount(s: &[u8], q: usize, e: usize) -> Option<Amount>
     requires fact_1 { q < e }
     requires fact_2 { e ≤ length s.now }
     ensures small { Small result }
@@ -98,14 +98,7 @@ fn is_amount(s: &[u8], q: usize, e: usize) -> bool
     requires fact_2 { e ≤ length s.now }
     ensures { (v : List ℕ) → value (drop q s.now) ≡ ok v (drop e s.now) → result ≡ is_some (whole amount_text v) }
 {
-    let answer = amount(s, q, e);
-    match answer {
-        Amount::Is {
-            negative: _,
-            value: _,
-        } => true,
-        Amount::Bad => false,
-    }
+    amount(s, q, e).is_some()
 }
 
 // The refusal of a value that is to be a timestamp.

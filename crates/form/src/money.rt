@@ -7,11 +7,11 @@ ghost use Rattle.form.specs.Amounts.{amount_of, code_of, Small, SignAt};
 
 use text::digits;
 
-// An amount in ten-thousandths, with its sign; or that a text is none.
+// An amount in ten-thousandths, with its sign.
 #[derive(Clone, Copy)]
-pub enum Amount {
-    Is { negative: bool, value: u64 },
-    Bad,
+pub struct Amount {
+    pub negative: bool,
+    pub value: u64,
 }
 
 // Where the digits of an amount begin: past the sign, if there is one.
@@ -24,32 +24,32 @@ fn sign_end(t: &[u8]) -> usize
     if t[0] == b'-' { 1 } else { 0 }
 }
 
-// The amount that a text is.
-pub fn read(t: &[u8]) -> Amount
+// The amount that a text is, if it is one.
+pub fn read(t: &[u8]) -> Option<Amount>
     ensures small { Small result }
     ensures tells { amount_of result ≡ whole amount_text t.now }
 {
     let at = sign_end(t);
     let n = digits::count(t, at, 12);
     if n == 0 {
-        return Amount::Bad;
+        return None;
     }
     let units = digits::value(t, at, n);
     let fraction = digits::read_fraction(t, at + n);
     if fraction.end != t.len() {
-        return Amount::Bad;
+        return None;
     }
-    Amount::Is {
+    Some(Amount {
         negative: at == 1,
         value: units * 10_000 + fraction.value,
-    }
+    })
 }
 
 // Whether a byte is a capital A-Z.
 fn is_capital(c: u8) -> bool
     ensures { result ≡ is_from 65 90 c }
 {
-    (b'A' <= c) & (c <= b'Z')
+    c.is_ascii_uppercase()
 }
 
 // Whether a text is a currency: three capitals.

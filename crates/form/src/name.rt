@@ -8,7 +8,6 @@ ghost use Rattle.form.specs.Words.{along_by, is_qualifier};
 
 use crate::parts::{Part, are_parts, is_word};
 use element::value::{next, start};
-use markup::value::Char;
 
 // How many bytes of w the current word of a text has after one byte more, where it had k before: none after a space; past the end of w if it
 // is another word.
@@ -35,17 +34,14 @@ pub fn has_word(s: &[u8], q: usize, w: &[u8]) -> bool
     let from = start(s, q);
     let mut i = from;
     let mut k = 0;
-    loop {
-        let first = next(s, i);
-        let Char::Is(c, e) = first else {
-            return k == w.len();
-        };
+    while let Some((c, end)) = next(s, i) {
         if (c == b' ') & (k == w.len()) {
             return true;
         }
         k = along(w, k, c);
-        i = e;
+        i = end;
     }
+    k == w.len()
 }
 
 // Whether a word is a qualifier.

@@ -7,6 +7,7 @@ use mathlib.Core.Option.{none, some}
 use native.Mathlib.Omega.{arith}
 use borrow.Author.Tests.{lt-ltb}
 use lib.ListN.{length, get_or}
+use Rattle.std.specs.Prelude.{Option as StdOption, Some, None, Result}
 use Rattle.rules.specs.Basics.{bytes, is_some}
 use Rattle.rules.specs.Refusal.{first_of}
 use Rattle.rules.specs.Markup.{Attribute, Element, lookup, document}
@@ -22,9 +23,6 @@ use Rattle.element.specs.declared.tag.Tag.{Tag}
 use Rattle.element.proofs.Placing.{no_places, none_there}
 use Rattle.datatype.specs.Meaning.{kind_meant, type_meant}
 use Rattle.datatype.specs.declared.kind.Kind.{Kind}
-use Rattle.datatype.specs.declared.kind.Named.{Named}
-use Rattle.datatype.specs.declared.kind.Named.TheVariants.{Is, Nothing}
-use Rattle.std.specs.Prelude.{Result}
 use Rattle.judge.specs.Checks.{RefusedAs, DocumentAs, CheckedAs}
 use Rattle.judge.specs.Faults.{judged}
 use Rattle.judge.specs.declared.Checked.{Checked}
@@ -36,7 +34,7 @@ no_tag s = record { placed = λ k. rw (none_there k) (omega arith); name = omega
 
 module _ {s : List ℕ} {at : ℕ} (shift : ℕ) (t : Tag) (root : (v : Element) → document s ≡ some v → (after : List ℕ) × ElementTo s at 8 v after)
     (tag : (depth : ℕ) (v : Element) (after : List ℕ) → ElementTo s at depth v after → TagOf s depth v after t)
-    (n : Named) (named : (l : List Attribute) → Place s (lookup (bytes "xsi:type") l) (get_or t.places 2 0) → type_meant n ≡ type_among all_types l) where
+    (n : StdOption Kind) (named : (l : List Attribute) → Place s (lookup (bytes "xsi:type") l) (get_or t.places 2 0) → type_meant n ≡ type_among all_types l) where
   rooted : (v : Element) → document s ≡ some v → (after : List ℕ) × TagOf s 8 v after t
   rooted v d = let (after, x) = root v d in (after, tag 8 v after x)
 
@@ -44,7 +42,7 @@ module _ {s : List ℕ} {at : ℕ} (shift : ℕ) (t : Tag) (root : (v : Element)
   typed v d = named v.attrs ((rooted v d).1.tells.placed 2 (omega arith))
 
   -- the document has no type, or one
-  pub no_type : n ≡ Nothing → (r : Checked) → RefusedAs «Type» r → DocumentAs s shift r
+  pub no_type : n ≡ None → (r : Checked) → RefusedAs «Type» r → DocumentAs s shift r
   unfolding first_of element_faults
   no_type z r x = record {
     within = x.within s;
@@ -52,7 +50,7 @@ module _ {s : List ℕ} {at : ℕ} (shift : ℕ) (t : Tag) (root : (v : Element)
     held = λ v k d e. let w : none ≡ some k = sym (ap type_meant z) ∙ typed v d ∙ e in clash (cc);
   }
 
-  pub some-type : (k : Kind) → n ≡ Is k → TagIn s t → (q : Result (Unit {0}) Refusal) → ((v : Element) (after : List ℕ) → TagOf s 8 v after t → fault_of q ≡ first_of (judged shift top (some (kind_meant k)) v))
+  pub some-type : (k : Kind) → n ≡ Some k → TagIn s t → (q : Result (Unit {0}) Refusal) → ((v : Element) (after : List ℕ) → TagOf s 8 v after t → fault_of q ≡ first_of (judged shift top (some (kind_meant k)) v))
       → DocumentAs s shift (record { fault = q; «record» = record { kind = k; tag = t } })
   some-type k z h q first = record {
     within = h;

@@ -6,6 +6,8 @@ use mathlib.Core.List.{List}
 use mathlib.Core.Option.{Option}
 use native.Mathlib.Omega.{arith}
 use lib.Dec.{eqb}
+use Rattle.std.specs.Prelude.{Option as StdOption, Some, None, is_some as std_is_some}
+use Rattle.form.specs.declared.Form.{Form as CodeForm}
 use Rattle.rules.specs.Basics.{is_some, same, exists}
 use Rattle.rules.specs.Markup.{Attribute, lookup}
 use Rattle.rules.specs.Forms.{Form}
@@ -14,11 +16,16 @@ use Rattle.rules.specs.Judge.{carries}
 use Rattle.element.specs.Names.{known, name_at}
 use Rattle.element.specs.Tags.{Place}
 use Rattle.element.proofs.Asked.{present}
-use Rattle.datatype.specs.Tables.{form_among}
+use Rattle.datatype.specs.Tables.{form_meant, form_among}
 
 -- the attribute of a number is on the line, and is there
 abbrev pub own_at : Kind → List Attribute → ℕ → Bool
 own_at k l n = is_some (form_among (line_of k).columns (name_at n)) && is_some (lookup (name_at n) l)
+
+-- a line has a column or none
+pub told : (o : StdOption CodeForm) → std_is_some o ≡ is_some (form_meant o)
+told (Some f) = refl
+told None = refl
 
 -- that of one of so many numbers, from one on
 unfoldable pub own_from : Kind → List Attribute → (n more : ℕ) → Bool

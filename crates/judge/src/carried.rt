@@ -19,7 +19,7 @@ ghost use Rattle.judge.specs.Carried.{fault_at, is_strange};
 
 use datatype::columns::{column_of, own_column};
 use datatype::kind::Kind;
-use datatype::table::{Column, Standing};
+use datatype::table::Standing;
 use element::name::VALUE;
 use element::tag::{Tag, has};
 use form::Form;
@@ -75,8 +75,7 @@ fn attribute_fault(
             return time;
         }
     }
-    let column = column_of(kind, standing, n);
-    let Column::Takes(form) = column else {
+    let Some(form) = column_of(kind, standing, n) else {
         return Err(Refusal::Shape);
     };
     text_fault(s, place, form, shift)
@@ -107,22 +106,12 @@ pub fn attributes_fault(
     so_far
 }
 
-// Whether a line has a column.
-fn is_column(column: Column) -> bool
-    ensures { result ≡ is_some (form_meant column) }
-{
-    match column {
-        Column::Takes(_) => true,
-        Column::Nothing => false,
-    }
-}
-
 // Whether an element carries an attribute of the line of a kind, by its tag.
 pub fn has_own(tag: Tag, kind: Kind) -> bool
     ensures { (s : List ℕ) (l : List Attribute) → Tells s l tag.places → result ≡ exists (carries l) (line_of (kind_meant kind)).columns }
 {
     for (n, &place) in tag.places.iter().enumerate() {
-        if is_column(own_column(kind, n)) & (place != 0) {
+        if own_column(kind, n).is_some() & (place != 0) {
             return true;
         }
     }

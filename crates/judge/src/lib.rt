@@ -13,7 +13,7 @@ mod own;
 mod row;
 mod rule;
 
-use datatype::kind::{Kind, Named, type_at};
+use datatype::kind::{Kind, type_at};
 use datatype::record::Record;
 use datatype::table::Standing;
 use element::inside::{Inside, next_inside};
@@ -86,8 +86,7 @@ fn check_document(s: &[u8], shift: u64) -> Checked
 {
     let at = element::root(s);
     let tag = tag::read(s, at);
-    let named = type_at(s, tag.places[XSI_TYPE], true);
-    let Named::Is(kind) = named else {
+    let Some(kind) = type_at(s, tag.places[XSI_TYPE], true) else {
         return refused(Refusal::Type);
     };
     let content = judge_content(s, tag, DEPTH, kind, shift);

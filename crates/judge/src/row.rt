@@ -15,10 +15,10 @@ ghost use Rattle.judge.specs.Rows.{row_meant, beginning, with_child, row_step, A
 
 use crate::own::{judge_with, time_in};
 use crate::rule::breaks_bounds;
-use datatype::kind::{Kind, Named, type_at};
+use datatype::kind::{Kind, type_at};
 use datatype::rows::next_child;
 use datatype::said::Said;
-use datatype::table::{Next, Standing, enough};
+use datatype::table::{Standing, Step, enough};
 use element::name::{NULL_FLAVOR, XSI_TYPE};
 use element::tag::{Tag, has};
 use refusal::{Refusal, first, refused_if};
@@ -72,15 +72,14 @@ fn member_asked(s: &[u8], tag: Tag, to: u64) -> Asked
     requires { TagIn s.now tag }
     ensures { (shift stage : ℕ) (v : Element) → Tells s.now v.attrs tag.places → AskedAs shift (some (record { kind = typed; to = to })) stage v result }
 {
-    let named = type_at(s, tag.places[XSI_TYPE], false);
-    match named {
-        Named::Is(kind) => Asked {
+    match type_at(s, tag.places[XSI_TYPE], false) {
+        Some(kind) => Asked {
             fault: Ok(()),
             kind,
             standing: Standing::Member,
             stage: to,
         },
-        Named::Nothing => refuse(Refusal::Type, to),
+        None => refuse(Refusal::Type, to),
     }
 }
 
@@ -89,21 +88,20 @@ pub fn child_asked(s: &[u8], tag: Tag, kind: Kind, stage: u64) -> Asked
     requires { TagIn s.now tag }
     ensures { (shift depth : ℕ) (v : Element) (after : List ℕ) → TagOf s.now depth v after tag → AskedAs shift (step_among (line_of (kind_meant kind)).children stage v.name) stage v result }
 {
-    let step = step_of(s, tag, kind, stage);
-    match step {
-        Next::Always(inner, to) => Asked {
+    match step_of(s, tag, kind, stage) {
+        Some(Step::Always(inner, to)) => Asked {
             fault: Ok(()),
             kind: inner,
             standing: Standing::Inside,
             stage: to,
         },
-        Next::Typed(to) => member_asked(s, tag, to),
-        Next::Nothing => refuse(Refusal::Shape, stage),
+        Some(Step::Typed(to)) => member_asked(s, tag, to),
+        None => refuse(Refusal::Shape, stage),
     }
 }
 
 // The step that a row of children of an element of a kind takes with the child of a tag.
-fn step_of(s: &[u8], tag: Tag, kind: Kind, stage: u64) -> Next
+fn step_of(s: &[u8], tag: Tag, kind: Kind, stage: u64) -> Option<Step>
     requires { TagIn s.now tag }
     ensures { (depth : ℕ) (v : Element) (after : List ℕ) → TagOf s.now depth v after tag → step_meant result ≡ step_among (line_of (kind_meant kind)).children stage v.name }
 {

@@ -5,8 +5,6 @@ ghost use Rattle.element.specs.Tags.{TagIn};
 
 use crate::{put, put_answer};
 use datatype::record::Record;
-use listing::Listed;
-use text::digits::Number;
 use timestamp::tick::Tick;
 
 // What every tick is below.
@@ -53,8 +51,7 @@ fn put_record(s: &[u8], shift: u64)
     let checked = judge::check(s, shift);
     let held = checked.record;
     let mut list = io::buffer();
-    let answer = listing::list(s, held, shift, &mut list);
-    let Listed::Count(n) = answer else {
+    let Ok(n) = listing::list(s, held, shift, &mut list) else {
         return;
     };
     if n <= 32 {
@@ -67,7 +64,7 @@ fn put_record(s: &[u8], shift: u64)
 fn shift_of(line: &[u8]) -> u64
     ensures { result ≤ 1680 }
 {
-    let Number::Is(n) = text::digits::read(line, 0, 4) else {
+    let Some(n) = text::digits::read(line, 0, 4) else {
         return 1680;
     };
     n.min(1680)

@@ -5,10 +5,8 @@ ghost use Rattle.element.specs.Tags.{TagIn};
 use crate::put;
 use element::row::{is_child, past_element};
 use element::tag::{Tag, read};
-use markup::scan::{read_some_space, skip_space};
-use markup::tag::{Parts, read_attribute};
-use markup::value::Char;
-use text::Read;
+use markup::scan::skip_space;
+use markup::tag::next_attribute;
 
 // Two spaces for each level.
 fn write_indent(levels: usize) {
@@ -21,16 +19,10 @@ fn write_indent(levels: usize) {
 fn write_value(s: &[u8], at: usize)
     requires { at ≤ length s.now }
 {
-    let start = element::value::start(s, at);
-    let mut i = start;
-    loop {
-        let first = element::value::next(s, i);
-        let Char::Is(c, e) = first else {
-            return;
-        };
-        let byte = [c];
-        put(&byte);
-        i = e;
+    let mut i = element::value::start(s, at);
+    while let Some((c, end)) = element::value::next(s, i) {
+        put(&[c]);
+        i = end;
     }
 }
 
@@ -39,25 +31,12 @@ fn write_attributes(s: &[u8], at: usize)
     requires { at ≤ length s.now }
 {
     let mut i = at;
-    loop {
-        let gap = read_some_space(s, i);
-        let Read::At(name) = gap else {
-            return;
-        };
-        let parts = read_attribute(s, name);
-        let Parts::Attribute {
-            name_end,
-            value,
-            end,
-        } = parts
-        else {
-            return;
-        };
+    while let Some(a) = next_attribute(s, i) {
         put(b" ");
-        put(&s[name..name_end]);
+        put(&s[a.name..a.name_end]);
         put(b"=");
-        write_value(s, value);
-        i = end;
+        write_value(s, a.value);
+        i = a.end;
     }
 }
 

@@ -5,6 +5,7 @@ use mathlib.Core.Bool.{Bool, true, false, not, cond}
 use mathlib.Core.List.{List}
 use mathlib.Core.Option.{Option, none, some}
 use native.Mathlib.Omega.{arith}
+use Rattle.std.specs.Prelude.{Option as StdOption, Some, None}
 use borrow.Author.Tests.{lt-ltb}
 use lib.Dec.{ltb}
 use Rattle.rules.specs.Basics.{if_some, bytes}
@@ -24,9 +25,6 @@ use Rattle.datatype.specs.declared.bounds.Endpoint.{Endpoint}
 use Rattle.datatype.specs.Bounds.{side_meant, endpoint_meant}
 use Rattle.datatype.specs.Said.{Said, endpoint_said}
 use Rattle.datatype.proofs.Sayings.{by_child}
-use Rattle.listing.specs.declared.bound.Limit.{Limit}
-use Rattle.listing.specs.declared.bound.Limit.TheVariants.{Is, Unknown}
-use Rattle.listing.specs.declared.bound.Written.{Written}
 use Rattle.listing.specs.Bounds.{limit_meant, LimitOn, written_meant, BoundSaid}
 
 -- the ticks of a side are such as sets take
@@ -79,31 +77,31 @@ bound_small (Closed n) side closed infinite s h = clash (cc)
 bound_small b side closed unknown s h = clash (cc)
 
 -- what is said on a side, as a bound
-module _ (said : Said) (side : Side) (closed : Bool) (e : Endpoint) {l : Limit} (p : endpoint_meant e ≡ endpoint_said side said) (q : limit_meant l ≡ bound_read (side_meant side) closed (endpoint_meant e)) where
-  pub bound_said : (r : Limit) → l ≡ r → BoundSaid said side closed r
+module _ (said : Said) (side : Side) (closed : Bool) (e : Endpoint) {l : StdOption Bound} (p : endpoint_meant e ≡ endpoint_said side said) (q : limit_meant l ≡ bound_read (side_meant side) closed (endpoint_meant e)) where
+  pub bound_said : (r : StdOption Bound) → l ≡ r → BoundSaid said side closed r
   bound_said r z shift most attrs kids x y =
       sym (ap limit_meant z) ∙ q ∙ ap₂ (bound_read (side_meant side)) y (p ∙ ap (endpoint_said side) x ∙ sym (by_child shift side kids).0)
 
   -- no bound of a record is left out for its tick
-  pub bound_kept : {b : Bound} → l ≡ Is b → ltb (tick b) (2 ^ 60) ≡ false → BoundSaid said side closed Unknown
+  pub bound_kept : {b : Bound} → l ≡ Some b → ltb (tick b) (2 ^ 60) ≡ false → BoundSaid said side closed None
   bound_kept {b} z f shift most attrs kids x y =
-      let t = bound_small b (side_meant side) (is_closed (side_meant side) attrs) (endpoint_of shift (side_meant side) kids) (endpoint_small shift most (side_meant side) kids) (bound_said (Is b) z shift most attrs kids x y) in
+      let t = bound_small b (side_meant side) (is_closed (side_meant side) attrs) (endpoint_of shift (side_meant side) kids) (endpoint_small shift most (side_meant side) kids) (bound_said (Some b) z shift most attrs kids x y) in
       clash (cc (lt-ltb (tick b) (2 ^ 60) t))
 
-pub limit_on : {l : Limit} {b : Bound} → l ≡ Is b → LimitOn l → Ticked b
+pub limit_on : {l : StdOption Bound} {b : Bound} → l ≡ Some b → LimitOn l → Ticked b
 limit_on z h = subst LimitOn z h
 
 -- the interval of two bounds
-module _ (shift : ℕ) (attrs : List Attribute) (kids : Nodes) {l : Limit} (h : limit_meant l ≡ bound_of shift low attrs kids) where
-  pub interval-low : l ≡ Unknown → (w : Written) → w.known ≡ false → written_meant w ≡ interval_of shift attrs kids
-  interval-low z w k = let e : refused UNKNOWN_BOUND ≡ bound_of shift low attrs kids = sym (ap limit_meant z) ∙ h in rw (k, ← e)
+module _ (shift : ℕ) (attrs : List Attribute) (kids : Nodes) {l : StdOption Bound} (h : limit_meant l ≡ bound_of shift low attrs kids) where
+  pub interval-low : l ≡ None → written_meant None ≡ interval_of shift attrs kids
+  interval-low z = let e : refused UNKNOWN_BOUND ≡ bound_of shift low attrs kids = sym (ap limit_meant z) ∙ h in rw (← e)
 
-  module _ {b : Bound} (z : l ≡ Is b) (r : Limit) (g : limit_meant r ≡ bound_of shift high attrs kids) where
+  module _ {b : Bound} (z : l ≡ Some b) (r : StdOption Bound) (g : limit_meant r ≡ bound_of shift high attrs kids) where
     first : answered (bound_meant b) ≡ bound_of shift low attrs kids
     first = sym (ap limit_meant z) ∙ h
 
-    pub interval-high : r ≡ Unknown → (w : Written) → w.known ≡ false → written_meant w ≡ interval_of shift attrs kids
-    interval-high y w k = let e : refused UNKNOWN_BOUND ≡ bound_of shift high attrs kids = sym (ap limit_meant y) ∙ g in rw (k, ← first, ← e)
+    pub interval-high : r ≡ None → written_meant None ≡ interval_of shift attrs kids
+    interval-high y = let e : refused UNKNOWN_BOUND ≡ bound_of shift high attrs kids = sym (ap limit_meant y) ∙ g in rw (← first, ← e)
 
-    pub interval-both : {c : Bound} → r ≡ Is c → answered (record { low = bound_meant b; high = bound_meant c }) ≡ interval_of shift attrs kids
+    pub interval-both : {c : Bound} → r ≡ Some c → answered (record { low = bound_meant b; high = bound_meant c }) ≡ interval_of shift attrs kids
     interval-both {c} y = let e : answered (bound_meant c) ≡ bound_of shift high attrs kids = sym (ap limit_meant y) ∙ g in rw (← first, ← e)

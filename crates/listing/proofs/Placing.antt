@@ -1,28 +1,29 @@
 -- Whether a place is in the set that an element writes, and in those of members one after another.
 use Prim.Native.Nat.{ℕ}
 use mathlib.Core.Path.{◌≡◌, refl, sym, ap, ◌∙◌}
-use mathlib.Core.Bool.{Bool, true, false, ◌&&◌, cond, and-false, and-true}
+use mathlib.Core.Bool.{Bool, true, false, cond}
 use mathlib.Core.List.{List, []}
+use Rattle.std.specs.Prelude.{Option as StdOption, Some, None}
 use Rattle.rules.specs.Refusal.{Outcome}
 use Rattle.rules.specs.Markup.{Nodes, end, node, Element}
-use Rattle.rules.specs.Sets.{Op as PageOp, Interval, Place, holds, apply}
+use Rattle.rules.specs.Sets.{Op as PageOp, Interval as PageInterval, Place, holds, apply}
 use Rattle.rules.specs.Listing.{interval_of}
 use Rattle.rules.specs.ListingPromise.{is_within, together, mean_place, is_meant}
 use Rattle.rules.proofs.Meaning.{folded, folded_together}
 use Rattle.interval.specs.declared.Op.{Op}
 use Rattle.interval.specs.Meaning.{op_of, interval_of as interval_meant}
-use Rattle.listing.specs.declared.bound.Written.{Written}
+use Rattle.interval.specs.declared.Interval.{Interval}
 use Rattle.listing.specs.declared.set.Shape.TheVariants.{Single, Members, Other}
 use Rattle.listing.specs.Bounds.{written_meant}
 use Rattle.listing.specs.Sets.{WritesAs}
 
 -- the interval that an element writes
-pub within-written : (w : Written) (x : Place) {b : Bool} → b ≡ holds (interval_meant w.interval) x → {o : Outcome Interval} → written_meant w ≡ o → (b && w.known) ≡ is_within o x
-within-written w x {b} h e = rw (← e) (go w.known)
-  where
-    go : (k : Bool) → (b && k) ≡ is_within (written_meant (record { known = k; interval = w.interval; end = w.end })) x
-    go true = and-true b ∙ h
-    go false = and-false b
+pub within-written : (x : Place) {w : StdOption Interval} {v : Interval} {b : Bool} → w ≡ Some v → b ≡ holds (interval_meant v) x
+    → {o : Outcome PageInterval} → written_meant w ≡ o → b ≡ is_within o x
+within-written x z h e = rw (← e, z) h
+
+pub within-unknown : (x : Place) {w : StdOption Interval} → w ≡ None → {o : Outcome PageInterval} → written_meant w ≡ o → false ≡ is_within o x
+within-unknown x z e = rw (← e, z)
 
 -- an element, by what it writes
 module _ (shift : ℕ) (v : Element) (x : Place) where

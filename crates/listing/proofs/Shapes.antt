@@ -4,6 +4,7 @@ use mathlib.Core.Path.{◌≡◌, refl, sym, ap, ◌∙◌, subst}
 use mathlib.Core.Bool.{Bool, true, false, cond}
 use mathlib.Core.List.{List, [], ◌∷◌}
 use mathlib.Core.Option.{Option, none, some}
+use Rattle.std.specs.Prelude.{Option as StdOption, Some, None}
 use Rattle.rules.specs.Basics.{is_some, bytes, same, find}
 use Rattle.rules.specs.Markup.{Attribute, Element, lookup}
 use Rattle.rules.specs.Types.{Kind as RulesKind, TS, IVL_TS, QSU_TS, QSI_TS, QSD_TS, MO, II, CD, EN, DisplayName as Display, Part as NamePart, name_of, member_types, all_types, has_type, type_among}
@@ -13,8 +14,6 @@ use Rattle.rules.specs.ListingPromise.{is_listed}
 use Rattle.rules.proofs.Tests.{clash, same_true}
 use Rattle.datatype.specs.declared.kind.Kind.{Kind}
 use Rattle.datatype.specs.declared.kind.Kind.TheVariants.{Ts, IvlTs, QsuTs, QsiTs, QsdTs, Mo, Ii, Cd, En, DisplayName, Part}
-use Rattle.datatype.specs.declared.kind.Named.{Named}
-use Rattle.datatype.specs.declared.kind.Named.TheVariants.{Is, Nothing}
 use Rattle.datatype.specs.declared.record.Record.{Record}
 use Rattle.datatype.specs.Meaning.{kind_meant, type_meant, named_among}
 use Rattle.datatype.specs.Records.{RecordOf}
@@ -51,11 +50,11 @@ module _ (attrs : List Attribute) where
       go false false false true f g h i = (f, rw (g, h, i))
       go false false false false f g h i = (f, rw (g, h, i))
 
-  module _ {r : Named} (told : type_meant r ≡ type_among member_types attrs) where
-    pub untyped : r ≡ Nothing → WritesAs attrs Other
+  module _ {r : StdOption Kind} (told : type_meant r ≡ type_among member_types attrs) where
+    pub untyped : r ≡ None → WritesAs attrs Other
     untyped z = subst ByType (sym told ∙ ap type_meant z) by_type
 
-    pub typed : {k : Kind} → r ≡ Is k → {h : Shape} → h ≡ shape_of k → WritesAs attrs h
+    pub typed : {k : Kind} → r ≡ Some k → {h : Shape} → h ≡ shape_of k → WritesAs attrs h
     typed {k} z e = subst (WritesAs attrs) (sym e) (go k (subst ByType (sym told ∙ ap type_meant z) by_type))
       where
         go : (k : Kind) → ByType (some (kind_meant k)) → WritesAs attrs (shape_of k)

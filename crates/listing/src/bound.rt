@@ -8,7 +8,7 @@ ghost use Rattle.interval.specs.Meaning.{bound_of, tick, Ticked};
 ghost use Rattle.element.specs.Tags.{TagOf, TagIn};
 ghost use Rattle.datatype.specs.Bounds.{side_meant, endpoint_meant};
 ghost use Rattle.datatype.specs.Said.{said_meant};
-ghost use Rattle.listing.specs.Bounds.{limit_meant, LimitOn, written_meant, BoundSaid};
+ghost use Rattle.listing.specs.Bounds.{limit_meant, LimitOn, IntervalOn, written_meant, BoundSaid, IntervalSaid};
 
 use datatype::bounds::{Endpoint, Side, is_pushed};
 use datatype::places::has_text;
@@ -19,18 +19,10 @@ use element::tag::Tag;
 use interval::{Bound, Interval};
 use timestamp::Moment;
 
-// A bound, or that it is not known.
-#[derive(Clone, Copy)]
-pub enum Limit {
-    Is(Bound),
-    Unknown,
-}
-
-// An element of an interval: whether its bounds are known, the interval, if they are, and the position past the element.
+// An element of an interval: the interval, if its bounds are known, and the position past the element.
 #[derive(Clone, Copy)]
 pub struct Written {
-    pub known: bool,
-    pub interval: Interval,
+    pub interval: Option<Interval>,
     pub end: usize,
 }
 
@@ -54,14 +46,14 @@ fn read_value(m: Moment, side: Side, closed: bool) -> Bound
     bound_at(m.start, closed)
 }
 
-// The bound that a side means, by what it says and whether it is closed.
-pub fn read_bound(end: Endpoint, side: Side, closed: bool) -> Limit
+// The bound that a side means, by what it says and whether it is closed, if it is known.
+pub fn read_bound(end: Endpoint, side: Side, closed: bool) -> Option<Bound>
     ensures { limit_meant result ≡ bound_read (side_meant side) closed (endpoint_meant end) }
 {
     match end {
-        Endpoint::Valued(m) => Limit::Is(read_value(m, side, closed)),
-        Endpoint::Infinite => Limit::Is(Bound::Unbounded),
-        Endpoint::Unknown => Limit::Unknown,
+        Endpoint::Valued(m) => Some(read_value(m, side, closed)),
+        Endpoint::Infinite => Some(Bound::Unbounded),
+        Endpoint::Unknown => None,
     }
 }
 
@@ -79,66 +71,51 @@ fn is_ticked(b: Bound) -> bool
     }
 }
 
-// The bound of what is said on a side.
-fn bound_of(said: Said, side: Side, closed: bool) -> Limit
+// The bound of what is said on a side, if it is known.
+fn bound_of(said: Said, side: Side, closed: bool) -> Option<Bound>
     ensures on { LimitOn result }
     ensures tells { BoundSaid (said_meant said) side closed result }
 {
     let end = endpoint(said, side);
-    let limit = read_bound(end, side, closed);
-    let Limit::Is(b) = limit else {
-        return Limit::Unknown;
-    };
+    let b = read_bound(end, side, closed)?;
     if is_ticked(b) {
-        return Limit::Is(b);
+        return Some(b);
     }
-    Limit::Unknown
+    None
 }
 
-// An element of which a bound is not known.
-fn unwritten(end: usize) -> Written
-    ensures { (result.known ≡ false) × (result.end ≡ end) × Ticked result.interval.low × Ticked result.interval.high }
+// The interval of what is said on the two sides of the element of a tag, if both bounds are known.
+fn interval_said(s: &[u8], tag: Tag, from: Said, to: Said) -> Option<Interval>
+    requires { TagIn s.now tag }
+    ensures on { IntervalOn result }
+    ensures tells { IntervalSaid s.now tag from to result }
 {
-    let low = Bound::Unbounded;
-    let high = Bound::Unbounded;
-    Written {
-        known: false,
-        interval: Interval { low, high },
-        end,
-    }
+    let low = bound_of(
+        from,
+        Side::Low,
+        has_text(s, tag.places[LOW_CLOSED], b"true"),
+    )?;
+    let high = bound_of(
+        to,
+        Side::High,
+        has_text(s, tag.places[HIGH_CLOSED], b"true"),
+    )?;
+    Some(Interval { low, high })
 }
 
 // The interval that the element of a tag writes, where `depth` may be open at once.
 pub fn interval_of(s: &[u8], tag: Tag, depth: usize, shift: u64) -> Written
     requires fact_1 { TagIn s.now tag }
     requires fact_2 { shift ≤ 1680 }
-    ensures ticked { Ticked result.interval.low × Ticked result.interval.high }
+    ensures ticked { IntervalOn result.interval }
     ensures within { (tag.end ≤ result.end) × (result.end ≤ length s.now) }
-    ensures tells { (v : Element) (after : List ℕ) → TagOf s.now depth v after tag → (written_meant result ≡ interval_of shift v.attrs v.kids) × (after ≡ drop result.end s.now) }
+    ensures tells { (v : Element) (after : List ℕ) → TagOf s.now depth v after tag → (written_meant result.interval ≡ interval_of shift v.attrs v.kids) × (after ≡ drop result.end s.now) }
 {
     let sides = read_sides(s, tag, depth, shift);
-    let end = sides.end;
     let from = sides.low;
     let to = sides.high;
-    let first = bound_of(
-        from,
-        Side::Low,
-        has_text(s, tag.places[LOW_CLOSED], b"true"),
-    );
-    let Limit::Is(low) = first else {
-        return unwritten(end);
-    };
-    let second = bound_of(
-        to,
-        Side::High,
-        has_text(s, tag.places[HIGH_CLOSED], b"true"),
-    );
-    let Limit::Is(high) = second else {
-        return unwritten(end);
-    };
     Written {
-        known: true,
-        interval: Interval { low, high },
-        end,
+        interval: interval_said(s, tag, from, to),
+        end: sides.end,
     }
 }

@@ -21,13 +21,6 @@ use datatype::record::Record;
 use refusal::Refusal;
 use set::{Shape, shape_of_kind};
 
-// The answer on a record: the count of stretches that were written, or a refusal.
-#[derive(Clone, Copy)]
-pub enum Listed {
-    Count(usize),
-    Refused(Refusal),
-}
-
 // How many elements may be open at once.
 const DEPTH: usize = 8;
 
@@ -56,9 +49,9 @@ pub fn is_meant(s: &[u8], record: Record, shift: u64, n: u64, gap: bool) -> bool
     meant.is
 }
 
-// Writes the stretches of the set of times that an accepted record writes into a lent list, four numbers each, or refuses; a refusal
-// leaves the list as it was.
-pub fn list(s: &[u8], record: Record, shift: u64, out: &mut [u8]) -> Listed
+// Writes the stretches of the set of times that an accepted record writes into a lent list, four numbers each, and gives their count; or
+// refuses, and leaves the list as it was.
+pub fn list(s: &[u8], record: Record, shift: u64, out: &mut [u8]) -> Result<usize, Refusal>
     requires fact_1 { TagIn s.now «record».tag }
     requires fact_2 { shift ≤ 1680 }
     ensures kept { Kept result out.old out.new }
@@ -66,18 +59,18 @@ pub fn list(s: &[u8], record: Record, shift: u64, out: &mut [u8]) -> Listed
     ensures few { Few result }
 {
     let tag = record.tag;
-    let written = set::evaluate(s, tag, DEPTH, shift);
-    if !written.known {
-        return Listed::Refused(Refusal::UnknownBound);
-    }
+    let evaluated = set::evaluate(s, tag, DEPTH, shift);
+    let Some(written) = evaluated.times else {
+        return Err(Refusal::UnknownBound);
+    };
     if 32 < written.count {
-        return Listed::Refused(Refusal::TooMany);
+        return Err(Refusal::TooMany);
     }
     let stretches = written.set;
     let count = stretches.count;
     if out.len() / 32 < count {
-        return Listed::Refused(Refusal::NoRoom);
+        return Err(Refusal::NoRoom);
     }
     interval::write_list(stretches, out);
-    Listed::Count(count)
+    Ok(count)
 }

@@ -53,11 +53,11 @@ fn in_single(s: &[u8], tag: Tag, depth: usize, shift: u64, n: u64, gap: bool) ->
     ensures tells { (v : Element) (after : List ℕ) → TagOf s.now depth v after tag → (result.is ≡ is_within (interval_of shift v.attrs v.kids) (place_of n gap)) × (after ≡ drop result.end s.now) }
 {
     let w = interval_of(s, tag, depth, shift);
-    let v = w.interval;
-    Meant {
-        is: is_in(v, n, gap) & w.known,
-        end: w.end,
-    }
+    let is = match w.interval {
+        Some(v) => is_in(v, n, gap),
+        None => false,
+    };
+    Meant { is, end: w.end }
 }
 
 // Whether a tick, or the gap after it, is in the set that the element of a tag writes, where `depth` may be open at once. It calls itself

@@ -1,14 +1,16 @@
 // The set of times that an element writes, put together from the intervals in it.
-ghost use Rattle.std.specs.Prelude.{◌≡◌, false, List, ℕ, ◌≤◌, length, drop};
+ghost use Rattle.std.specs.Prelude.{◌≡◌, List, ℕ, ◌≤◌, length, drop, IfSome};
+ghost use Rattle.std.proofs.Math.Option.{Option};
+ghost use Rattle.rules.specs.Refusal.{Outcome};
 ghost use Rattle.rules.specs.Markup.{Element};
 ghost use Rattle.rules.specs.Sets.{Expression, combine};
 ghost use Rattle.rules.specs.Listing.{interval_of};
 ghost use Rattle.interval.specs.Meaning.{op_of};
 ghost use Rattle.element.specs.Tags.{TagOf, TagIn};
-ghost use Rattle.listing.specs.Sets.{shape_of, WritesAs, Formed, IsSet, Says, expressed, SaysElement};
+ghost use Rattle.listing.specs.Sets.{shape_of, WritesAs, Formed, IsSet, Says, SoFar, joined, expressed, SaysElement};
 
 use crate::bound::interval_of;
-use datatype::kind::{Kind, Named, type_at};
+use datatype::kind::{Kind, type_at};
 use element::inside::{Inside, next_inside};
 use element::name::{NULL_FLAVOR, XSI_TYPE};
 use element::tag;
@@ -23,13 +25,17 @@ pub enum Shape {
     Other,
 }
 
-// A set of times: whether all of it is known; and, if it is, how many intervals are written in it, 33 for more than 32, up to 32 its
-// stretches, and the position past the element that writes it.
+// A set of times: how many intervals are written in it, 33 for more than 32, and, up to 32, its stretches.
 #[derive(Clone, Copy)]
-pub struct Evaluated {
-    pub known: bool,
+pub struct Times {
     pub count: usize,
     pub set: Stretches,
+}
+
+// The set of times that an element writes, if all of it is known, and the position past the element.
+#[derive(Clone, Copy)]
+pub struct Evaluated {
+    pub times: Option<Times>,
     pub end: usize,
 }
 
@@ -51,88 +57,89 @@ pub fn shape_of(s: &[u8], tag: Tag) -> Shape
     requires { TagIn s.now tag }
     ensures { (d : ℕ) (v : Element) (after : List ℕ) → TagOf s.now d v after tag → WritesAs v.attrs result }
 {
-    let named = type_at(s, tag.places[XSI_TYPE], false);
-    let Named::Is(kind) = named else {
+    let Some(kind) = type_at(s, tag.places[XSI_TYPE], false) else {
         return Shape::Other;
     };
     shape_of_kind(kind)
-}
-
-// A set that is not known, with no interval counted: that of an element that is null, or of a type that writes neither an interval nor
-// members; and that of members before the first is read.
-fn nothing(end: usize) -> Evaluated
-    ensures { Formed result × (result.known ≡ false) × (result.count ≡ 0) × (result.end ≡ end) }
-{
-    let set = interval::empty();
-    Evaluated {
-        known: false,
-        count: 0,
-        set,
-        end,
-    }
 }
 
 // The set of the one interval that the element of a tag writes, where `depth` may be open at once.
 fn of_single(s: &[u8], tag: Tag, depth: usize, shift: u64) -> Evaluated
     requires fact_1 { TagIn s.now tag }
     requires fact_2 { shift ≤ 1680 }
-    ensures formed { Formed result }
+    ensures formed { IfSome result.times Formed }
     ensures within { (tag.end ≤ result.end) × (result.end ≤ length s.now) }
-    ensures tells { (v : Element) (after : List ℕ) → TagOf s.now depth v after tag → Says (expressed (interval_of shift v.attrs v.kids)) result × (after ≡ drop result.end s.now) }
+    ensures tells { (v : Element) (after : List ℕ) → TagOf s.now depth v after tag → Says (expressed (interval_of shift v.attrs v.kids)) result.times × (after ≡ drop result.end s.now) }
 {
     let w = interval_of(s, tag, depth, shift);
-    let v = w.interval;
-    let set = interval::single(v);
-    Evaluated {
-        known: w.known,
-        count: 1,
-        set,
-        end: w.end,
-    }
+    let times = match w.interval {
+        Some(v) => Some(Times {
+            count: 1,
+            set: interval::single(v),
+        }),
+        None => None,
+    };
+    Evaluated { times, end: w.end }
 }
 
 // Two sets put together. Where more than 32 intervals are written in them, no operation is done.
-fn join(op: Op, a: Evaluated, b: Evaluated) -> Evaluated
+fn both(op: Op, a: Times, b: Times) -> Times
     requires fact_1 { Formed a }
     requires fact_2 { Formed b }
-    ensures formed { Formed result × (result.end ≡ b.end) }
+    ensures formed { Formed result }
     ensures tells { (x y : Expression) → IsSet x a → IsSet y b → IsSet (combine (op_of op) x y) result }
 {
     let first = a.set;
     let count = a.count + b.count;
     if 32 < count {
-        return Evaluated {
-            known: true,
+        return Times {
             count: 33,
             set: first,
-            end: b.end,
         };
     }
     let second = b.set;
     let set = interval::combine(op, first, second);
+    Times { count, set }
+}
+
+// The set of the members so far, put together with that of the next member, past which it then ends; the next one's where it is the first.
+fn join(op: Op, so_far: Evaluated, member: Evaluated) -> Evaluated
+    requires fact_1 { IfSome so_far.times Formed }
+    requires fact_2 { IfSome member.times Formed }
+    ensures formed { IfSome result.times Formed × (result.end ≡ member.end) }
+    ensures tells { (x : Option Expression) (y : Outcome Expression) → SoFar x so_far.times → Says y member.times → Says (joined op x y) result.times }
+{
+    let Some(next) = member.times else {
+        return member;
+    };
+    let times = match so_far.times {
+        Some(before) => both(op, before, next),
+        None => next,
+    };
     Evaluated {
-        known: true,
-        count,
-        set,
-        end: b.end,
+        times: Some(times),
+        end: member.end,
     }
 }
 
 // The set that the element of a tag writes, where `depth` may be open at once: that of its one interval, or of its members, put together
-// from the first on. It calls itself for the members, with `depth` falling. The first member that is not known ends it. What is returned is
-// always `so_far`: a set is large, and each place that it is made at is one more to copy it from.
+// from the first on. It calls itself for the members, with `depth` falling. The first member that is not known ends it. It is not known where
+// the element is null, of a type that writes neither an interval nor members, or has no member. What is returned is always `so_far`: a set is
+// large, and each place that it is made at is one more to copy it from.
 pub fn evaluate(s: &[u8], tag: Tag, depth: usize, shift: u64) -> Evaluated
     requires { (TagIn s.now tag) × (shift ≤ 1680) }
-    ensures formed { Formed result }
+    ensures formed { IfSome result.times Formed }
     ensures within { (tag.end ≤ result.end) × (result.end ≤ length s.now) }
     ensures tells { SaysElement s.now tag depth shift result }
 {
-    let mut so_far = nothing(tag.end);
+    let mut so_far = Evaluated {
+        times: None,
+        end: tag.end,
+    };
     if tag::has(tag, NULL_FLAVOR) {
         return so_far;
     }
-    let shape = shape_of(s, tag);
-    let op = match shape {
+    let op = match shape_of(s, tag) {
         Shape::Single => {
             so_far = of_single(s, tag, depth, shift);
             return so_far;
@@ -141,20 +148,15 @@ pub fn evaluate(s: &[u8], tag: Tag, depth: usize, shift: u64) -> Evaluated
         Shape::Other => return so_far,
     };
     loop {
-        let next = next_inside(s, tag.full, tag.name, tag.past, depth, so_far.end);
-        match next {
+        match next_inside(s, tag.full, tag.name, tag.past, depth, so_far.end) {
             Inside::Child(i) => {
                 let child = tag::read(s, i);
                 let member = evaluate(s, child, depth - 1, shift);
-                if !member.known {
-                    so_far.known = false;
+                if member.times.is_none() {
+                    so_far.times = None;
                     return so_far;
                 }
-                if so_far.count == 0 {
-                    so_far = member;
-                } else {
-                    so_far = join(op, so_far, member);
-                }
+                so_far = join(op, so_far, member);
             }
             Inside::Past(end) => {
                 so_far.end = end;

@@ -1,4 +1,5 @@
 -- Attributes of which none occurs twice, and none has one of the names before them.
+use Rattle.std.specs.Prelude.{Option, Some, None}
 use Prim.Native.Nat.{ℕ, zero, suc, ◌+◌, ◌-◌, ◌≤◌}
 use mathlib.Core.Path.{◌≡◌, refl, sym}
 use mathlib.Core.Bool.{Bool, true, false, not, ◌&&◌, ◌||◌, and-true, and-false, and_assoc}
@@ -9,11 +10,9 @@ use Rattle.rules.specs.Basics.{is_some, same}
 use Rattle.rules.specs.Markup.{Attribute as RulesAttribute, some_space, lookup, is_distinct}
 use Rattle.rules.proofs.Tests.{clash, neither, same_true}
 use Rattle.text.specs.Reads.{Good, Reads, upto, none as not-read}
-use Rattle.text.specs.declared.Read.{Read}
-use Rattle.text.specs.declared.Read.TheVariants.{At, Bad}
-use Rattle.markup.specs.Attributes.{AttributeTo, ReadsDistinct}
+use Rattle.markup.specs.Attributes.{AttributeTo, Stops, ReadsDistinct}
 use Rattle.markup.specs.Marks.{is_among}
-use Rattle.markup.proofs.Attributes.{Stops, guarded, this, steps, bounds, others, guarded_on}
+use Rattle.markup.proofs.Attributes.{guarded, this, steps, bounds, others, guarded_on}
 
 -- what is known of every name among some
 abbrev pub Known : (List ℕ → Type 0) → List (List ℕ) → Type 0
@@ -57,10 +56,10 @@ abbrev pub passes : List (List ℕ) → List RulesAttribute → Bool
 passes k l = is_apart k l && is_distinct l
 
 -- the answer on such attributes from a position on, with any fuel that is enough
-abbrev pub ReadsApart : List (List ℕ) → List ℕ → (at : ℕ) → Read → Type 0
+abbrev pub ReadsApart : List (List ℕ) → List ℕ → (at : ℕ) → Option ℕ → Type 0
 ReadsApart k s at r = (f : ℕ) → length s ≤ at + f → Reads 0 (guarded (passes k) f) s at r
 
-pub apart_start : {s : List ℕ} {at : ℕ} (r : Read) → ReadsApart [] s at r → ReadsDistinct s at r
+pub apart_start : {s : List ℕ} {at : ℕ} (r : Option ℕ) → ReadsApart [] s at r → ReadsDistinct s at r
 unfolding is_apart
 apart_start r h = h
 
@@ -69,7 +68,7 @@ unfolding is_apart lookup
 apart_nothing [] = refl
 apart_nothing (n ∷ k) = apart_nothing k
 
-pub apart_end : {s : List ℕ} {i : ℕ} (k : List (List ℕ)) → i ≤ length s → Stops s i → ReadsApart k s i (At i)
+pub apart_end : {s : List ℕ} {i : ℕ} (k : List (List ℕ)) → i ≤ length s → Stops s i → ReadsApart k s i (Some i)
 unfolding is_distinct
 apart_end {s} {i} k l h f m = upto i (record { low = omega arith; high = l; value = []; reads = rw (h f, apart_nothing k) })
 
@@ -101,13 +100,13 @@ one_more a l k e = rw (missed a l k e, joined l a.name k) (sym (and_assoc (is_ap
 
 -- an attribute, and the others after it
 module _ {s : List ℕ} {i j n q e : ℕ} (g : Good 1 some_space s i j) (a : AttributeTo s j n q e) (k : List (List ℕ)) where
-  pub apart_more : is_among (take (n - j) (drop j s)) k ≡ false → (r : Read) → ReadsApart (k ++ (take (n - j) (drop j s) ∷ [])) s e r → ReadsApart k s i r
+  pub apart_more : is_among (take (n - j) (drop j s)) k ≡ false → (r : Option ℕ) → ReadsApart (k ++ (take (n - j) (drop j s) ∷ [])) s e r → ReadsApart k s i r
   apart_more d r h zero z = absurd (omega (arith, (bounds g a).0, (bounds g a).1))
   apart_more d r h (suc f) z =
       let (m, at, x, t) = others g a f z in
       guarded_on g a (passes k) (passes (k ++ (take (n - j) (drop j s) ∷ []))) f m x t (one_more (this g a) m k d) (h f (omega (arith, (bounds g a).0)))
 
-  pub apart_again : is_among (take (n - j) (drop j s)) k ≡ true → ReadsApart k s i Bad
+  pub apart_again : is_among (take (n - j) (drop j s)) k ≡ true → ReadsApart k s i None
   apart_again d zero z = absurd (omega (arith, (bounds g a).0, (bounds g a).1))
   apart_again d (suc f) z =
       let (m, at, x, t) = others g a f z in

@@ -10,9 +10,9 @@ use Rattle.rules.specs.Parsers.{Parsed}
 use Rattle.rules.specs.Markup.{Attribute as RulesAttribute, some_space, attribute, attributes}
 use Rattle.rules.proofs.Tests.{clash}
 use Rattle.text.specs.Reads.{Good}
-use Rattle.markup.specs.Attributes.{AttributeTo}
+use Rattle.markup.specs.Attributes.{AttributeTo, Stops}
 use Rattle.markup.specs.Marks.{is_among, NamesFrom, no_names, more_names}
-use Rattle.markup.proofs.Attributes.{Stops, steps}
+use Rattle.markup.proofs.Attributes.{steps}
 
 -- a position is known by what follows it
 same_place : (s : List ℕ) {i j : ℕ} → i ≤ length s → j ≤ length s → drop i s ≡ drop j s → i ≡ j

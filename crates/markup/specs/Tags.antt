@@ -1,14 +1,11 @@
 -- Tags at a position, in the words of the rules ("Markup").
-use Rattle.std.specs.Prelude.{ℕ, ◌≡◌, List, drop}
+use Rattle.std.specs.Prelude.{ℕ, ◌≡◌, true, false, List, drop, Option, Some, None}
 use Rattle.rules.specs.Basics.{bytes}
 use Rattle.rules.specs.Parsers.{bad, byte, literal}
 use Rattle.rules.specs.Markup.{space, name, tag_attributes, element}
 use Rattle.text.specs.Reads.{Good, Reads}
-use Rattle.text.specs.declared.Read.TheVariants.{Bad}
 use Rattle.markup.specs.declared.tag.Head.{Head}
-use Rattle.markup.specs.declared.tag.Head.TheVariants.{Named, Bad as Head-as-Bad}
 use Rattle.markup.specs.declared.tag.Tag.{Tag}
-use Rattle.markup.specs.declared.tag.Tag.TheVariants.{Empty, Open, Bad as Tag-as-Bad}
 
 -- the beginning of a tag at a position: its name stands at n, up to m
 pub record HeadTo (s : List ℕ) (at n m : ℕ) : Type 0 where
@@ -16,9 +13,9 @@ pub record HeadTo (s : List ℕ) (at n m : ℕ) : Type 0 where
   pub named : Good 1 name s n m
 
 -- the beginning of a tag, or none with which an element begins
-pub data HeadAt (s : List ℕ) (at : ℕ) : Head → Type 0 where
-  head : (n m : ℕ) → HeadTo s at n m → HeadAt s at (Named n m)
-  no_head : ((f d : ℕ) → element f d (drop at s) ≡ bad) → HeadAt s at Head-as-Bad
+pub data HeadAt (s : List ℕ) (at : ℕ) : Option Head → Type 0 where
+  head : (n m : ℕ) → HeadTo s at n m → HeadAt s at (Some (record { name = n; name_end = m }))
+  no_head : ((f d : ℕ) → element f d (drop at s) ≡ bad) → HeadAt s at None
 
 -- a tag at a position as far as its closing at e: its name stands at n, up to m
 pub record TagTo (s : List ℕ) (at n m e : ℕ) : Type 0 where
@@ -28,7 +25,7 @@ pub record TagTo (s : List ℕ) (at n m e : ℕ) : Type 0 where
   pub gap : Good 0 space s stop e
 
 -- the tag of an element without content, that of one with content, or none with which an element begins
-pub data TagAt (s : List ℕ) (at : ℕ) : Tag → Type 0 where
-  empty_tag : (n m i e : ℕ) → TagTo s at n m i → Good 2 (literal (bytes "/>")) s i e → TagAt s at (Empty n m e)
-  open_tag : (n m i e : ℕ) → TagTo s at n m i → Reads 2 (literal (bytes "/>")) s i Bad → Good 1 (byte 62) s i e → TagAt s at (Open n m e)
-  no_tag : ((f d : ℕ) → element f d (drop at s) ≡ bad) → TagAt s at Tag-as-Bad
+pub data TagAt (s : List ℕ) (at : ℕ) : Option Tag → Type 0 where
+  empty_tag : (n m i e : ℕ) → TagTo s at n m i → Good 2 (literal (bytes "/>")) s i e → TagAt s at (Some (record { name = n; name_end = m; end = e; full = false }))
+  open_tag : (n m i e : ℕ) → TagTo s at n m i → Reads 2 (literal (bytes "/>")) s i None → Good 1 (byte 62) s i e → TagAt s at (Some (record { name = n; name_end = m; end = e; full = true }))
+  no_tag : ((f d : ℕ) → element f d (drop at s) ≡ bad) → TagAt s at None

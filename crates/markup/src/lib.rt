@@ -12,8 +12,7 @@ pub mod tag;
 pub mod value;
 
 use scan::skip_space;
-use tag::{Tag, read_end_tag, read_tag};
-use text::Read;
+use tag::{read_end_tag, read_tag};
 
 // How many elements may be open at once.
 const DEPTH: usize = 8;
@@ -21,30 +20,19 @@ const DEPTH: usize = 8;
 // The end of the element at a position, where `depth` may be open at once. It calls the reader of content, which calls it: at each call
 // there are fewer bytes left, and so the two end; `depth` falls from an element to those inside it, and so the stack is bounded.
 #[cycle(read_content_read_element)]
-pub fn read_element(s: &[u8], at: usize, depth: usize) -> Read
+pub fn read_element(s: &[u8], at: usize, depth: usize) -> Option<usize>
     requires { at ≤ length s.now }
     ensures { ReadsElement s.now at depth result }
 {
     if depth == 0 {
-        return Read::Bad;
+        return None;
     }
-    let tag = read_tag(s, at);
-    match tag {
-        Tag::Empty {
-            name: _,
-            name_end: _,
-            end,
-        } => Read::At(end),
-        Tag::Open {
-            name,
-            name_end,
-            end,
-        } => {
-            let i = read_content(s, end, depth - 1);
-            read_end_tag(s, i, name, name_end)
-        }
-        Tag::Bad => Read::Bad,
+    let tag = read_tag(s, at)?;
+    if tag.full {
+        let i = read_content(s, tag.end, depth - 1);
+        return read_end_tag(s, i, tag.name, tag.name_end);
     }
+    Some(tag.end)
 }
 
 // The end of the elements side by side that stand from a position on, and of the white space around them. They are read by a loop: only
@@ -57,11 +45,10 @@ pub fn read_content(s: &[u8], at: usize, depth: usize) -> usize
     let mut i = at;
     loop {
         let j = skip_space(s, i);
-        let next = read_element(s, j, depth);
-        let Read::At(e) = next else {
+        let Some(end) = read_element(s, j, depth) else {
             return j;
         };
-        i = e;
+        i = end;
     }
 }
 
@@ -70,9 +57,8 @@ pub fn is_document(s: &[u8]) -> bool
     ensures { result ≡ is_some (document s.now) }
 {
     let i = skip_space(s, 0);
-    let top = read_element(s, i, DEPTH);
-    let Read::At(e) = top else {
+    let Some(end) = read_element(s, i, DEPTH) else {
         return false;
     };
-    skip_space(s, e) == s.len()
+    skip_space(s, end) == s.len()
 }

@@ -3,16 +3,7 @@ ghost use Rattle.std.specs.Prelude.{◌≡◌, List, ℕ, ◌≤◌, ◌<◌, le
 ghost use Rattle.markup.specs.Attributes.{ToldAt};
 ghost use Rattle.markup.specs.Marks.{slot_of, mixed, mix_of, mark_of, next_place, SpotFor, is_among, NamesFrom};
 
-use crate::scan::read_some_space;
-use crate::tag::{Parts, read_attribute};
-use text::Read;
-
-// A byte as a number.
-fn wide(c: u8) -> usize
-    ensures { (result ≡ c) × (result < 256) }
-{
-    c as usize
-}
+use crate::tag::next_attribute;
 
 // The slot of a name, one of 64, by its first byte, its last byte and its length. The names that the types have are in slots of their own.
 fn slot(name: &[u8]) -> usize
@@ -20,45 +11,26 @@ fn slot(name: &[u8]) -> usize
     ensures { (result ≡ slot_of name.now) × (result < 64) }
 {
     let last = name.len() - 1;
-    (wide(name[0]) + 3 * wide(name[last]) + 2 * (last % 64)) % 64
+    (usize::from(name[0]) + 3 * usize::from(name[last]) + 2 * (last % 64)) % 64
 }
 
-// What slots or marks tell of the attributes from a position on: the answer on them, or nothing.
-#[derive(Clone, Copy)]
-pub enum Told {
-    Sure(Read),
-    Unsure,
-}
-
-// The end of the attributes that stand from a position on, each name once, as far as slots tell: names in different slots are different,
-// so where each is the first in its slot none need be compared.
-pub fn read_by_slots(s: &[u8], at: usize) -> Told
+// The end of the attributes that stand from a position on, each name once, as far as slots tell, which may tell nothing: names in different
+// slots are different, so where each is the first in its slot none need be compared.
+pub fn read_by_slots(s: &[u8], at: usize) -> Option<Option<usize>>
     requires { at ≤ length s.now }
     ensures { ToldAt s.now at result }
 {
     let mut taken: [bool; 64] = [false; 64];
     let mut i = at;
-    loop {
-        let gap = read_some_space(s, i);
-        let Read::At(j) = gap else {
-            return Told::Sure(Read::At(i));
-        };
-        let parts = read_attribute(s, j);
-        let Parts::Attribute {
-            name_end,
-            value: _,
-            end,
-        } = parts
-        else {
-            return Told::Sure(Read::At(i));
-        };
-        let k = slot(&s[j..name_end]);
+    while let Some(a) = next_attribute(s, i) {
+        let k = slot(&s[a.name..a.name_end]);
         if taken[k] {
-            return Told::Unsure;
+            return None;
         }
         taken[k] = true;
-        i = end;
+        i = a.end;
     }
+    Some(Some(i))
 }
 
 // A number under 1,048,576 made of such a number and a byte.
@@ -66,7 +38,7 @@ fn mix_byte(h: usize, c: u8) -> usize
     requires { h < 1_048_576 }
     ensures { (result ≡ mixed h c) × (result < 1_048_576) }
 {
-    (h + wide(c)) * 40_503 % 1_048_576
+    (h + usize::from(c)) * 40_503 % 1_048_576
 }
 
 // A number under 1,048,576 made of all bytes of a name.
@@ -74,10 +46,8 @@ fn mix(name: &[u8]) -> usize
     ensures { (result ≡ mix_of 0 name.now) × (result < 1_048_576) }
 {
     let mut h = 0;
-    let mut i = 0;
-    while i < name.len() {
-        h = mix_byte(h, name[i]);
-        i += 1;
+    for c in name {
+        h = mix_byte(h, *c);
     }
     h
 }
@@ -113,8 +83,7 @@ fn find_spot(h: usize, table: &[u8; 3072]) -> Spot
 {
     let m = mark(h);
     let mut i = h * 3 / 1_024;
-    let mut tries: usize = 0;
-    while tries < 3_072 {
+    for _tries in 0..3_072_usize {
         if table[i] == 0 {
             return Spot::Free(i);
         }
@@ -122,7 +91,6 @@ fn find_spot(h: usize, table: &[u8; 3072]) -> Spot
             return Spot::Marked;
         }
         i = next_place(i);
-        tries += 1;
     }
     Spot::Full
 }
@@ -134,64 +102,41 @@ fn is_before(s: &[u8], at: usize, until: usize, name: &[u8]) -> bool
 {
     let mut i = at;
     while i < until {
-        let gap = read_some_space(s, i);
-        let Read::At(j) = gap else {
+        let Some(a) = next_attribute(s, i) else {
             return false;
         };
-        let parts = read_attribute(s, j);
-        let Parts::Attribute {
-            name_end,
-            value: _,
-            end,
-        } = parts
-        else {
-            return false;
-        };
-        if text::is_same(name, &s[j..name_end]) {
+        if text::is_same(name, &s[a.name..a.name_end]) {
             return true;
         }
-        i = end;
+        i = a.end;
     }
     false
 }
 
 // The end of the attributes that stand from a position on, each name once, as far as a table of marks has places, which are more than
-// there are names in 16,384 bytes. A name whose mark is there already is looked for among those before it.
-pub fn read_by_table(s: &[u8], at: usize) -> Told
+// there are names in 16,384 bytes; past that it tells nothing. A name whose mark is there already is looked for among those before it.
+pub fn read_by_table(s: &[u8], at: usize) -> Option<Option<usize>>
     requires { at ≤ length s.now }
     ensures { ToldAt s.now at result }
 {
     let mut table: [u8; 3072] = [0; 3072];
     let mut i = at;
-    loop {
-        let gap = read_some_space(s, i);
-        let Read::At(j) = gap else {
-            return Told::Sure(Read::At(i));
-        };
-        let parts = read_attribute(s, j);
-        let Parts::Attribute {
-            name_end,
-            value: _,
-            end,
-        } = parts
-        else {
-            return Told::Sure(Read::At(i));
-        };
-        let h = mix(&s[j..name_end]);
-        let spot = find_spot(h, &table);
-        match spot {
+    while let Some(a) = next_attribute(s, i) {
+        let h = mix(&s[a.name..a.name_end]);
+        match find_spot(h, &table) {
             Spot::Free(k) => {
                 table[k] = mark(h);
             }
             Spot::Marked => {
-                if is_before(s, at, i, &s[j..name_end]) {
-                    return Told::Sure(Read::Bad);
+                if is_before(s, at, i, &s[a.name..a.name_end]) {
+                    return Some(None);
                 }
             }
             Spot::Full => {
-                return Told::Unsure;
+                return None;
             }
         }
-        i = end;
+        i = a.end;
     }
+    Some(Some(i))
 }

@@ -17,7 +17,8 @@ use Rattle.rules.proofs.Tests.{clash}
 use Rattle.rules.proofs.Precedence.{check-refused}
 use Rattle.rules.proofs.ListingCases.{listing-unlisted, listing-faulty, listing-faulty_early}
 use Rattle.listing.specs.Answers.{listed_meant, Answers}
-use Rattle.listing.specs.declared.Listed.{Listed}
+use Rattle.std.specs.Prelude.{Result}
+use Rattle.refusal.specs.declared.Refusal.{Refusal as CodeRefusal}
 use Rattle.listing.proofs.Serving.{Serves, serves_list}
 use Rattle.rigcactus.specs.Faults.{typed_faults}
 use Rattle.rigcactus.proofs.Checking.{record_offset}
@@ -44,7 +45,7 @@ module _ (offset : ℤ) (input list : List ℕ) where
         go (refused r) f = serves (listing-faulty offset (room_of list) input r f (sym (split is_listed offset input fine by h ∙ rw ((check-refused offset input r).0 f))))
         go (answered e) a = typed e a (is_listed e) refl (type-fault is_listed offset input fine by e a h)
 
-    pub list-answered : {r : Listed} {after : List ℕ} → none ≡ first_of (typed_faults is_listed shift input)
+    pub list-answered : {r : Result ℕ CodeRefusal} {after : List ℕ} → none ≡ first_of (typed_faults is_listed shift input)
         → ((e : Element) → check offset input ≡ answered e → top_faults shift e ≡ [] → is_listed e ≡ true → Answers (list_element shift (room_of list) e) list r after)
         → Serves offset input list (packed (λ n. n) (listed_meant r)) after
     list-answered {r} {after} h tells =

@@ -20,7 +20,7 @@ use Rattle.rules.proofs.TotalReading.{reading_refusals}
 use Rattle.rules.proofs.Totals.{Proper, undamaged, posted, step_proper, ladder_counted}
 use Rattle.rules.proofs.Desks.{faultless, sound_part}
 use Rattle.totals.specs.Tables.{counts_meant, table_meant, Holds, report_of}
-use Rattle.totals.specs.Readings.{Sound, Usable, PostedAs}
+use Rattle.totals.specs.Readings.{reading_meant, Sound, Usable, PostedAs}
 use Rattle.totals.specs.declared.Table.{Table}
 use Rattle.totals.specs.declared.post.Posted.{Posted as CodePosted}
 use Rattle.totals.proofs.Meaning.{report-meant}
@@ -153,9 +153,9 @@ module _ (n : ℕ) (numbers : List ℕ) (d : is_desk n ≡ true) (f : is_faulty 
         pub posted_sound : Sound p.table
         posted_sound = record { few = q.few; undamaged = (undamaged (table_meant p.table)).1 (rw table_is (step_proper k mine proper (posted k mine))); bits = q.bits }
 
-        pub add_posted : Adds n offset input numbers p.answer (overwrite numbers (shared_numbers (with_part n (table_meant p.table) (shared_in numbers))))
-        add_posted = record {
-          answers = q.answer ∙ ap (packed entry_number) (answer-is ∙ sym asked);
+        pub add_posted : {m : ℕ} → m ≡ packed entry_number (reading_meant p.answer) → Adds n offset input numbers m (overwrite numbers (shared_numbers (with_part n (table_meant p.table) (shared_in numbers))))
+        add_posted e = record {
+          answers = e ∙ ap (packed entry_number) (q.answer ∙ answer-is ∙ sym asked);
           leaves =
               ap (λ y. overwrite numbers (shared_numbers (with_part n y (shared_in numbers)))) table_is
               ∙ sym (ap (λ b. cond b (numbers_after n (posting_of n offset input (shared_in numbers)) numbers) numbers) d

@@ -14,16 +14,16 @@ ghost use Rattle.demands.specs.Services.{services};
 ghost use Rattle.judge.specs.Checks.{CheckedAs};
 ghost use Rattle.rules.specs.Markup.{Element};
 ghost use Rattle.rules.specs.Totals.{reading};
+ghost use Rattle.rules.specs.TotalNumbers.{entry_number};
 ghost use Rattle.totals.specs.Readings.{Readable, reading_meant};
 ghost use Rattle.rigcactus.specs.Faults.{typed_faults, AllowedAs};
 
-use comparison::{Answer, Compared};
+use comparison::Answer;
 use judge::Checked;
-use listing::Listed;
 use refusal::Refusal;
 use timestamp::tick::Tick;
 use totals::damage::is_full;
-use totals::entry::Reading;
+use totals::entry::Money;
 use totals::part::{is_desk, is_faulty, lent, part};
 use totals::post::post;
 use totals::share::{clear, share};
@@ -94,13 +94,13 @@ fn typed_fault(checked: Checked, allowed: bool) -> Result<(), Refusal>
 }
 
 // The packed answer on a listing.
-fn listed_number(listed: Listed) -> u64
+fn listed_number(listed: Result<usize, Refusal>) -> u64
     requires { Few listed }
     ensures { result ≡ packed (λ n. n) (listed_meant listed) }
 {
     match listed {
-        Listed::Count(n) => (n as u64) * 256,
-        Listed::Refused(r) => refusal::number(r),
+        Ok(n) => (n as u64) * 256,
+        Err(r) => refusal::number(r),
     }
 }
 
@@ -166,13 +166,13 @@ fn second_refused(r: Refusal) -> u64
     refusal::number(r) + 512
 }
 
-// The packed answer on two records that were accepted.
-fn compared_number(compared: Compared) -> u64
+// The packed answer on two records that were accepted; the second is refused where they are not compared.
+fn compared_number(compared: Option<Answer>) -> u64
     ensures { result ≡ compared_number (compared_meant compared) }
 {
     match compared {
-        Compared::Is(answer) => answer_number(answer) * 65_536,
-        Compared::Other => second_refused(Refusal::Type),
+        Some(answer) => answer_number(answer) * 65_536,
+        None => second_refused(Refusal::Type),
     }
 }
 
@@ -227,20 +227,31 @@ pub fn rigcactus_tick(text: &[u8], offset: i64, tick: &mut i64) -> u64
     }
 }
 
-// What a record says of money: the reading of an MO, or the first refusal of the ladder, on which another type is TYPE.
-fn read_money(record: &[u8], offset: i64) -> Reading
+// What a record says of money: the amount of an MO, none if it is null, or the first refusal of the ladder, on which another type is TYPE.
+fn read_money(record: &[u8], offset: i64) -> Result<Option<Money>, Refusal>
     ensures { Readable result × (reading_meant result ≡ reading offset «record».now) }
 {
     if !is_offset(offset) {
-        return Reading::Refused(Refusal::Offset);
+        return Err(Refusal::Offset);
     }
     let checked = judge::check(record, shift_of(offset));
     let held = checked.record;
     let fault = typed_fault(checked, entry::is_money(held));
     if let Err(r) = fault {
-        return Reading::Refused(r);
+        return Err(r);
     }
-    entry::read(record, held)
+    Ok(entry::read(record, held))
+}
+
+// The packed answer on a record that is added, or null, or refused.
+fn posted_number(answer: Result<Option<Money>, Refusal>) -> u64
+    ensures { result ≡ packed entry_number (reading_meant answer) }
+{
+    match answer {
+        Ok(Some(_)) => 256,
+        Ok(None) => 512,
+        Err(r) => refusal::number(r),
+    }
 }
 
 // Opens a table of totals for two desks: all its numbers are 0. Always answers 0.
@@ -289,7 +300,7 @@ pub fn rigcactus_totals_add(table: &mut [u64; 103], desk: u64, record: &[u8], of
     }
     let posted = post(t, read_money(record, offset));
     share(table, desk, posted.table);
-    posted.answer
+    posted_number(posted.answer)
 }
 
 // Reports a desk's totals. Bits 0 to 7 of the answer are the refusal's number, 0 if there is such a desk and the table is not damaged; the other

@@ -1,5 +1,5 @@
 -- Whole characters one after another: what stands at a position decides whether the rest is UTF-8.
-use Prim.Native.Nat.{ℕ, suc, ◌+◌, ◌≤◌, ◌<◌}
+use Prim.Native.Nat.{ℕ, zero, suc, ◌+◌, ◌≤◌, ◌<◌}
 use mathlib.Core.Path.{◌≡◌, refl, sym, ◌∙◌, ap}
 use mathlib.Core.Bool.{Bool, true, false, ◌&&◌, cond, and-true, and_assoc, false≢true}
 use mathlib.Core.List.{List, [], ◌∷◌, ◌++◌}
@@ -153,10 +153,20 @@ every_last p [] a = and-true (p a)
 every_last p (b ∷ l) a = ap (λ (t : Bool). p b && t) (every_last p l a) ∙ sym (and_assoc (p b) (every p l) (p a))
 
 -- one byte more
+pub every_next : (p : ℕ → Bool) (l : List ℕ) (k : ℕ) → k < length l → every p (take k l) && p (get_or l k 0) ≡ every p (take (k + 1) l)
+every_next p l k h = sym (rw (add-one k, take-suc l k 0 h) (every_last p (take k l) (get_or l k 0)))
+
 pub every_more : (p : ℕ → Bool) (s : List ℕ) (at k : ℕ) → at + k < length s
     → every p (take k (drop at s)) && p (get_or s (at + k) 0) ≡ every p (take (k + 1) (drop at s))
-every_more p s at k h = sym (rw (add-one k, take-suc (drop at s) k 0 (rw length-drop (omega arith)), get_or-drop at s k 0)
-    (every_last p (take k (drop at s)) (get_or s (at + k) 0)))
+every_more p s at k h = rw (← get_or-drop at s k 0) (every_next p (drop at s) k (rw length-drop (omega arith)))
+
+-- all bytes
+pub every_whole : (p : ℕ → Bool) (l : List ℕ) (k : ℕ) → length l ≤ k → every p (take k l) ≡ every p l
+unfolding every
+every_whole p [] zero h = refl
+every_whole p [] (suc k) h = refl
+every_whole p (c ∷ l) zero h = absurd (omega arith)
+every_whole p (c ∷ l) (suc k) h = ap (λ (t : Bool). p c && t) (every_whole p l k (omega arith))
 
 pub skips_none : (s : List ℕ) (i : ℕ) → i ≤ length s → Skips s i i
 skips_none s i h = record { low = omega arith; high = h; whole = refl }

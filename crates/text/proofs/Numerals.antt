@@ -18,7 +18,7 @@ use Rattle.rules.proofs.Tests.{clash, is_from-true, every_true}
 use Rattle.rules.proofs.Parsers.{else-ok}
 use Rattle.rules.proofs.Digits.{decimal_from-append, decimal-below}
 use Rattle.text.specs.Numbers.{Counted, NumberAt, FractionAt}
-use Rattle.text.specs.declared.digits.Number.TheVariants.{Is}
+use Rattle.std.specs.Prelude.{Some}
 
 -- no byte that passes the test stands at the end, nor at a byte that does not
 pub none-at-end : (p : ℕ → Bool) (s : List ℕ) (i : ℕ) → length s ≤ i → one p (drop i s) ≡ bad
@@ -146,7 +146,7 @@ module _ (s : List ℕ) (at n k : ℕ) (room : at + n ≤ length s) (few : k ≤
   other_byte h f =
       counted-bad s at n k (record { few = few; high = omega arith; digits = e; stop = λ l. none-at is_digit s (at + k) (omega arith) f }) h
 
-  pub all-passed : n ≤ k → NumberAt s at n (Is (decimal (take k (drop at s))))
+  pub all-passed : n ≤ k → NumberAt s at n (Some (decimal (take k (drop at s))))
   all-passed h =
       let z : k ≡ n = omega arith in
       let c : Counted s at n k = record { few = few; high = omega arith; digits = e; stop = λ l. absurd (omega arith) } in (

@@ -6,10 +6,25 @@ use mathlib.Core.List.{List, [], ◌∷◌, ◌++◌}
 use native.Mathlib.Omega.{arith}
 use borrow.Author.Tests.{eqb-true, eq-eqb, ne_eqb}
 use lib.Dec.{eqb}
-use lib.ListN.{length, drop, get_or, drop_of_length-le}
+use lib.ListN.{length, take, drop, get_or, drop_of_length-le}
+use lib.Pointwise.{pointwise}
 use Rattle.rules.specs.Basics.{same, begins}
 use Rattle.rules.proofs.Tests.{clash, both_true}
 use Rattle.text.proofs.Reading.{here}
+
+-- the library's comparison of two lists, element by element
+pub pointwise_same : (a b : List ℕ) → pointwise eqb a b ≡ same a b
+unfolding same
+pointwise_same [] [] = refl
+pointwise_same [] (d ∷ b) = refl
+pointwise_same (c ∷ a) [] = refl
+pointwise_same (c ∷ a) (d ∷ b) = ap (λ z. eqb c d && z) (pointwise_same a b)
+
+pub starts_begins : (a b : List ℕ) → pointwise eqb a (take (length a) b) ≡ begins a b
+unfolding begins
+starts_begins [] b = refl
+starts_begins (c ∷ a) [] = refl
+starts_begins (c ∷ a) (d ∷ b) = ap (λ z. eqb c d && z) (starts_begins a b)
 
 pub same_lengths : (a b : List ℕ) → (length a ≡ length b → ⊥) → false ≡ same a b
 unfolding same

@@ -1,11 +1,9 @@
 -- Digits at a position of a text, in the words of the rules.
-use Rattle.std.specs.Prelude.{ℕ, ◌+◌, ◌^◌, ◌≤◌, ◌<◌, ◌≡◌, true, List, [], length, take, drop}
+use Rattle.std.specs.Prelude.{ℕ, ◌+◌, ◌^◌, ◌≤◌, ◌<◌, ◌≡◌, true, List, [], length, take, drop, Option, Some, None}
 use Rattle.rules.specs.Basics.{every, is_digit}
 use Rattle.rules.specs.Parsers.{Parser, bad, ok, pure, ◌or◌, one}
 use Rattle.rules.specs.Timestamp.{digits, point, ten_thousandths}
 use Rattle.text.specs.declared.digits.Fraction.{Fraction}
-use Rattle.text.specs.declared.digits.Number.{Number}
-use Rattle.text.specs.declared.digits.Number.TheVariants.{Is, Nothing}
 
 -- n digits stand at a position, and, if n is less than `most`, no further one
 pub record Counted (s : List ℕ) (at most n : ℕ) : Type 0 where
@@ -15,9 +13,9 @@ pub record Counted (s : List ℕ) (at most n : ℕ) : Type 0 where
   pub stop : n < most → one is_digit (drop (at + n) s) ≡ bad
 
 -- what reading the number of n digits at a position finds
-abbrev pub NumberAt : List ℕ → (at n : ℕ) → Number → Type 0
-NumberAt s at n (Is v) = (at + n ≤ length s) × (v < 10 ^ n) × (digits n (drop at s) ≡ ok v (drop (at + n) s))
-NumberAt s at n Nothing = digits n (drop at s) ≡ bad
+abbrev pub NumberAt : List ℕ → (at n : ℕ) → Option ℕ → Type 0
+NumberAt s at n (Some v) = (at + n ≤ length s) × (v < 10 ^ n) × (digits n (drop at s) ≡ ok v (drop (at + n) s))
+NumberAt s at n None = digits n (drop at s) ≡ bad
 
 -- what a parser of the digits after a point reads at a position
 pub record FractionBy (P : Parser (List ℕ)) (s : List ℕ) (at : ℕ) (f : Fraction) : Type 0 where

@@ -7,7 +7,7 @@ ghost use Rattle.text.specs.Numbers.{Counted, NumberAt, FractionAt};
 pub fn is_digit(b: u8) -> bool
     ensures { result ≡ is_digit b }
 {
-    (48 <= b) & (b <= 57)
+    b.is_ascii_digit()
 }
 
 // How many digits stand at a position, as far as `most`.
@@ -15,17 +15,15 @@ pub fn count(s: &[u8], at: usize, most: usize) -> usize
     requires { at ≤ length s.now }
     ensures { Counted s.now at most result }
 {
-    let mut n = 0;
-    while n < most {
+    for n in 0..most {
         if s.len() - at <= n {
             return n;
         }
         if !is_digit(s[at + n]) {
             return n;
         }
-        n += 1;
     }
-    n
+    most
 }
 
 // The number that the n digits at a position write.
@@ -36,41 +34,30 @@ pub fn value(s: &[u8], at: usize, n: usize) -> u64
     ensures { result ≡ decimal (take n (drop at s.now)) }
 {
     let mut total: u64 = 0;
-    let mut k = 0;
-    while k < n {
+    for k in 0..n {
         total = total * 10 + (s[at + k] - 48) as u64;
-        k += 1;
     }
     total
 }
 
-// A number of a given count of digits, or that there are not as many.
-#[derive(Clone, Copy)]
-pub enum Number {
-    Is(u64),
-    Nothing,
-}
-
-// The number that exactly n digits at a position write; what follows them is not looked at.
-pub fn read(s: &[u8], at: usize, n: usize) -> Number
+// The number that exactly n digits at a position write, if there are as many; what follows them is not looked at.
+pub fn read(s: &[u8], at: usize, n: usize) -> Option<u64>
     requires fact_1 { n ≤ 18 }
     requires fact_2 { at ≤ length s.now }
     ensures { NumberAt s.now at n result }
 {
     if s.len() - at < n {
-        return Number::Nothing;
+        return None;
     }
     let mut total: u64 = 0;
-    let mut k = 0;
-    while k < n {
+    for k in 0..n {
         let b = s[at + k];
         if !is_digit(b) {
-            return Number::Nothing;
+            return None;
         }
         total = total * 10 + (b as u64) - 48;
-        k += 1;
     }
-    Number::Is(total)
+    Some(total)
 }
 
 // The digits after a point: their number in ten-thousandths, and their count, 0 if there is no point with digits; `end` is past them.

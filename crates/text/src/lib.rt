@@ -9,13 +9,6 @@ ghost use Rattle.text.specs.Characters.{followers, class_followers, fill, char_l
 pub mod digits;
 pub mod words;
 
-// What a reader finds at a position: where what it reads ends, or that nothing of the kind stands there.
-#[derive(Clone, Copy)]
-pub enum Read {
-    At(usize),
-    Bad,
-}
-
 // What a lead byte says of the bytes that follow it: none, one, two or three of them; the range of the second byte of a
 // character of three or four, from low to high; or that the byte leads nothing.
 #[derive(Clone, Copy)]
@@ -120,10 +113,8 @@ fn is_ascii_block(s: &[u8], at: usize, size: usize) -> bool
     ensures { result ≡ every is_ascii (take size (drop at s.now)) }
 {
     let mut all = true;
-    let mut k = 0;
-    while k < size {
-        all = all & (s[at + k] < 128);
-        k += 1;
+    for b in &s[at..at + size] {
+        all = all & (*b < 128);
     }
     all
 }
@@ -179,34 +170,14 @@ pub fn is_utf8(s: &[u8]) -> bool
 pub fn is_same(a: &[u8], b: &[u8]) -> bool
     ensures { result ≡ same a.now b.now }
 {
-    if a.len() != b.len() {
-        return false;
-    }
-    let mut i = 0;
-    while i < a.len() {
-        if a[i] != b[i] {
-            return false;
-        }
-        i += 1;
-    }
-    true
+    a == b
 }
 
 // Whether a text begins with another.
 pub fn begins_with(t: &[u8], prefix: &[u8]) -> bool
     ensures { result ≡ begins prefix.now t.now }
 {
-    if t.len() < prefix.len() {
-        return false;
-    }
-    let mut i = 0;
-    while i < prefix.len() {
-        if prefix[i] != t[i] {
-            return false;
-        }
-        i += 1;
-    }
-    true
+    t.starts_with(prefix)
 }
 
 // The length of the longest beginning of a text that is whole characters and fits a room.
@@ -217,12 +188,10 @@ pub fn cut_length(s: &[u8], room: usize) -> usize
     if s.len() <= room {
         return s.len();
     }
-    let mut n = room;
-    while 0 < n {
+    for n in (1..=room).rev() {
         if !is_tail(s[n]) {
             return n;
         }
-        n -= 1;
     }
     0
 }

@@ -22,32 +22,25 @@ pub fn four(s: &[u8], at: usize) -> u64
     two(s, at) + 0x1_0000 * two(s, at + 2)
 }
 
-// The numbers that four pairs of digits write, or that there is a byte that is no digit.
-#[derive(Clone, Copy)]
-pub enum Pairs {
-    Are(u64, u64, u64, u64),
-    Not,
-}
-
-// Reads a word of eight bytes. A byte is a digit exactly if exclusive or with 0x30 leaves 9 at most: then its upper four bits are zero, and
+// The numbers that the four pairs of digits in a word of eight bytes write, unless a byte is no digit. A byte is a digit exactly if exclusive or with 0x30 leaves 9 at most: then its upper four bits are zero, and
 // zero still when 6 is added. Ten times a byte and the next make a number below 100, so no sum leaves its byte; every second one is a pair.
-pub fn read_pairs(word: u64) -> Pairs
+pub fn read_pairs(word: u64) -> Option<(u64, u64, u64, u64)>
     ensures { (l : List ℕ) → AreEight l → word ≡ unsigned l → PairsOf l result }
 {
     let digits = word ^ 0x3030_3030_3030_3030;
     if digits & 0xF0F0_F0F0_F0F0_F0F0 != 0 {
-        return Pairs::Not;
+        return None;
     }
     if (digits + 0x0606_0606_0606_0606) & 0xF0F0_F0F0_F0F0_F0F0 != 0 {
-        return Pairs::Not;
+        return None;
     }
     let pairs = 10 * digits + digits / 0x100;
-    Pairs::Are(
+    Some((
         pairs % 0x100,
         pairs / 0x1_0000 % 0x100,
         pairs / 0x1_0000_0000 % 0x100,
         pairs / 0x1_0000_0000_0000 % 0x100,
-    )
+    ))
 }
 
 // Whether a text stands at a position, by four bytes at a time.

@@ -17,8 +17,6 @@ use Rattle.rules.proofs.Tests.{clash, every_true, every_append}
 use Rattle.rules.proofs.Digits.{decimal-append, decimal-below}
 use Rattle.text.specs.Numbers.{NumberAt, FractionBy}
 use Rattle.text.specs.Words.{AreEight, PairsOf}
-use Rattle.text.specs.declared.digits.Number.TheVariants.{Is}
-use Rattle.text.specs.declared.words.Pairs.TheVariants.{Are}
 use Rattle.text.proofs.Numerals.{all-passed}
 use Rattle.text.proofs.Lanes.{word_split, word_append}
 use Rattle.timestamp.specs.Written.{PartsAt, ZoneBy, fraction_after, zone_after, FormOf}
@@ -143,7 +141,7 @@ module _ (s : List ℕ) (size : length s ≡ 14) where
     digits-all : every is_digit s ≡ true
     digits-all = rw (take-append-drop 8 s) at (every_append is_digit (take 8 s) (drop 8 s) date (every-parts is_digit (drop 8 s) (48 ∷ 48 ∷ []) clock).0)
 
-    number : (at n : ℕ) → at + n ≤ 14 → NumberAt s at n (Is (decimal (take n (drop at s))))
+    number : (at n : ℕ) → at + n ≤ 14 → NumberAt s at n (Some (decimal (take n (drop at s))))
     number at n h = all-passed s at n n (omega (arith, size)) (omega arith) (every-within is_digit n at s digits-all) (omega arith)
 
     year-is : decimal (take 4 s) ≡ 100 * decimal (take 2 s) + decimal (take 2 (drop 2 s))
@@ -188,7 +186,7 @@ module _ (s : List ℕ) (size : length s ≡ 14) where
 
 -- as the two words give the numbers
 pub fourteen_read : (s : List ℕ) → length s ≡ 14 → (century rest month day hour minute second none : ℕ)
-    → PairsOf (take 8 s) (Are century rest month day) → PairsOf (padded s) (Are hour minute second none)
+    → PairsOf (take 8 s) (Some (century, rest, month, day)) → PairsOf (padded s) (Some (hour, minute, second, none))
     → FormOf s (Some (of_numbers (100 * century + rest) month day hour minute second))
 fourteen_read s size century rest month day hour minute second none d c =
     let year : decimal (take 4 s) ≡ 100 * century + rest

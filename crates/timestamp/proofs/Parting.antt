@@ -1,4 +1,5 @@
 -- The parts after the year, one after another.
+use Rattle.std.specs.Prelude.{Some}
 use Prim.Native.Nat.{ℕ, zero, suc, ◌+◌, ◌-◌, ◌≤◌, ◌<◌}
 use mathlib.Core.Path.{◌≡◌, refl, ap, subst, sym}
 use mathlib.Core.Bool.{cond}
@@ -9,7 +10,6 @@ use lib.ListN.{length, get_or, drop, length-append}
 use Rattle.rules.specs.Parsers.{ok, bad}
 use Rattle.rules.specs.Timestamp.{digits, two_digits}
 use Rattle.text.specs.Numbers.{NumberAt}
-use Rattle.text.specs.declared.digits.Number.TheVariants.{Is}
 use Rattle.timestamp.specs.Written.{parts_of, PartsAt}
 use Rattle.timestamp.specs.declared.form.Parts.{Parts}
 use Rattle.timestamp.proofs.Reading.{two_more, two-stop, two_last}
@@ -52,7 +52,7 @@ module _ (s : List ℕ) (p : Parts) (h : PartsTo s p) where
       let size : length (h.list ++ (n ∷ [])) ≡ length h.list + 1 = length-append h.list (n ∷ []) in
       omega (arith, ap (λ (q : Parts). q.count) e, size, counted)
 
-  pub parts_more : (n : ℕ) (r : Parts) → p.count < 5 → NumberAt s p.end 2 (Is n) → r ≡ parts_of (h.list ++ (n ∷ [])) (p.end + 2) → PartsTo s r
+  pub parts_more : (n : ℕ) (r : Parts) → p.count < 5 → NumberAt s p.end 2 (Some n) → r ≡ parts_of (h.list ++ (n ∷ [])) (p.end + 2) → PartsTo s r
   parts_more n r l d e = subst (PartsTo s) (sym e) (record { list = h.list ++ (n ∷ []); parts = refl; few = omega (arith, size, counted); high = d.0; goes = goes })
     where
       size : length (h.list ++ (n ∷ [])) ≡ length h.list + 1

@@ -16,24 +16,9 @@ use Rattle.text.proofs.Numerals.{none-at, byte_at, no_byte}
 use Rattle.rules.specs.Timestamp.{Zone, no_zone, plus, minus, digits, two_digits, point, hours, zone, timestamp}
 use Rattle.text.specs.Numbers.{NumberAt, FractionBy, FractionAt}
 use Rattle.text.specs.declared.digits.Fraction.{Fraction}
-use Rattle.text.specs.declared.digits.Number.{Number}
-use Rattle.text.specs.declared.digits.Number.TheVariants.{Is, Nothing}
 use Rattle.timestamp.specs.Written.{sign_of, HoursAt, ZoneBy, ZoneAt, fraction_after, zone_after}
 use Rattle.timestamp.specs.declared.form.Zoned.{Zoned}
 use Rattle.timestamp.specs.declared.form.Hours.{Hours}
-
--- what a number that was read says
-pub found : (s : List ℕ) (at n : ℕ) (r : Number) (v : ℕ) → NumberAt s at n r → r ≡ Is v → NumberAt s at n (Is v)
-found s at n r v h e = subst (NumberAt s at n) e h
-
-pub missing : (s : List ℕ) (at n : ℕ) (r : Number) → NumberAt s at n r → r ≡ Nothing → digits n (drop at s) ≡ bad
-missing s at n r h e = subst (NumberAt s at n) e h
-
-pub found_hours : (s : List ℕ) (at : ℕ) (r : Option Hours) (h : Hours) → HoursAt s at r → r ≡ Some h → HoursAt s at (Some h)
-found_hours s at r h k q = subst (HoursAt s at) q k
-
-pub missing_hours : (s : List ℕ) (at : ℕ) (r : Option Hours) → HoursAt s at r → r ≡ None → (sign : ℕ → ℕ → Zone) → hours sign (drop at s) ≡ bad
-missing_hours s at r k q = subst (HoursAt s at) q k
 
 -- two digits more, or none
 pub two_more : (k : ℕ) (s t : List ℕ) {u : List ℕ} {v : ℕ} {l : List ℕ} → digits 2 s ≡ ok v t → two_digits k t ≡ ok l u → two_digits (suc k) s ≡ ok (v ∷ l) u

@@ -1,4 +1,5 @@
 -- What was read of a timestamp, part after part, and the whole text.
+use Rattle.std.specs.Prelude.{Some}
 use Prim.Native.Nat.{ℕ}
 use mathlib.Core.Path.{◌≡◌, refl, ap, subst}
 use mathlib.Core.List.{List}
@@ -10,13 +11,12 @@ use Rattle.rules.specs.Parsers.{ok, whole}
 use Rattle.rules.specs.Timestamp.{timestamp, Written as RulesWritten}
 use Rattle.text.specs.Numbers.{NumberAt, FractionBy}
 use Rattle.text.specs.declared.digits.Fraction.{Fraction}
-use Rattle.text.specs.declared.digits.Number.TheVariants.{Is}
 use Rattle.timestamp.specs.Written.{PartsAt, ZoneBy, fraction_after, zone_after, zone_of, Writes}
 use Rattle.timestamp.specs.declared.form.Parts.{Parts}
 use Rattle.timestamp.specs.declared.form.Zoned.{Zoned}
 use Rattle.timestamp.proofs.Reading.{form-whole, form_more}
 
-module _ (s : List ℕ) (year : ℕ) (y : NumberAt s 0 4 (Is year)) (p : Parts) (ps : PartsAt s p)
+module _ (s : List ℕ) (year : ℕ) (y : NumberAt s 0 4 (Some year)) (p : Parts) (ps : PartsAt s p)
     (f : Fraction) (fs : FractionBy (fraction_after p.count) s p.end f) (z : Zoned) (zs : ZoneBy (zone_after p.count) s f.end z) where
   counted : p.count ≡ length ps.list
   counted = ap (λ (q : Parts). q.count) ps.parts

@@ -4,7 +4,7 @@ ghost use Rattle.timestamp.specs.Written.{parts_of, PartsAt, HoursAt, ZoneAt, Zo
 ghost use Rattle.text.specs.Numbers.{FractionBy};
 
 use text::digits;
-use text::digits::{Fraction, Number};
+use text::digits::Fraction;
 
 // The numbers of MM, DD, hh, mm and ss as far as they go, missing ones at their first value; `end` is past them.
 #[derive(Clone, Copy)]
@@ -96,7 +96,7 @@ fn read_parts(s: &[u8]) -> Parts
         end: 4,
     };
     for part in 0..MOST {
-        let Number::Is(n) = digits::read(s, p.end, 2) else {
+        let Some(n) = digits::read(s, p.end, 2) else {
             return p;
         };
         p = with_next(p, n);
@@ -109,10 +109,8 @@ fn read_hours(s: &[u8], at: usize) -> Option<Hours>
     requires { at ≤ length s.now }
     ensures { HoursAt s.now at result }
 {
-    let Number::Is(hours) = digits::read(s, at, 2) else {
-        return None;
-    };
-    let Number::Is(minutes) = digits::read(s, at + 2, 2) else {
+    let hours = digits::read(s, at, 2)?;
+    let Some(minutes) = digits::read(s, at + 2, 2) else {
         return Some(Hours {
             hours,
             minutes: 0,
@@ -142,23 +140,16 @@ fn read_zone(s: &[u8], at: usize) -> Zoned
     if (sign != b'+') & (sign != b'-') {
         return none;
     }
-    let Some(
-        Hours {
-            hours,
-            minutes,
-            end,
-        },
-    ) = read_hours(s, at + 1)
-    else {
+    let Some(written) = read_hours(s, at + 1) else {
         return none;
     };
     Zoned {
         zone: Some(Offset {
             is_behind: sign == b'-',
-            hours,
-            minutes,
+            hours: written.hours,
+            minutes: written.minutes,
         }),
-        end,
+        end: written.end,
     }
 }
 
@@ -195,9 +186,7 @@ fn read_zone_after(s: &[u8], count: usize, at: usize) -> Zoned
 pub fn read_form(s: &[u8]) -> Option<Written>
     ensures { FormOf s.now result }
 {
-    let Number::Is(year) = digits::read(s, 0, 4) else {
-        return None;
-    };
+    let year = digits::read(s, 0, 4)?;
     let parts = read_parts(s);
     let fraction = read_fraction_after(s, parts.count, parts.end);
     let zoned = read_zone_after(s, parts.count, fraction.end);

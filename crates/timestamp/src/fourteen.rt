@@ -4,7 +4,6 @@ ghost use Rattle.timestamp.specs.Written.{FourteenOf};
 use crate::form::{Parts, Written};
 use text::digits::Fraction;
 use text::words;
-use text::words::Pairs;
 
 // Reads a text that is fourteen digits. Two digits 0 after the clock fill its word up to eight bytes.
 pub fn read(s: &[u8]) -> Option<Written>
@@ -14,13 +13,9 @@ pub fn read(s: &[u8]) -> Option<Written>
         return None;
     }
     let date = words::four(s, 0) + 0x1_0000_0000 * words::four(s, 4);
-    let Pairs::Are(century, rest, month, day) = words::read_pairs(date) else {
-        return None;
-    };
+    let (century, rest, month, day) = words::read_pairs(date)?;
     let clock = words::four(s, 8) + 0x1_0000_0000 * (words::two(s, 12) + 0x3030_0000);
-    let Pairs::Are(hour, minute, second, _) = words::read_pairs(clock) else {
-        return None;
-    };
+    let (hour, minute, second, _) = words::read_pairs(clock)?;
     Some(Written {
         year: 100 * century + rest,
         parts: Parts {

@@ -5,28 +5,30 @@ use borrow.Author.Tests.{not-false}
 use lib.ListN.{length-map}
 use lib.Seq.{take-set-lt}
 use Rattle.rules.specs.Basics.{if_some, exists, every, find}
-use Rattle.rules.specs.Refusal.{Refusal, NO_ROW, TOTAL, number, rank_in, first_of, Outcome, answered, refused, ◌unless◌, ◌when◌, ◌and_then◌}
+use Rattle.rules.specs.Refusal.{NO_ROW, TOTAL, rank_in, first_of, Outcome, answered, refused, ◌unless◌, ◌when◌, ◌and_then◌}
 use Rattle.rules.specs.Forms.{is_currency}
-use Rattle.rules.specs.Services.{packed}
+use Rattle.std.specs.Prelude.{Some, None, Ok, Err}
 use Rattle.rules.specs.Totals.{Row as RulesRow, table, counting, totalling, is_in_range, is_of, is_held, Entry, null, money, new_total, fitting, entered, is_uncounted, recorded}
-use Rattle.rules.specs.TotalNumbers.{is64, currency_in, total_in, entry_number}
+use Rattle.rules.specs.TotalNumbers.{is64, currency_in, total_in}
 use Rattle.rules.proofs.Tests.{clash, neither, both_true}
 use Rattle.rules.proofs.TotalRows.{entered-new}
 use Rattle.rules.proofs.Totals.{undamaged}
+use Rattle.refusal.specs.Meaning.{refusal_of}
+use Rattle.refusal.specs.declared.Refusal.{Refusal}
 use Rattle.totals.specs.declared.Row.{Row}
 use Rattle.totals.specs.declared.Table.{Table}
 use Rattle.totals.specs.declared.post.Posted.{Posted}
 use Rattle.totals.specs.Tables.{blank, held_rows, row_meant, table_meant, are_totals, place_of}
-use Rattle.totals.specs.Readings.{Small, Usable, with_refused, with_row, PostedAs}
+use Rattle.totals.specs.Readings.{reading_meant, Small, Usable, with_refused, with_row, PostedAs}
 use Rattle.totals.proofs.Arithmetic.{sum-numbers}
 use Rattle.totals.proofs.Places.{same_number, held_place}
 use Rattle.totals.proofs.Taking.{map_more, totals_more}
 
 -- a record that is refused, or null
-pub refused_as : (t : Table) → Usable t → {o : Outcome Entry} {r : Refusal} {p : Posted} → is_uncounted r ≡ false → (o and_then fitting (table_meant t).rows) ≡ refused r
-    → p.table ≡ with_refused t → p.answer ≡ number r → PostedAs t o p
+pub refused_as : (t : Table) → Usable t → {o : Outcome Entry} {r : Refusal} {p : Posted} → is_uncounted (refusal_of r) ≡ false → (o and_then fitting (table_meant t).rows) ≡ refused (refusal_of r)
+    → p.table ≡ with_refused t → p.answer ≡ Err r → PostedAs t o p
 refused_as t u {r = r} n e f g = record {
-  answer = g ∙ sym (ap (packed entry_number) e);
+  answer = ap reading_meant g ∙ sym e;
   table = ap table_meant f ∙ rw (e, n, add-one) refl;
   few = rw f u.few;
   bits = rw f u.bits;
@@ -197,13 +199,13 @@ module _ (t : Table) (u : Usable t) (long : length t.rows ≡ 16) (c a : ℕ) (c
           bits = ap are_totals s ∙ totals_more (held_rows t) row u.bits l;
         }
 
-    pub added_as : is_in_range (total_in n) ≡ true → {p : Posted} → p.table ≡ with_row t place row → p.answer ≡ 256 → PostedAs t (answered entry) p
+    pub added_as : is_in_range (total_in n) ≡ true → {p : Posted} → p.table ≡ with_row t place row → p.answer ≡ Ok (Some (record { currency = c; amount = a })) → PostedAs t (answered entry) p
     added_as g q r =
         let h = fitted e (rw (← f) g) in
         let x = is-entered (ltb place t.held) refl in
         let k : t.added + 1 ≡ suc t.added = omega arith in
         record {
-          answer = r ∙ sym (ap (packed entry_number) h);
+          answer = ap reading_meant r ∙ sym h;
           table = ap table_meant q ∙ ap₂ table x.rows_are (ap (λ m. counting m t.null t.refused) k) ∙ sym (ap (λ o. recorded o (table_meant t)) h);
           few = rw q x.few;
           bits = rw q x.bits;
@@ -211,6 +213,6 @@ module _ (t : Table) (u : Usable t) (long : length t.rows ≡ 16) (c a : ℕ) (c
 
 -- a null
 pub null_as : (t : Table) → Usable t → {p : Posted} → p.table ≡ record { rows = t.rows; held = t.held; added = t.added; null = t.null + 1; refused = t.refused }
-    → p.answer ≡ 512 → PostedAs t (answered null) p
+    → p.answer ≡ Ok None → PostedAs t (answered null) p
 unfolding fitting
-null_as t u e f = record { answer = f; table = ap table_meant e ∙ rw add-one refl; few = rw e u.few; bits = rw e u.bits }
+null_as t u e f = record { answer = ap reading_meant f; table = ap table_meant e ∙ rw add-one refl; few = rw e u.few; bits = rw e u.bits }

@@ -1,32 +1,38 @@
 -- What a record says of money and what posting it comes to, as code holds them, in the words of the rules (request A6).
-use Rattle.std.specs.Prelude.{◌≡◌, ℕ, ◌+◌, ◌-◌, ◌^◌, ◌<◌, ◌≤◌, true, false, cond, ◌⊎◌, nat_lt, slice_set}
+use Rattle.std.specs.Prelude.{◌≡◌, ℕ, ◌+◌, ◌-◌, ◌^◌, ◌<◌, ◌≤◌, true, false, cond, ◌⊎◌, nat_lt, slice_set, Option, Some, None, Result, Ok, Err}
 use Rattle.rules.specs.Refusal.{Outcome, answered, refused, ◌and_then◌}
 use Rattle.rules.specs.Forms.{is_currency}
-use Rattle.rules.specs.Services.{packed}
 use Rattle.rules.specs.Totals.{Entry, null, money, counted, is_damaged, fitting, is_uncounted, recorded}
-use Rattle.rules.specs.TotalNumbers.{currency_in, total_in, entry_number}
+use Rattle.rules.specs.TotalNumbers.{currency_in, total_in}
+use Rattle.refusal.specs.declared.Refusal.{Refusal}
 use Rattle.refusal.specs.Meaning.{refusal_of}
 use Rattle.totals.specs.Tables.{held_rows, counts_meant, table_meant, are_totals}
 use Rattle.totals.specs.declared.Row.{Row}
 use Rattle.totals.specs.declared.Table.{Table}
-use Rattle.totals.specs.declared.entry.Reading.{Reading}
-use Rattle.totals.specs.declared.entry.Reading.TheVariants.{Null, Money, Refused}
+use Rattle.totals.specs.declared.entry.Money.{Money}
 use Rattle.totals.specs.declared.post.Posted.{Posted}
 
 -- the number of an amount of 12 digits and 4 more, in two's complement
 abbrev pub Small : ℕ → Type 0
 Small n = (n < 10 ^ 16) ⊎ ((2 ^ 64 - 10 ^ 16 < n) × (n < 2 ^ 64))
 
--- what was read, and what holds of it
-abbrev pub reading_meant : Reading → Outcome Entry
-reading_meant Null = answered null
-reading_meant (Money c n) = answered (money (currency_in c) (total_in n))
-reading_meant (Refused r) = refused (refusal_of r)
+-- an amount, or none where a record is null, and what holds of it
+abbrev pub entry_meant : Option Money → Entry
+entry_meant (Some m) = money (currency_in m.currency) (total_in m.amount)
+entry_meant None = null
 
-abbrev pub Readable : Reading → Type 0
-Readable Null = Unit {0}
-Readable (Money c n) = (is_currency (currency_in c) ≡ true) × Small n
-Readable (Refused r) = is_uncounted (refusal_of r) ≡ false
+abbrev pub IsMoney : Option Money → Type 0
+IsMoney (Some m) = (is_currency (currency_in m.currency) ≡ true) × Small m.amount
+IsMoney None = Unit {0}
+
+-- what was read, or a refusal, and what holds of it
+abbrev pub reading_meant : Result (Option Money) Refusal → Outcome Entry
+reading_meant (Ok o) = answered (entry_meant o)
+reading_meant (Err r) = refused (refusal_of r)
+
+abbrev pub Readable : Result (Option Money) Refusal → Type 0
+Readable (Ok o) = IsMoney o
+Readable (Err r) = is_uncounted (refusal_of r) ≡ false
 
 -- not damaged, and of 16 rows at most
 pub record Sound (t : Table) : Type 0 where
@@ -57,7 +63,7 @@ with_row t at r = record {
 
 -- the answer to what was read, and the table after it
 pub record PostedAs (t : Table) (o : Outcome Entry) (p : Posted) : Type 0 where
-  pub answer : p.answer ≡ packed entry_number (o and_then fitting (table_meant t).rows)
+  pub answer : reading_meant p.answer ≡ (o and_then fitting (table_meant t).rows)
   pub table : table_meant p.table ≡ recorded (o and_then fitting (table_meant t).rows) (table_meant t)
   pub few : p.table.held ≤ 16
   pub bits : are_totals (held_rows p.table) ≡ true

@@ -46,12 +46,10 @@ pub fn place_of(t: Table, n: usize, currency: u64) -> usize
     requires { n ≤ 16 }
     ensures { result ≡ place_of currency (take n t.rows) }
 {
-    let mut k = 0;
-    while k < n {
+    for k in 0..n {
         if t.rows[k].currency == currency {
             return k;
         }
-        k += 1;
     }
     n
 }
@@ -85,12 +83,10 @@ pub fn is_damaged(t: Table) -> bool
     if (ROWS < t.held) | is_over_counted(t) {
         return true;
     }
-    let mut k = 0;
-    while k < t.held {
+    for k in 0..t.held {
         if is_bad(t, k) {
             return true;
         }
-        k += 1;
     }
     false
 }

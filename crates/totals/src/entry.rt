@@ -1,6 +1,5 @@
 // What a checked record says of money.
 ghost use Rattle.std.specs.Prelude.{◌≡◌, ℕ, ◌^◌, ◌<◌, true, List, [], pos};
-ghost use Rattle.rules.specs.Refusal.{answered};
 ghost use Rattle.rules.specs.Markup.{Element};
 ghost use Rattle.rules.specs.Types.{MO, has_type};
 ghost use Rattle.rules.specs.Judge.{top_faults};
@@ -9,7 +8,7 @@ ghost use Rattle.rules.specs.TotalNumbers.{total_in};
 ghost use Rattle.element.specs.Tags.{TagIn};
 ghost use Rattle.form.specs.Amounts.{sign_of};
 ghost use Rattle.datatype.specs.Records.{RecordOf};
-ghost use Rattle.totals.specs.Readings.{Small, Readable, reading_meant};
+ghost use Rattle.totals.specs.Readings.{Small, IsMoney, entry_meant};
 
 use datatype::kind::Kind;
 use datatype::money::{amount_at, currency_at};
@@ -17,25 +16,19 @@ use datatype::record::Record;
 use element::name::{CURRENCY, NULL_FLAVOR, VALUE};
 use element::tag::has;
 use form::money::Amount;
-use refusal::Refusal;
 
-// What was read: a null, an amount in two's complement of a currency, or a refusal.
+// An amount in two's complement, of a currency.
 #[derive(Clone, Copy)]
-pub enum Reading {
-    Null,
-    Money { currency: u64, amount: u64 },
-    Refused(Refusal),
+pub struct Money {
+    pub currency: u64,
+    pub amount: u64,
 }
 
 // Whether a record is an MO.
 pub fn is_money(record: Record) -> bool
     ensures { (s : List ℕ) (e : Element) → RecordOf s e «record» → result ≡ has_type e.attrs MO }
 {
-    let kind = record.kind;
-    match kind {
-        Kind::Mo => true,
-        _ => false,
-    }
+    record.kind == Kind::Mo
 }
 
 // An amount in two's complement.
@@ -49,21 +42,18 @@ fn amount_number(negative: bool, value: u64) -> u64
     value
 }
 
-// What an accepted MO says.
-pub fn read(s: &[u8], record: Record) -> Reading
+// What an accepted MO says, unless it is a null.
+pub fn read(s: &[u8], record: Record) -> Option<Money>
     requires { TagIn s.now «record».tag }
-    ensures { (e : Element) (shift : ℕ) → RecordOf s.now e «record» → top_faults shift e ≡ [] → has_type e.attrs MO ≡ true → Readable result × (reading_meant result ≡ answered (entry_of e.attrs)) }
+    ensures { (e : Element) (shift : ℕ) → RecordOf s.now e «record» → top_faults shift e ≡ [] → has_type e.attrs MO ≡ true → IsMoney result × (entry_meant result ≡ entry_of e.attrs) }
 {
     let tag = record.tag;
     if has(tag, NULL_FLAVOR) {
-        return Reading::Null;
+        return None;
     }
-    let amount = amount_at(s, tag.places[VALUE]);
-    let Amount::Is { negative, value } = amount else {
-        return Reading::Null;
-    };
-    Reading::Money {
+    let Amount { negative, value } = amount_at(s, tag.places[VALUE])?;
+    Some(Money {
         currency: currency_at(s, tag.places[CURRENCY]),
         amount: amount_number(negative, value),
-    }
+    })
 }

@@ -46,10 +46,8 @@ pub fn part(numbers: &[u64; 103], desk: u64) -> Table
         refused: numbers[from + 2],
     };
     let held = numbers[0] as usize;
-    let mut k = 0;
-    while k < held {
+    for k in 0..held {
         if numbers[7 + 3 * k] != desk {
-            k += 1;
             continue;
         }
         if t.held == ROWS {
@@ -60,8 +58,7 @@ pub fn part(numbers: &[u64; 103], desk: u64) -> Table
             currency: numbers[8 + 3 * k],
             total: numbers[9 + 3 * k],
         };
-        t.held = t.held + 1;
-        k += 1;
+        t.held += 1;
     }
     t
 }
@@ -72,12 +69,10 @@ fn has_stray(numbers: &[u64; 103]) -> bool
     ensures { result ≡ has_stray numbers.now }
 {
     let held = numbers[0] as usize;
-    let mut k = 0;
-    while k < held {
+    for k in 0..held {
         if !is_desk(numbers[7 + 3 * k]) {
             return true;
         }
-        k += 1;
     }
     false
 }

@@ -1,35 +1,31 @@
 // What a record does to a table that is neither damaged nor full.
-ghost use Rattle.std.specs.Prelude.{◌≡◌, ◌+◌, ◌<◌, ◌≤◌, true, if◌then◌else◌, nat_lt, slice_index_or};
-ghost use Rattle.rules.specs.Forms.{is_currency};
-ghost use Rattle.rules.specs.Refusal.{number, answered};
-ghost use Rattle.rules.specs.Totals.{money};
-ghost use Rattle.rules.specs.TotalNumbers.{currency_in, total_in};
-ghost use Rattle.refusal.specs.Meaning.{refusal_of};
-ghost use Rattle.totals.specs.Readings.{Small, Readable, reading_meant, Usable, with_refused, with_row, PostedAs};
+ghost use Rattle.std.specs.Prelude.{◌≡◌, ◌+◌, ◌<◌, ◌≤◌, Some, Err, if◌then◌else◌, nat_lt, slice_index_or};
+ghost use Rattle.rules.specs.Refusal.{answered};
+ghost use Rattle.totals.specs.Readings.{Readable, reading_meant, IsMoney, entry_meant, Usable, with_refused, with_row, PostedAs};
 ghost use Rattle.totals.specs.Tables.{blank};
 
 use crate::damage::{is_in_range, place_of};
-use crate::entry::Reading;
+use crate::entry::Money;
 use crate::{ROWS, Row, Table};
 use refusal::Refusal;
 
-// A table after a record, and the answer to it as it is told.
+// A table after a record, and the answer to it: the amount that was added, none for a null, or a refusal.
 #[derive(Clone, Copy)]
 pub struct Posted {
     pub table: Table,
-    pub answer: u64,
+    pub answer: Result<Option<Money>, Refusal>,
 }
 
 // A record that is refused: it is counted, and nothing else changes.
 fn refuse(t: Table, r: Refusal) -> Posted
     requires { Usable t }
-    ensures { (result.table ≡ with_refused t) × (result.answer ≡ number (refusal_of r)) }
+    ensures { (result.table ≡ with_refused t) × (result.answer ≡ Err r) }
 {
     let mut u = t;
     u.refused = u.refused + 1;
     Posted {
         table: u,
-        answer: refusal::number(r),
+        answer: Err(r),
     }
 }
 
@@ -63,43 +59,43 @@ fn enter(t: Table, at: usize, row: Row) -> Table
 }
 
 // An amount of a currency, added to the total that it has or begins.
-fn add(t: Table, currency: u64, amount: u64) -> Posted
+fn add(t: Table, money: Money) -> Posted
     requires fact_1 { Usable t }
-    requires fact_2 { is_currency (currency_in currency) ≡ true }
-    requires fact_3 { Small amount }
-    ensures { PostedAs t (answered (money (currency_in currency) (total_in amount))) result }
+    requires fact_2 { IsMoney (Some money) }
+    ensures { PostedAs t (answered (entry_meant (Some money))) result }
 {
-    let at = place_of(t, t.held, currency);
+    let at = place_of(t, t.held, money.currency);
     if at == ROWS {
         return refuse(t, Refusal::NoRow);
     }
-    let total = std::num::wrapping_add_u64(total_at(t, at), amount);
+    let total = std::num::wrapping_add_u64(total_at(t, at), money.amount);
     if !is_in_range(total) {
         return refuse(t, Refusal::Total);
     }
+    let currency = money.currency;
     let row = Row { currency, total };
     Posted {
         table: enter(t, at, row),
-        answer: 256,
+        answer: Ok(Some(money)),
     }
 }
 
 // What was read, posted.
-pub fn post(t: Table, reading: Reading) -> Posted
+pub fn post(t: Table, reading: Result<Option<Money>, Refusal>) -> Posted
     requires fact_1 { Usable t }
     requires fact_2 { Readable reading }
     ensures { PostedAs t (reading_meant reading) result }
 {
     match reading {
-        Reading::Null => {
+        Ok(None) => {
             let mut u = t;
             u.null = u.null + 1;
             Posted {
                 table: u,
-                answer: 512,
+                answer: Ok(None),
             }
         }
-        Reading::Money { currency, amount } => add(t, currency, amount),
-        Reading::Refused(r) => refuse(t, r),
+        Ok(Some(money)) => add(t, money),
+        Err(r) => refuse(t, r),
     }
 }

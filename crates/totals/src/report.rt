@@ -13,12 +13,10 @@ fn put_rows(t: Table, out: &mut [u64])
     requires fact_2 { 35 ≤ length out.old }
     ensures { out.new ≡ placed 3 (flat_map numbers_of (held_rows t)) out.old }
 {
-    let mut k = 0;
-    while k < t.held {
+    for k in 0..t.held {
         let row = t.rows[k];
         out[3 + 2 * k] = row.currency;
         out[4 + 2 * k] = row.total;
-        k += 1;
     }
 }
 

@@ -34,12 +34,10 @@ fn put_rest(numbers: &mut [u64; 103], desk: u64, t: Table, j: usize, k: usize) -
     ensures rows { result ≡ j + (t.held - k) }
     ensures put { numbers.new ≡ placed (7 + 3 * j) (flat_map owned_numbers (map (owned desk) (drop k (held_rows t)))) numbers.old }
 {
-    let mut i = k;
     let mut at = j;
-    while i < t.held {
+    for i in k..t.held {
         put_row(numbers, at, desk, t.rows[i]);
         at += 1;
-        i += 1;
     }
     at
 }
@@ -55,10 +53,9 @@ fn put_rows(numbers: &mut [u64; 103], desk: u64, t: Table) -> usize
     ensures put { numbers.new ≡ placed 7 (flat_map owned_numbers (with_rows desk (held_rows t) (held_in numbers.old))) numbers.old }
 {
     let held = numbers[0] as usize;
-    let mut i = 0;
     let mut j = 0;
     let mut k = 0;
-    while i < held {
+    for i in 0..held {
         let owner = numbers[7 + 3 * i];
         if owner != desk {
             let row = Row {
@@ -66,11 +63,9 @@ fn put_rows(numbers: &mut [u64; 103], desk: u64, t: Table) -> usize
                 total: numbers[9 + 3 * i],
             };
             put_row(numbers, j, owner, row);
-            i += 1;
             j += 1;
             continue;
         }
-        i += 1;
         if k == t.held {
             continue;
         }

@@ -12,8 +12,8 @@ decreases-read_element l = 2 * (length l.s.now - l.at)
 abbrev pub decreases-read_content : goal.decreases-read_content
 decreases-read_content l = 2 * (length l.s.now - l.at) + 1
 
-abbrev pub invariant-read_content-loop-e : goal.invariant-read_content-loop-e
-invariant-read_content-loop-e l = (l.at ≤ l.i) × (l.i ≤ length l.s) × ((e : ℕ) → ReadsContent l.s l.i l.depth e → ReadsContent l.s l.at l.depth e)
+abbrev pub invariant-read_content-loop-end : goal.invariant-read_content-loop-end
+invariant-read_content-loop-end l = (l.at ≤ l.i) × (l.i ≤ length l.s) × ((e : ℕ) → ReadsContent l.s l.i l.depth e → ReadsContent l.s l.at l.depth e)
 
-abbrev pub decreases-read_content-loop-e : goal.decreases-read_content-loop-e
-decreases-read_content-loop-e l = length l.s - l.i
+abbrev pub decreases-read_content-loop-end : goal.decreases-read_content-loop-end
+decreases-read_content-loop-end l = length l.s - l.i

@@ -4,6 +4,7 @@ use mir.ValLaws.{to_z-of_z}
 use mir.Syntax.{w64}
 use Rattle.rules.specs.Check.{is_offset, shift_by}
 use Rattle.refusal.specs.Meaning.{fault_of}
+use Rattle.rules.specs.Refusal.{answered}
 use Rattle.rules.proofs.ListingCases.{check_faultless}
 use Rattle.rigcactus.proofs.Held.{accepted-held}
 use Rattle.rigcactus.proofs.TypedFaults.{typed-accepted}
@@ -29,4 +30,4 @@ pub returns : goal.returns
 returns c =
     let (e, a, m) = typed-accepted is_money c.args.offset c.args.«record».now (sym (subst (λ z. c.is_offset.result ≡ is_offset z) (to_z-of_z w64 c.args.offset c.ranges.offset) c.is_offset.ensures) ∙ c.if-not-is_offset.false) (subst (λ z. c.shift_of.result ≡ shift_by z) (to_z-of_z w64 c.args.offset c.ranges.offset) c.shift_of.ensures.0) (sym (ap fault_of c.in_default.is) ∙ (c.typed_fault-fault.ensures c.shift_of.result c.args.«record».now is_money c.check-checked.ensures c.is_money.ensures)) in
     let (x, y) = c.read.ensures e (shift_by c.args.offset) (accepted-held c.check-checked.result c.check-checked.ensures c.args.offset e a) (check_faultless c.args.offset c.args.«record».now a) m in
-    (x, y ∙ money-read c.args.offset c.args.«record».now e a m)
+    (x, ap answered y ∙ money-read c.args.offset c.args.«record».now e a m)

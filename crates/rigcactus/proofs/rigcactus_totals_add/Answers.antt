@@ -52,5 +52,5 @@ returns c =
     let f = sym c.is_faulty.ensures ∙ c.if-is_faulty.false in
     let u = usable c.args.desk c.args.table.now d f c.part-t.result c.part-t.ensures (sym c.is_full.ensures ∙ c.if-is_full.false) in
     let r = subst (λ z. reading_meant c.read_money.result ≡ reading z c.args.«record».now) (to_z-of_z w64 c.args.offset c.ranges.offset) c.read_money.ensures.1 in
-    let h = add_posted c.args.desk c.args.table.now d f c.part-t.result c.part-t.ensures c.args.offset c.args.«record».now u r c.post-posted.ensures in
+    let h = add_posted c.args.desk c.args.table.now d f c.part-t.result c.part-t.ensures c.args.offset c.args.«record».now u r c.post-posted.ensures c.posted_number.ensures in
     record { value = h.answers; table_after = c.share.ensures ∙ h.leaves }

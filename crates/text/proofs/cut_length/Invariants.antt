@@ -7,6 +7,3 @@ use Rattle.text.proofs.cut_length.Given as goal
 
 abbrev pub invariant-loop-n : goal.invariant-loop-n
 invariant-loop-n l = (l.n < length l.s) × (cut_length l.room l.s ≡ longest l.n l.s)
-
-abbrev pub decreases-loop-n : goal.decreases-loop-n
-decreases-loop-n l = l.n

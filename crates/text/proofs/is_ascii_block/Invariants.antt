@@ -6,8 +6,5 @@ use Rattle.rules.specs.Basics.{every}
 use Rattle.text.specs.Characters.{is_ascii}
 use Rattle.text.proofs.is_ascii_block.Given as goal
 
-abbrev pub invariant-loop-k : goal.invariant-loop-k
-invariant-loop-k l = (l.k ≤ l.size) × (l.all ≡ every is_ascii (take l.k (drop l.at l.s)))
-
-abbrev pub decreases-loop-k : goal.decreases-loop-k
-decreases-loop-k l = l.size - l.k
+abbrev pub invariant-loop-b : goal.invariant-loop-b
+invariant-loop-b l = l.all ≡ every is_ascii (take l.b-index l.b-items)

@@ -2,7 +2,6 @@ use mathlib.Core.Path.{sym, ◌∙◌}
 use Rattle.markup.proofs.Characters.{not_quote, simple_char}
 use Rattle.element.proofs.Decoded.{chars-end, chars-next, chars-on}
 use Rattle.element.specs.Texts.{no_char_on}
-use Rattle.text.proofs.Reading.{answer}
 use Rattle.element.proofs.value.next.Goals as goal
 
 pub returns-then-is_simple : goal.returns-then-is_simple
@@ -11,8 +10,8 @@ returns-then-is_simple c =
     let g = simple_char c.args.s.now c.args.at c.if-at-s.true e in
     record { on = chars-on g; tells = chars-next (not_quote c.args.s.now c.args.at c.if-at-s.true e) g }
 
-pub returns-in-At : goal.returns-in-At
-returns-in-At c = record { on = no_char_on; tells = chars-end (answer c.in-At.is c.read_byte-closing.ensures) }
+pub returns-in-Some : goal.returns-in-Some
+returns-in-Some c = record { on = no_char_on; tells = chars-end c.in-Some.ensures }
 
 pub returns : goal.returns
-returns c = record { on = chars-on c.read_char.ensures; tells = chars-next (answer c.in_default.is c.read_byte-closing.ensures) c.read_char.ensures }
+returns c = record { on = chars-on c.read_char.ensures; tells = chars-next c.in_default.ensures c.read_char.ensures }

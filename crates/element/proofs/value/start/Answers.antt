@@ -1,11 +1,6 @@
 -- `element::value::start` meets its contract.
-use Rattle.text.proofs.Reading.{answer, found}
-use Rattle.element.proofs.Decoded.{text-start, text-none}
+use Rattle.element.proofs.Decoded.{text-from}
 use Rattle.element.proofs.value.start.Goals as goal
 
-pub returns-in_default : goal.returns-in_default
-returns-in_default c = record { within = c.requires; tells = λ v a q. text-none (answer c.in_default.is c.read_byte-opening.ensures) v a q }
-
 pub returns : goal.returns
-returns c =
-    record { within = (found c.in-At.is c.read_byte-opening.ensures).high; tells = text-start (found c.in-At.is c.read_byte-opening.ensures) }
+returns c = let g = text-from c.requires c.read_byte.ensures in record { within = rw c.unwrap_or.ensures g.0; tells = rw c.unwrap_or.ensures g.1 }

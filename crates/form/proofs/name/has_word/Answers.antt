@@ -6,17 +6,15 @@ use Rattle.form.proofs.name.has_word.Goals as goal
 pub loop-c-init : goal.loop-c-init
 loop-c-init c = (c.start-from.ensures.within, λ b h. h)
 
-pub next-first-requires : goal.next-first-requires
-next-first-requires c = c.loop-c.invariant.0
-
-pub returns-in_default : goal.returns-in_default
-returns-in_default c = λ v a h. word_start c.args.s.now c.args.w.now _ _ (c.loop-c.invariant.1 _ (word_end c.args.w.now c.loop-c.k c.next-first.ensures.tells c.in_default.is)) v (c.start-from.ensures.tells v a h)
-
 pub returns-then-c-k : goal.returns-then-c-k
-returns-then-c-k c = λ v a h. word_start c.args.s.now c.args.w.now _ _ (c.loop-c.invariant.1 _ (word_found c.args.w.now c.loop-c.k c.next-first.ensures.tells c.in-Is.is c.if-c-k.true)) v (c.start-from.ensures.tells v a h)
+returns-then-c-k c = λ v a h. word_start c.args.s.now c.args.w.now _ _ (c.loop-c.invariant.1 _ (word_found c.args.w.now c.loop-c.k c.in-Some.ensures.tells c.if-c-k.true)) v (c.start-from.ensures.tells v a h)
 
 pub loop-c-smaller : goal.loop-c-smaller
-loop-c-smaller c = omega (arith, (on-bounds c.in-Is.is c.next-first.ensures.on).0, (on-bounds c.in-Is.is c.next-first.ensures.on).1)
+loop-c-smaller c = let n = on-bounds c.in-Some.ensures.on in omega (arith, n.0, n.1)
 
 pub loop-c-preserved : goal.loop-c-preserved
-loop-c-preserved c = ((on-bounds c.in-Is.is c.next-first.ensures.on).1, λ b h. c.loop-c.invariant.1 b (word_more c.args.w.now c.loop-c.k c.next-first.ensures.tells c.in-Is.is c.if-c-k.false b (rw c.along-k.ensures at h)))
+loop-c-preserved c =
+    ((on-bounds c.in-Some.ensures.on).1, λ b h. c.loop-c.invariant.1 b (word_more c.args.w.now c.loop-c.k c.in-Some.ensures.tells c.if-c-k.false b (rw c.along-k.ensures at h)))
+
+pub returns : goal.returns
+returns c = λ v a h. word_start c.args.s.now c.args.w.now _ _ (c.loop-c.invariant.1 _ (word_end c.args.w.now c.loop-c.k c.in_default.ensures.tells)) v (c.start-from.ensures.tells v a h)

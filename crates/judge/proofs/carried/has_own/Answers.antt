@@ -1,18 +1,18 @@
 use mathlib.Core.Path.{sym, ◌∙◌}
 use native.Mathlib.Omega.{arith}
 use Rattle.datatype.specs.Meaning.{kind_meant}
-use Rattle.judge.proofs.OwnColumns.{own_numbers, own_end, own_found, own_passed, own_told}
+use Rattle.judge.proofs.OwnColumns.{own_numbers, own_end, own_found, own_passed, own_told, told}
 use Rattle.judge.proofs.carried.has_own.Goals as goal
 
 pub loop-n-init : goal.loop-n-init
 loop-n-init c = (omega arith, λ s l t. own_numbers (kind_meant c.args.kind) l)
 
-pub returns-then-is_column-place : goal.returns-then-is_column-place
-returns-then-is_column-place c = λ s l t.
+pub returns-then-is_some-place : goal.returns-then-is_some-place
+returns-then-is_some-place c = λ s l t.
     let n = c.loop-n.n in
     let k = kind_meant c.args.kind in
     let h = c.loop-n-test.true in
-    let e = own_told k l n c.own_column.ensures c.is_column.ensures (t.placed n h) c.if-is_column-place.true in
+    let e = own_told k l n c.own_column.ensures (c.is_some.ensures ∙ told _) (t.placed n h) c.if-is_some-place.true in
     sym (own_found k l n h e) ∙ c.loop-n.invariant.1 s l t
 
 pub loop-n-preserved : goal.loop-n-preserved
@@ -22,7 +22,7 @@ loop-n-preserved c = (
       let n = c.loop-n.n in
       let k = kind_meant c.args.kind in
       let h = c.loop-n-test.true in
-      let e = own_told k l n c.own_column.ensures c.is_column.ensures (t.placed n h) c.if-is_column-place.false in
+      let e = own_told k l n c.own_column.ensures (c.is_some.ensures ∙ told _) (t.placed n h) c.if-is_some-place.false in
       sym (own_passed k l n h e) ∙ c.loop-n.invariant.1 s l t,
 )
 

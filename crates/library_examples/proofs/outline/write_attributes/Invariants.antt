@@ -2,8 +2,8 @@
 use Rattle.std.proofs.Common.{◌-◌, ◌≤◌, length}
 use Rattle.library_examples.proofs.outline.write_attributes.Given as goal
 
-abbrev pub invariant-loop-name : goal.invariant-loop-name
-invariant-loop-name l = l.i ≤ length l.s
+abbrev pub invariant-loop-a : goal.invariant-loop-a
+invariant-loop-a l = l.i ≤ length l.s
 
-abbrev pub decreases-loop-name : goal.decreases-loop-name
-decreases-loop-name l = length l.s - l.i
+abbrev pub decreases-loop-a : goal.decreases-loop-a
+decreases-loop-a l = length l.s - l.i

@@ -5,7 +5,4 @@ use Rattle.markup.specs.Marks.{place_of, Passes}
 use Rattle.markup.proofs.marks.find_spot.Given as goal
 
 abbrev pub invariant-loop-tries : goal.invariant-loop-tries
-invariant-loop-tries l = (place_of l.h l.tries ≡ l.i) × (l.i < 3_072) × Passes l.h l.table l.tries
-
-abbrev pub decreases-loop-tries : goal.decreases-loop-tries
-decreases-loop-tries l = 3_072 - l.tries
+invariant-loop-tries l = (place_of l.h l._tries ≡ l.i) × (l.i < 3_072) × Passes l.h l.table l._tries

@@ -5,8 +5,5 @@ use lib.ListN.{length, drop}
 use Rattle.markup.specs.Marks.{mix_of}
 use Rattle.markup.proofs.marks.mix.Given as goal
 
-abbrev pub invariant-loop-i : goal.invariant-loop-i
-invariant-loop-i l = (l.i ≤ length l.name) × (l.h < 1_048_576) × (mix_of l.h (drop l.i l.name) ≡ mix_of 0 l.name)
-
-abbrev pub decreases-loop-i : goal.decreases-loop-i
-decreases-loop-i l = length l.name - l.i
+abbrev pub invariant-loop-c : goal.invariant-loop-c
+invariant-loop-c l = (l.h < 1_048_576) × (mix_of l.h (drop l.c-index l.name) ≡ mix_of 0 l.name)

@@ -3,4 +3,4 @@ use native.Mathlib.Omega.{arith}
 use Rattle.markup.proofs.marks.mix_byte.Goals as goal
 
 pub returns : goal.returns
-returns c = (rw c.wide.ensures.0, omega arith)
+returns c = (rw c.from.ensures, omega arith)

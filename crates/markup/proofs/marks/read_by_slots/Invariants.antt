@@ -6,8 +6,8 @@ use Rattle.markup.proofs.Begun.{Begun}
 use Rattle.markup.proofs.Slots.{HasSlot}
 use Rattle.markup.proofs.marks.read_by_slots.Given as goal
 
-abbrev pub invariant-loop-j : goal.invariant-loop-j
-invariant-loop-j l = (length l.taken ≡ 64) × Begun (HasSlot l.taken) l.s l.at l.i
+abbrev pub invariant-loop-a : goal.invariant-loop-a
+invariant-loop-a l = (length l.taken ≡ 64) × Begun (HasSlot l.taken) l.s l.at l.i
 
-abbrev pub decreases-loop-j : goal.decreases-loop-j
-decreases-loop-j l = length l.s - l.i
+abbrev pub decreases-loop-a : goal.decreases-loop-a
+decreases-loop-a l = length l.s - l.i

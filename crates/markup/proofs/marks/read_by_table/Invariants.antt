@@ -6,8 +6,8 @@ use Rattle.markup.proofs.Marking.{HasMark}
 use Rattle.markup.proofs.Begun.{Begun}
 use Rattle.markup.proofs.marks.read_by_table.Given as goal
 
-abbrev pub invariant-loop-j : goal.invariant-loop-j
-invariant-loop-j l = (length l.table ≡ 3_072) × Begun (HasMark l.table) l.s l.at l.i
+abbrev pub invariant-loop-a : goal.invariant-loop-a
+invariant-loop-a l = (length l.table ≡ 3_072) × Begun (HasMark l.table) l.s l.at l.i
 
-abbrev pub decreases-loop-j : goal.decreases-loop-j
-decreases-loop-j l = length l.s - l.i
+abbrev pub decreases-loop-a : goal.decreases-loop-a
+decreases-loop-a l = length l.s - l.i

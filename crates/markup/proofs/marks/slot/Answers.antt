@@ -3,4 +3,4 @@ use native.Mathlib.Omega.{arith}
 use Rattle.markup.proofs.marks.slot.Goals as goal
 
 pub returns : goal.returns
-returns c = (rw (c.wide.ensures.0, c.wide-2.ensures.0), omega arith)
+returns c = (rw (c.from.ensures, c.from-2.ensures), omega arith)

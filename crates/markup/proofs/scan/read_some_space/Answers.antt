@@ -1,12 +1,10 @@
 -- `markup::scan::read_some_space` meets its contract.
+use mathlib.Core.Path.{◌≡◌, refl, sym}
+use mathlib.Core.Bool.{Bool, true, false}
 use Rattle.rules.specs.Markup.{some_space}
-use Rattle.text.proofs.Reading.{some_yes, some_no}
+use Rattle.text.proofs.Reading.{answer, some_answer}
 use Rattle.markup.proofs.scan.read_some_space.Goals as goal
 
-pub returns-then-at-end : goal.returns-then-at-end
+pub returns : goal.returns
 unfolding some_space
-returns-then-at-end c = some_yes _ _ c.skip_space-end.ensures c.if-at-end.true
-
-pub returns-else-at-end : goal.returns-else-at-end
-unfolding some_space
-returns-else-at-end c = some_no _ _ c.skip_space-end.ensures c.if-at-end.false
+returns c = answer (sym c.then_some.ensures) (some_answer _ _ c.skip_space-end.ensures)

@@ -2,11 +2,11 @@
 use Prim.Native.Nat.{◌-◌, ◌≤◌}
 use lib.ListN.{length}
 use Rattle.markup.specs.Attributes.{Answers}
-use Rattle.markup.specs.declared.tag.Found.{Found}
+use Rattle.std.specs.Prelude.{Option, ℕ}
 use Rattle.markup.proofs.tag.find_attribute.Given as goal
 
-abbrev pub invariant-loop-j : goal.invariant-loop-j
-invariant-loop-j l = (l.i ≤ length l.s) × ((r : Found) → Answers l.s l.name l.i r → Answers l.s l.name l.at r)
+abbrev pub invariant-loop-a : goal.invariant-loop-a
+invariant-loop-a l = (l.i ≤ length l.s) × ((r : Option (ℕ × ℕ)) → Answers l.s l.name l.i r → Answers l.s l.name l.at r)
 
-abbrev pub decreases-loop-j : goal.decreases-loop-j
-decreases-loop-j l = length l.s - l.i
+abbrev pub decreases-loop-a : goal.decreases-loop-a
+decreases-loop-a l = length l.s - l.i

@@ -5,6 +5,6 @@ use Rattle.markup.specs.Attributes.{distinct_attributes}
 use Rattle.markup.proofs.Attributes.{told-sure}
 use Rattle.markup.proofs.tag.read_attributes.Goals as goal
 
-pub returns-in-Sure : goal.returns-in-Sure
+pub returns-in-Some : goal.returns-in-Some
 unfolding tag_attributes
-returns-in-Sure c = enough distinct_attributes (told-sure c.in-Sure.is c.read_by_slots-told.ensures)
+returns-in-Some c = enough distinct_attributes (told-sure c.in-Some.ensures)

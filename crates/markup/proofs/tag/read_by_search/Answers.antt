@@ -1,69 +1,49 @@
+use mathlib.Core.Path.{refl, sym, ◌∙◌}
 use native.Mathlib.Omega.{arith}
 use Rattle.rules.specs.Markup.{tag_attributes}
-use Rattle.text.proofs.Reading.{answer, found, enough}
+use Rattle.text.proofs.Reading.{enough}
 use Rattle.markup.specs.Attributes.{distinct_attributes}
-use Rattle.markup.proofs.Attributes.{parts_found, parts_none, told-sure, stops_space, stops_attribute, distinct-end, distinct_again, distinct_more}
+use Rattle.markup.proofs.Attributes.{next_at, next_stops, told-sure, distinct-end, distinct_again, distinct_more}
 use borrow.Author.Rules.{rules}
 use Rattle.markup.proofs.tag.read_by_search.Goals as goal
 
-pub loop-j-init : goal.loop-j-init
-loop-j-init c = (search rules, λ r h. h)
-
-pub returns-in_default : goal.returns-in_default
-unfolding tag_attributes
-returns-in_default c =
-    let (l, on) = c.loop-j.invariant in
-    enough distinct_attributes (on _ (distinct-end l (stops_space (answer c.in_default.is c.read_some_space-gap.ensures))))
-
-pub read_attribute-parts-requires : goal.read_attribute-parts-requires
-read_attribute-parts-requires c = (found c.in-At.is c.read_some_space-gap.ensures).high
-
-pub returns-in_default-parts : goal.returns-in_default-parts
-unfolding tag_attributes
-returns-in_default-parts c =
-    let g = found c.in-At.is c.read_some_space-gap.ensures in
-    let (l, on) = c.loop-j.invariant in
-    enough distinct_attributes (on _ (distinct-end l (stops_attribute g (parts_none c.in_default-parts.is c.read_attribute-parts.ensures))))
+pub loop-a-init : goal.loop-a-init
+loop-a-init c = (search rules, λ r h. h)
 
 pub slice_bounds-find_attribute-start : goal.slice_bounds-find_attribute-start
-slice_bounds-find_attribute-start c = omega (arith, (parts_found c.in-Attribute.is c.read_attribute-parts.ensures).name_low)
+slice_bounds-find_attribute-start c = omega (arith, (next_at c.in-Some.ensures).attr.name_low)
 
 pub slice_bounds-find_attribute-end : goal.slice_bounds-find_attribute-end
-slice_bounds-find_attribute-end c =
-    let a = parts_found c.in-Attribute.is c.read_attribute-parts.ensures in
-    omega (arith, a.name_high, a.value_low, a.high)
+slice_bounds-find_attribute-end c = let a = (next_at c.in-Some.ensures).attr in omega (arith, a.name_high, a.value_low, a.high)
 
-pub find_attribute-again-requires : goal.find_attribute-again-requires
-find_attribute-again-requires c = (parts_found c.in-Attribute.is c.read_attribute-parts.ensures).high
+pub find_attribute-requires : goal.find_attribute-requires
+find_attribute-requires c = (next_at c.in-Some.ensures).attr.high
 
-pub returns-in-Quoted : goal.returns-in-Quoted
+pub returns-then-is_some : goal.returns-then-is_some
 unfolding tag_attributes
-returns-in-Quoted c =
-    let g = found c.in-At.is c.read_some_space-gap.ensures in
-    let a = parts_found c.in-Attribute.is c.read_attribute-parts.ensures in
-    enough distinct_attributes (c.loop-j.invariant.1 _ (distinct_again g a c.in-Quoted.is c.find_attribute-again.ensures))
+returns-then-is_some c =
+    let n = next_at c.in-Some.ensures in
+    enough distinct_attributes (c.loop-a.invariant.1 _ (distinct_again n.gap n.attr (sym c.if-is_some.ensures) c.find_attribute.ensures))
 
-pub read_by_table-told-requires : goal.read_by_table-told-requires
-read_by_table-told-requires c = (parts_found c.in-Attribute.is c.read_attribute-parts.ensures).high
+pub read_by_table-requires : goal.read_by_table-requires
+read_by_table-requires c = (next_at c.in-Some.ensures).attr.high
 
-pub returns-in-Sure : goal.returns-in-Sure
+pub returns-in-Some-read_by_table : goal.returns-in-Some-read_by_table
 unfolding tag_attributes
-returns-in-Sure c =
-    let g = found c.in-At.is c.read_some_space-gap.ensures in
-    let a = parts_found c.in-Attribute.is c.read_attribute-parts.ensures in
-    let t = told-sure c.in-Sure.is c.read_by_table-told.ensures in
-    let on = c.loop-j.invariant.1 in
-    enough distinct_attributes (on _ (distinct_more g a c.in_default-again.is c.find_attribute-again.ensures _ t))
+returns-in-Some-read_by_table c =
+    let n = next_at c.in-Some.ensures in
+    enough distinct_attributes (c.loop-a.invariant.1 _ (distinct_more n.gap n.attr (sym c.if-is_some.ensures) c.find_attribute.ensures _ (told-sure c.in-Some-read_by_table.ensures)))
 
-pub loop-j-smaller : goal.loop-j-smaller
-loop-j-smaller c =
-    let g = found c.in-At.is c.read_some_space-gap.ensures in
-    let a = parts_found c.in-Attribute.is c.read_attribute-parts.ensures in
-    omega (arith, g.low, a.name_low, a.name_high, a.value_low, a.high)
+pub loop-a-smaller : goal.loop-a-smaller
+loop-a-smaller c =
+    let n = next_at c.in-Some.ensures in
+    omega (arith, n.gap.low, n.attr.name_low, n.attr.name_high, n.attr.value_low, n.attr.high)
 
-pub loop-j-preserved : goal.loop-j-preserved
-loop-j-preserved c =
-    let g = found c.in-At.is c.read_some_space-gap.ensures in
-    let a = parts_found c.in-Attribute.is c.read_attribute-parts.ensures in
-    let on = c.loop-j.invariant.1 in
-    (a.high, λ r h. on r (distinct_more g a c.in_default-again.is c.find_attribute-again.ensures r h))
+pub loop-a-preserved : goal.loop-a-preserved
+loop-a-preserved c =
+    let n = next_at c.in-Some.ensures in
+    (n.attr.high, λ r h. c.loop-a.invariant.1 r (distinct_more n.gap n.attr (sym c.if-is_some.ensures) c.find_attribute.ensures r h))
+
+pub returns : goal.returns
+unfolding tag_attributes
+returns c = enough distinct_attributes (c.loop-a.invariant.1 _ (distinct-end c.loop-a.invariant.0 (next_stops c.in_default.ensures)))

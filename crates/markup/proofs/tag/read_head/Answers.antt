@@ -1,19 +1,17 @@
 -- `markup::tag::read_head` meets its contract.
-use Rattle.text.proofs.Reading.{answer, found}
+use Rattle.text.proofs.Reading.{good}
 use Rattle.markup.specs.Tags.{head}
-use Rattle.markup.proofs.Tags.{no_less, no_name}
+use Rattle.markup.proofs.Tags.{head-not, no_less, no_name}
 use Rattle.markup.proofs.tag.read_head.Goals as goal
 
-pub returns-in_default : goal.returns-in_default
-returns-in_default c = no_less (answer c.in_default.is c.read_byte-less.ensures)
+pub returns-in_err-name : goal.returns-in_err-name
+returns-in_err-name c = head-not c.from_residual.ensures (no_less c.in_err-name.ensures)
 
-pub read_name-named-requires : goal.read_name-named-requires
-read_name-named-requires c = (found c.in-At.is c.read_byte-less.ensures).high
+pub read_name-requires : goal.read_name-requires
+read_name-requires c = (good c.in_ok-name.ensures).high
 
-pub returns-in_default-named : goal.returns-in_default-named
-returns-in_default-named c =
-    no_name (found c.in-At.is c.read_byte-less.ensures) (answer c.in_default-named.is c.read_name-named.ensures)
+pub returns-in_err-name_end : goal.returns-in_err-name_end
+returns-in_err-name_end c = head-not c.from_residual-in_err-name_end.ensures (no_name (good c.in_ok-name.ensures) c.in_err-name_end.ensures)
 
 pub returns : goal.returns
-returns c =
-    head _ _ (record { less = (found c.in-At.is c.read_byte-less.ensures); named = found c.in-At-named.is c.read_name-named.ensures })
+returns c = head _ _ (record { less = good c.in_ok-name.ensures; named = good c.in_ok-name_end.ensures })

@@ -1,24 +1,26 @@
 -- `markup::value::read_reference` meets its contract.
 use Rattle.rules.specs.Markup.{reference}
-use Rattle.markup.proofs.Characters.{char_here, char-past}
+use Rattle.markup.proofs.Characters.{char-first, char-second}
 use Rattle.markup.proofs.value.read_reference.Goals as goal
 
-pub returns-in-Is : goal.returns-in-Is
+pub returns-in-Some : goal.returns-in-Some
 unfolding reference
-returns-in-Is c = char_here _ _ c.in-Is.is c.read_written-amp.ensures
+returns-in-Some c = char-first _ _ c.in-Some.ensures
 
-pub returns-in-Is-lt : goal.returns-in-Is-lt
+pub returns-in-Some-read_written : goal.returns-in-Some-read_written
 unfolding reference
-returns-in-Is-lt c = char-past _ _ c.in_default.is c.read_written-amp.ensures (char_here _ _ c.in-Is-lt.is c.read_written-lt.ensures)
+returns-in-Some-read_written c = char-second _ _ c.in_default.ensures (char-first _ _ c.in-Some-read_written.ensures)
 
-pub returns-in-Is-gt : goal.returns-in-Is-gt
+pub returns-in-Some-read_written-2 : goal.returns-in-Some-read_written-2
 unfolding reference
-returns-in-Is-gt c = char-past _ _ c.in_default.is c.read_written-amp.ensures (char-past _ _ c.in_default-lt.is c.read_written-lt.ensures (char_here _ _ c.in-Is-gt.is c.read_written-gt.ensures))
+returns-in-Some-read_written-2 c = char-second _ _ c.in_default.ensures (char-second _ _ c.in_default-read_written.ensures (char-first _ _ c.in-Some-read_written-2.ensures))
 
-pub returns-in-Is-quot : goal.returns-in-Is-quot
+pub returns-in-Some-read_written-3 : goal.returns-in-Some-read_written-3
 unfolding reference
-returns-in-Is-quot c = char-past _ _ c.in_default.is c.read_written-amp.ensures (char-past _ _ c.in_default-lt.is c.read_written-lt.ensures (char-past _ _ c.in_default-gt.is c.read_written-gt.ensures (char_here _ _ c.in-Is-quot.is c.read_written-quot.ensures)))
+returns-in-Some-read_written-3 c =
+    char-second _ _ c.in_default.ensures (char-second _ _ c.in_default-read_written.ensures (char-second _ _ c.in_default-read_written-2.ensures (char-first _ _ c.in-Some-read_written-3.ensures)))
 
 pub returns : goal.returns
 unfolding reference
-returns c = char-past _ _ c.in_default.is c.read_written-amp.ensures (char-past _ _ c.in_default-lt.is c.read_written-lt.ensures (char-past _ _ c.in_default-gt.is c.read_written-gt.ensures (char-past _ _ c.in_default-quot.is c.read_written-quot.ensures c.read_written.ensures)))
+returns c =
+    char-second _ _ c.in_default.ensures (char-second _ _ c.in_default-read_written.ensures (char-second _ _ c.in_default-read_written-2.ensures (char-second _ _ c.in_default-read_written-3.ensures c.read_written-5.ensures)))

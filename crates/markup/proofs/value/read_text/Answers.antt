@@ -1,32 +1,33 @@
 use native.Mathlib.Omega.{arith}
-use Rattle.text.proofs.Reading.{answer, found}
-use Rattle.markup.proofs.Characters.{char-answer, char_good, char-none, text-end, text-not, on_none, on_more}
+use mathlib.Core.Path.{sym}
+use Rattle.text.proofs.Reading.{answer, good}
+use Rattle.std.specs.Prelude.{None}
+use Rattle.markup.specs.Values.{ReadsText}
+use Rattle.markup.proofs.Characters.{char_good, char-none, text-end, text-not, on_none, on_more}
 use Rattle.markup.proofs.value.read_text.Goals as goal
 
-pub loop-e-init : goal.loop-e-init
-loop-e-init c = on_none _ _ c.requires
+pub loop-end-init : goal.loop-end-init
+loop-end-init c = on_none _ _ c.requires
 
 pub skip_simple-j-requires : goal.skip_simple-j-requires
-skip_simple-j-requires c = c.loop-e.invariant.high
+skip_simple-j-requires c = c.loop-end.invariant.high
 
-pub read_byte-quote-requires : goal.read_byte-quote-requires
-read_byte-quote-requires c = c.skip_simple-j.ensures.high
+pub read_byte-requires : goal.read_byte-requires
+read_byte-requires c = c.skip_simple-j.ensures.high
 
-pub returns-in-At : goal.returns-in-At
-returns-in-At c =
-    c.loop-e.invariant.on _ (c.skip_simple-j.ensures.on _ (text-end (found c.in-At.is c.read_byte-quote.ensures)))
+pub returns-in-Some : goal.returns-in-Some
+returns-in-Some c = c.loop-end.invariant.on _ (c.skip_simple-j.ensures.on _ (text-end (good c.in-Some.ensures)))
 
-pub read_char-next-requires : goal.read_char-next-requires
-read_char-next-requires c = c.skip_simple-j.ensures.high
+pub read_char-requires : goal.read_char-requires
+read_char-requires c = c.skip_simple-j.ensures.high
 
-pub returns-in_default-next : goal.returns-in_default-next
-returns-in_default-next c =
-    c.loop-e.invariant.on _ (c.skip_simple-j.ensures.on _ (text-not (answer c.in_default.is c.read_byte-quote.ensures) (char-none (char-answer c.in_default-next.is c.read_char-next.ensures))))
+pub returns-in_err-end : goal.returns-in_err-end
+returns-in_err-end c =
+    let no : ReadsText c.args.s.now c.args.at None = c.loop-end.invariant.on _ (c.skip_simple-j.ensures.on _ (text-not c.in_default.ensures (char-none c.in_err-end.ensures))) in
+    λ f h. answer (sym c.from_residual.ensures) (no f h)
 
-pub loop-e-smaller : goal.loop-e-smaller
-loop-e-smaller c =
-    omega (arith, c.skip_simple-j.ensures.low, (char_good (char-answer c.in-Is.is c.read_char-next.ensures)).low, (char_good (char-answer c.in-Is.is c.read_char-next.ensures)).high)
+pub loop-end-smaller : goal.loop-end-smaller
+loop-end-smaller c = let g = char_good c.in_ok-end.ensures in omega (arith, c.skip_simple-j.ensures.low, g.low, g.high)
 
-pub loop-e-preserved : goal.loop-e-preserved
-loop-e-preserved c =
-    on_more c.loop-e.invariant c.skip_simple-j.ensures (answer c.in_default.is c.read_byte-quote.ensures) (char_good (char-answer c.in-Is.is c.read_char-next.ensures))
+pub loop-end-preserved : goal.loop-end-preserved
+loop-end-preserved c = on_more c.loop-end.invariant c.skip_simple-j.ensures c.in_default.ensures (char_good c.in_ok-end.ensures)

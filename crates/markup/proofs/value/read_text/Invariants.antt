@@ -5,8 +5,8 @@ use lib.ListN.{length}
 use Rattle.markup.specs.Values.{TextOn}
 use Rattle.markup.proofs.value.read_text.Given as goal
 
-abbrev pub invariant-loop-e : goal.invariant-loop-e
-invariant-loop-e l = TextOn l.s l.at l.i
+abbrev pub invariant-loop-end : goal.invariant-loop-end
+invariant-loop-end l = TextOn l.s l.at l.i
 
-abbrev pub decreases-loop-e : goal.decreases-loop-e
-decreases-loop-e l = length l.s - l.i
+abbrev pub decreases-loop-end : goal.decreases-loop-end
+decreases-loop-end l = length l.s - l.i

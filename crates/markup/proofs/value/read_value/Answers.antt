@@ -1,15 +1,16 @@
 -- `markup::value::read_value` meets its contract.
+use mathlib.Core.Path.{sym}
 use Rattle.rules.specs.Markup.{value}
-use Rattle.text.proofs.Reading.{answer, found, then, then_not, enough}
+use Rattle.text.proofs.Reading.{answer, good, then, then_not, enough}
 use Rattle.markup.proofs.value.read_value.Goals as goal
 
-pub returns-in_default : goal.returns-in_default
+pub returns-in_err-from : goal.returns-in_err-from
 unfolding value
-returns-in_default c = then_not _ _ (answer c.in_default.is c.read_byte-quote.ensures)
+returns-in_err-from c = answer (sym c.from_residual.ensures) (then_not _ _ c.in_err-from.ensures)
 
 pub read_text-requires : goal.read_text-requires
-read_text-requires c = (found c.in-At.is c.read_byte-quote.ensures).high
+read_text-requires c = (good c.in_ok-from.ensures).high
 
 pub returns : goal.returns
 unfolding value
-returns c = then _ _ (found c.in-At.is c.read_byte-quote.ensures) (λ a q. enough _ c.read_text.ensures)
+returns c = then _ _ (good c.in_ok-from.ensures) (λ a q. enough _ c.read_text.ensures)

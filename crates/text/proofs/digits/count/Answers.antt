@@ -1,5 +1,5 @@
 use Prim.Native.Nat.{◌+◌}
-use mathlib.Core.Path.{refl, sym, ◌∙◌}
+use mathlib.Core.Path.{◌≡◌, refl, sym, ◌∙◌}
 use native.Mathlib.Omega.{arith}
 use Rattle.rules.specs.Basics.{every, is_digit}
 use Rattle.text.proofs.Following.{every_more}
@@ -26,4 +26,6 @@ pub loop-n-preserved : goal.loop-n-preserved
 loop-n-preserved c = (omega arith, omega (arith, c.if-s-at.false), sym (every_more is_digit c.args.s.now c.args.at c.loop-n.n (omega (arith, c.if-s-at.false))) ∙ rw c.loop-n.invariant.2 (sym c.is_digit.ensures ∙ c.if-not-is_digit.false))
 
 pub returns : goal.returns
-returns c = record { few = c.loop-n.invariant.0; high = c.loop-n.invariant.1; digits = c.loop-n.invariant.2; stop = λ l. absurd (omega (arith, c.loop-n-test.false)) }
+returns c =
+    let e : c.loop-n.n ≡ c.args.most = omega arith in
+    record { few = omega arith; high = rw (← e) c.loop-n.invariant.1; digits = rw (← e) c.loop-n.invariant.2; stop = λ l. absurd (omega arith) }

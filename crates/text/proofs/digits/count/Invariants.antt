@@ -8,6 +8,3 @@ use Rattle.text.proofs.digits.count.Given as goal
 
 abbrev pub invariant-loop-n : goal.invariant-loop-n
 invariant-loop-n l = (l.n ≤ l.most) × (l.at + l.n ≤ length l.s) × (every is_digit (take l.n (drop l.at l.s)) ≡ true)
-
-abbrev pub decreases-loop-n : goal.decreases-loop-n
-decreases-loop-n l = l.most - l.n

@@ -8,6 +8,3 @@ use Rattle.text.proofs.digits.read.Given as goal
 
 abbrev pub invariant-loop-k : goal.invariant-loop-k
 invariant-loop-k l = (l.k ≤ l.n) × (every is_digit (take l.k (drop l.at l.s)) ≡ true) × (l.total ≡ decimal (take l.k (drop l.at l.s)))
-
-abbrev pub decreases-loop-k : goal.decreases-loop-k
-decreases-loop-k l = l.n - l.k

@@ -2,7 +2,6 @@
 use mathlib.Core.Path.{refl}
 use mathlib.Core.List.{[]}
 use native.Mathlib.Omega.{arith}
-use Rattle.timestamp.proofs.Reading.{found, missing}
 use Rattle.timestamp.proofs.Parting.{count_more, parts-stop, parts_last, parts_more}
 use Rattle.timestamp.proofs.form.read_parts.Goals as goal
 
@@ -13,13 +12,13 @@ pub read-requires : goal.read-requires
 read-requires c = record { fact_1 = omega arith; fact_2 = c.loop-part.invariant.0.high }
 
 pub returns-in_default : goal.returns-in_default
-returns-in_default c = parts-stop c.args.s.now c.loop-part.p c.loop-part.invariant.0 (omega (arith, c.loop-part.invariant.1, c.loop-part-test.true)) (missing c.args.s.now c.loop-part.p.end 2 c.read.result c.read.ensures c.in_default.is)
+returns-in_default c = parts-stop c.args.s.now c.loop-part.p c.loop-part.invariant.0 (omega (arith, c.loop-part.invariant.1, c.loop-part-test.true)) c.in_default.ensures
 
 pub with_next-p-requires : goal.with_next-p-requires
-with_next-p-requires c = record { fact_1 = omega (arith, c.loop-part.invariant.1, c.loop-part-test.true); fact_2 = omega (arith, (found c.args.s.now c.loop-part.p.end 2 c.read.result _ c.read.ensures c.in-Is.is).0) }
+with_next-p-requires c = record { fact_1 = omega (arith, c.loop-part.invariant.1, c.loop-part-test.true); fact_2 = omega (arith, c.in-Some.ensures.0) }
 
 pub loop-part-preserved : goal.loop-part-preserved
-loop-part-preserved c = (parts_more c.args.s.now c.loop-part.p c.loop-part.invariant.0 _ c.with_next-p.result (omega (arith, c.loop-part.invariant.1, c.loop-part-test.true)) (found c.args.s.now c.loop-part.p.end 2 c.read.result _ c.read.ensures c.in-Is.is) (c.with_next-p.ensures c.loop-part.invariant.0.list c.loop-part.invariant.0.parts), omega (arith, count_more c.args.s.now c.loop-part.p c.loop-part.invariant.0 _ c.with_next-p.result (c.with_next-p.ensures c.loop-part.invariant.0.list c.loop-part.invariant.0.parts), c.loop-part.invariant.1))
+loop-part-preserved c = (parts_more c.args.s.now c.loop-part.p c.loop-part.invariant.0 _ c.with_next-p.result (omega (arith, c.loop-part.invariant.1, c.loop-part-test.true)) c.in-Some.ensures (c.with_next-p.ensures c.loop-part.invariant.0.list c.loop-part.invariant.0.parts), omega (arith, count_more c.args.s.now c.loop-part.p c.loop-part.invariant.0 _ c.with_next-p.result (c.with_next-p.ensures c.loop-part.invariant.0.list c.loop-part.invariant.0.parts), c.loop-part.invariant.1))
 
 pub returns : goal.returns
 returns c = parts_last c.args.s.now c.loop-part.p c.loop-part.invariant.0 (omega (arith, c.loop-part.invariant.1, c.loop-part-test.false))

@@ -18,12 +18,6 @@ returns-then-is_bad c =
     let (few, below) = not_early c.args.t c.is_over_counted.result c.is_over_counted.ensures c.if-t-is_over_counted.false in
     damaged-row c.args.t g few c.loop-k.k c.loop-k-test.true (sym c.is_bad.ensures ∙ c.if-is_bad.true)
 
-pub overflow_add-k : goal.overflow_add-k
-overflow_add-k c = omega (arith, c.loop-k-test.true, not_early c.args.t c.is_over_counted.result c.is_over_counted.ensures c.if-t-is_over_counted.false)
-
-pub loop-k-smaller : goal.loop-k-smaller
-loop-k-smaller c = omega (arith, c.loop-k-test.true)
-
 pub loop-k-preserved : goal.loop-k-preserved
 loop-k-preserved c = (omega (arith, c.loop-k-test.true), not-bad_more c.args.t.rows c.loop-k.k c.loop-k.invariant.1 (sym c.is_bad.ensures ∙ c.if-is_bad.false))
 

@@ -5,6 +5,3 @@ use Rattle.totals.proofs.damage.is_damaged.Given as goal
 
 abbrev pub invariant-loop-k : goal.invariant-loop-k
 invariant-loop-k l = (l.k ≤ l.t.held) × ((j : ℕ) → j < l.k → is_bad l.t.rows j ≡ false)
-
-abbrev pub decreases-loop-k : goal.decreases-loop-k
-decreases-loop-k l = l.t.held - l.k

@@ -17,12 +17,6 @@ returns-then-t-k c =
     let g : length c.args.t.rows ≡ 16 = search length_mapped in
     found c.args.currency c.args.t.rows c.args.n c.loop-k.k (omega (arith, c.requires)) c.loop-k.invariant.1 c.loop-k-test.true c.if-t-k.true
 
-pub overflow_add-k : goal.overflow_add-k
-overflow_add-k c = omega (arith, c.requires, c.loop-k-test.true)
-
-pub loop-k-smaller : goal.loop-k-smaller
-loop-k-smaller c = omega (arith, c.loop-k-test.true)
-
 pub loop-k-preserved : goal.loop-k-preserved
 loop-k-preserved c =
     let g : length c.args.t.rows ≡ 16 = search length_mapped in

@@ -5,6 +5,3 @@ use Rattle.totals.proofs.damage.place_of.Given as goal
 
 abbrev pub invariant-loop-k : goal.invariant-loop-k
 invariant-loop-k l = (l.k ≤ l.n) × (place_of l.currency (take l.n l.t.rows) ≡ l.k + place_of l.currency (drop l.k (take l.n l.t.rows)))
-
-abbrev pub decreases-loop-k : goal.decreases-loop-k
-decreases-loop-k l = l.n - l.k

@@ -21,12 +21,6 @@ bounds-numbers-k c = omega (arith, c.loop-k-test.true, c.requires)
 pub returns-then-not-is_desk : goal.returns-then-not-is_desk
 returns-then-not-is_desk c = stray c.args.numbers.now _ c.loop-k.k c.loop-k.invariant c.loop-k-test.true c.is_desk.ensures (ap not c.if-not-is_desk.true)
 
-pub overflow_add-k-in-loop-k : goal.overflow_add-k-in-loop-k
-overflow_add-k-in-loop-k c = omega (arith, c.loop-k-test.true, c.requires)
-
-pub loop-k-smaller : goal.loop-k-smaller
-loop-k-smaller c = omega (arith, c.loop-k-test.true, c.requires)
-
 pub loop-k-preserved : goal.loop-k-preserved
 loop-k-preserved c = more c.args.numbers.now _ c.loop-k.k c.loop-k.invariant c.loop-k-test.true c.is_desk.ensures (ap not c.if-not-is_desk.false)
 

@@ -43,12 +43,6 @@ offset_bounds-numbers-k c = omega (arith, c.loop-k-test.true, c.requires.fact_2)
 pub bounds-numbers-k : goal.bounds-numbers-k
 bounds-numbers-k c = omega (arith, c.loop-k-test.true, c.requires.fact_2)
 
-pub overflow_add-k-then-numbers-k : goal.overflow_add-k-then-numbers-k
-overflow_add-k-then-numbers-k c = omega (arith, c.loop-k-test.true, c.requires.fact_2)
-
-pub loop-k-smaller-then-numbers-k : goal.loop-k-smaller-then-numbers-k
-loop-k-smaller-then-numbers-k c = omega (arith, c.loop-k-test.true, c.requires.fact_2)
-
 pub loop-k-preserved-then-numbers-k : goal.loop-k-preserved-then-numbers-k
 loop-k-preserved-then-numbers-k c = skip c.args.numbers.now c.args.desk _ c.loop-k.t c.loop-k.k c.loop-k.invariant c.loop-k-test.true c.if-numbers-k.true
 
@@ -87,12 +81,6 @@ bounds-t-t c = omega (arith, c.if-t-eq-ROWS.false, c.loop-k.invariant.few)
 
 pub overflow_add-t-in-loop-k-3 : goal.overflow_add-t-in-loop-k-3
 overflow_add-t-in-loop-k-3 c = omega (arith, c.if-t-eq-ROWS.false, c.loop-k.invariant.few)
-
-pub overflow_add-k-in-loop-k : goal.overflow_add-k-in-loop-k
-overflow_add-k-in-loop-k c = omega (arith, c.loop-k-test.true, c.requires.fact_2)
-
-pub loop-k-smaller : goal.loop-k-smaller
-loop-k-smaller c = omega (arith, c.loop-k-test.true, c.requires.fact_2)
 
 pub loop-k-preserved : goal.loop-k-preserved
 loop-k-preserved c = more c.args.numbers.now c.args.desk _ c.loop-k.t c.loop-k.k c.loop-k.invariant c.loop-k-test.true c.if-numbers-k.false (omega (arith, c.if-t-eq-ROWS.false, c.loop-k.invariant.few)) (bits_at c.args.numbers.now c.requires.fact_1.bits (9 + 3 * c.loop-k.k))

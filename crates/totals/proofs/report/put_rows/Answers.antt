@@ -36,12 +36,6 @@ offset_bounds-out-k-in-loop-k c = omega (arith, c.loop-k-test.true, c.requires.f
 pub bounds-out-k-in-loop-k : goal.bounds-out-k-in-loop-k
 bounds-out-k-in-loop-k c = rw length-set (omega (arith, c.loop-k-test.true, c.requires, c.loop-k.invariant.same_room))
 
-pub overflow_add-k : goal.overflow_add-k
-overflow_add-k c = omega (arith, c.loop-k-test.true, c.requires.fact_1)
-
-pub loop-k-smaller : goal.loop-k-smaller
-loop-k-smaller c = omega (arith, c.loop-k-test.true)
-
 pub loop-k-preserved : goal.loop-k-preserved
 loop-k-preserved c =
     let g : length c.args.t.rows ≡ 16 = search length_mapped in

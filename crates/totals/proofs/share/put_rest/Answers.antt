@@ -18,12 +18,6 @@ put_row-requires c = record { fact_1 = c.loop-i.invariant.room; fact_2 = omega (
 pub overflow_add-at : goal.overflow_add-at
 overflow_add-at c = omega (arith, c.loop-i.invariant.place, c.loop-i-test.true, c.requires)
 
-pub overflow_add-i : goal.overflow_add-i
-overflow_add-i c = omega (arith, c.loop-i.invariant.place, c.loop-i-test.true, c.requires)
-
-pub loop-i-smaller : goal.loop-i-smaller
-loop-i-smaller c = omega (arith, c.loop-i.invariant.place, c.loop-i-test.true, c.requires)
-
 pub loop-i-preserved : goal.loop-i-preserved
 loop-i-preserved c =
     let g : length c.args.t.rows ≡ 16 = search length_mapped in

@@ -5,6 +5,3 @@ use Rattle.totals.proofs.share.put_rest.Given as goal
 
 abbrev pub invariant-loop-i : goal.invariant-loop-i
 invariant-loop-i l = RestSoFar l.initial.numbers l.desk l.t l.j l.k l.numbers l.i l.at
-
-abbrev pub decreases-loop-i : goal.decreases-loop-i
-decreases-loop-i l = l.t.held - l.i

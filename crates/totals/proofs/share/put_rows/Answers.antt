@@ -47,25 +47,13 @@ put_row-requires c =
     let g : length c.args.t.rows ≡ 16 = search length_mapped in
     record { fact_1 = c.loop-i.invariant.room; fact_2 = put-room c.args.numbers.now c.args.desk _ c.args.t g c.requires.fact_3 c.requires.fact_4 c.loop-i.numbers c.loop-i.i c.loop-i.j c.loop-i.k c.loop-i.invariant _ _ (other-next c.args.numbers.now c.args.desk _ c.args.t g c.requires.fact_3 c.requires.fact_4 c.loop-i.numbers c.loop-i.i c.loop-i.j c.loop-i.k c.loop-i.invariant c.loop-i-test.true c.if-owner-desk.true) }
 
-pub overflow_add-i : goal.overflow_add-i
-overflow_add-i c = omega (arith, c.loop-i-test.true, c.loop-i.invariant.behind, c.requires.fact_2)
-
 pub overflow_add-j : goal.overflow_add-j
 overflow_add-j c = omega (arith, c.loop-i-test.true, c.loop-i.invariant.behind, c.requires.fact_2)
-
-pub loop-i-smaller-then-owner-desk : goal.loop-i-smaller-then-owner-desk
-loop-i-smaller-then-owner-desk c = omega (arith, c.loop-i-test.true, c.loop-i.invariant.behind, c.requires.fact_2)
 
 pub loop-i-preserved-then-owner-desk : goal.loop-i-preserved-then-owner-desk
 loop-i-preserved-then-owner-desk c =
     let g : length c.args.t.rows ≡ 16 = search length_mapped in
     rw c.put_row.ensures (put_other c.args.numbers.now c.args.desk _ c.args.t g c.requires.fact_3 c.requires.fact_4 c.loop-i.numbers c.loop-i.i c.loop-i.j c.loop-i.k c.loop-i.invariant c.loop-i-test.true c.if-owner-desk.true)
-
-pub overflow_add-i-in-loop-i : goal.overflow_add-i-in-loop-i
-overflow_add-i-in-loop-i c = omega (arith, c.loop-i-test.true, c.loop-i.invariant.behind, c.requires.fact_2)
-
-pub loop-i-smaller-then-k-t : goal.loop-i-smaller-then-k-t
-loop-i-smaller-then-k-t c = omega (arith, c.loop-i-test.true, c.loop-i.invariant.behind, c.requires.fact_2)
 
 pub loop-i-preserved-then-k-t : goal.loop-i-preserved-then-k-t
 loop-i-preserved-then-k-t c =
@@ -88,9 +76,6 @@ overflow_add-j-in-loop-i c = omega (arith, c.loop-i-test.true, c.loop-i.invarian
 
 pub overflow_add-k : goal.overflow_add-k
 overflow_add-k c = omega (arith, c.if-k-t.false, c.loop-i.invariant.mine, c.requires.fact_3)
-
-pub loop-i-smaller : goal.loop-i-smaller
-loop-i-smaller c = omega (arith, c.loop-i-test.true, c.loop-i.invariant.behind, c.requires.fact_2)
 
 pub loop-i-preserved : goal.loop-i-preserved
 loop-i-preserved c =

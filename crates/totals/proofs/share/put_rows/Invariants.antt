@@ -5,6 +5,3 @@ use Rattle.totals.proofs.share.put_rows.Given as goal
 
 abbrev pub invariant-loop-i : goal.invariant-loop-i
 invariant-loop-i l = SoFar l.initial.numbers l.desk l.held l.t l.numbers l.i l.j l.k
-
-abbrev pub decreases-loop-i : goal.decreases-loop-i
-decreases-loop-i l = l.held - l.i
