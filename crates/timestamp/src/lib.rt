@@ -125,6 +125,7 @@ fn unit_ticks(year: u64, month: u64, parts: usize, digits: usize) -> u64
 }
 
 // The moment of what is written.
+#[inline(always)]
 fn make_moment(w: Written, shift: u64) -> Moment
     requires { Possible shift w }
     ensures { result ≡ moment_written shift w }
