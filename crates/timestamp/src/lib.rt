@@ -1,7 +1,7 @@
 // Timestamps: from a text to a tick, its precision and its span.
 #![tactic(auto)]
 
-ghost use Rattle.std.specs.Prelude.{◌≡◌, true, List, ℕ, Some, ◌+◌, ◌-◌, ◌*◌, ◌^◌, ◌≤◌, ◌<◌};
+ghost use Rattle.std.specs.Prelude.{◌≡◌, true, ◌+◌, ◌-◌, ◌*◌, ◌^◌, ◌≤◌, ◌<◌};
 ghost use Rattle.rules.specs.Basics.{is_from};
 ghost use Rattle.rules.specs.Timestamp.{is_offset_time, is_zone, shift_of, read_timestamp};
 ghost use Rattle.timestamp.specs.Written.{zone_of, SmallZone, FormOf};
@@ -125,7 +125,6 @@ fn unit_ticks(year: u64, month: u64, parts: usize, digits: usize) -> u64
 }
 
 // The moment of what is written.
-#[inline(always)]
 fn make_moment(w: Written, shift: u64) -> Moment
     requires { Possible shift w }
     ensures { result ≡ moment_written shift w }
@@ -142,14 +141,20 @@ fn make_moment(w: Written, shift: u64) -> Moment
     }
 }
 
-// The moment of what is written: an impossible date is DATE, else an impossible clock CLOCK, else an impossible offset ZONE. It is built into
-// both ways that lead to it, since of fourteen digits most of it is known.
-#[inline(always)]
-fn possible_moment(w: Written, shift: u64) -> Result<Moment, Refusal>
-    requires fact_1 { shift ≤ 1680 }
-    requires fact_2 { (s : List ℕ) × FormOf s (Some w) }
-    ensures { (s : List ℕ) → FormOf s (Some w) → outcome_of result ≡ read_timestamp shift s }
+// What is written in a text of the form of a timestamp. Fourteen digits go a shorter way to the same answer.
+fn written(text: &[u8]) -> Option<Written>
+    ensures { FormOf text.now result }
 {
+    fourteen::read(text).or_else(|| form::read_form(text))
+}
+
+// Reads a text as a timestamp; `shift` is 840 less the agreed offset in minutes. A text of the wrong form is VALUE. Of one of the right
+// form an impossible date is DATE, else an impossible clock CLOCK, else an impossible offset ZONE.
+pub fn read(text: &[u8], shift: u64) -> Result<Moment, Refusal>
+    requires { shift ≤ 1680 }
+    ensures { outcome_of result ≡ read_timestamp shift text.now }
+{
+    let w = written(text).ok_or(Refusal::Value)?;
     let p = w.parts;
     if !is_date(w.year, p.month, p.day) {
         return Err(Refusal::Date);
@@ -161,17 +166,4 @@ fn possible_moment(w: Written, shift: u64) -> Result<Moment, Refusal>
         return Err(Refusal::Zone);
     }
     Ok(make_moment(w, shift))
-}
-
-// Reads a text as a timestamp; `shift` is 840 less the agreed offset in minutes. A text of the wrong form is VALUE. Fourteen digits go a shorter
-// way to the same answer.
-pub fn read(text: &[u8], shift: u64) -> Result<Moment, Refusal>
-    requires { shift ≤ 1680 }
-    ensures { outcome_of result ≡ read_timestamp shift text.now }
-{
-    if let Some(w) = fourteen::read(text) {
-        return possible_moment(w, shift);
-    }
-    let w = form::read_form(text).ok_or(Refusal::Value)?;
-    possible_moment(w, shift)
 }
