@@ -3,9 +3,9 @@ ghost use Rattle.std.specs.Prelude.{◌≡◌, List, ℕ, ◌≤◌, length, dro
 ghost use Rattle.rules.specs.Basics.{bytes};
 ghost use Rattle.rules.specs.Parsers.{ok};
 ghost use Rattle.rules.specs.Markup.{Attribute, value, lookup};
-ghost use Rattle.rules.specs.Types.{member_types, all_types, type_among};
+ghost use Rattle.rules.specs.Types.{type_among};
 ghost use Rattle.element.specs.Tags.{Place};
-ghost use Rattle.datatype.specs.Meaning.{type_meant, named_among, types_for};
+ghost use Rattle.datatype.specs.Meaning.{type_meant, Names, kinds_of, named_among, types_for};
 
 use text::words::stands_at;
 
@@ -25,48 +25,31 @@ pub enum Kind {
     Part,
 }
 
-// The type that the value at a position names, where a member of a set may be of it: an IVL_TS or a set type. No byte of a name can be written as
-// a reference, so the value is the name exactly if that stands there, in its quotes.
-fn named_member(s: &[u8], at: usize) -> Option<Kind>
+// The types by their names as values, in quotes: those that a record may have, of which the last four may be a member of a set.
+const TYPES: [(&[u8], Kind); 9] = [
+    (b"\"TS\"", Kind::Ts),
+    (b"\"MO\"", Kind::Mo),
+    (b"\"II\"", Kind::Ii),
+    (b"\"CD\"", Kind::Cd),
+    (b"\"EN\"", Kind::En),
+    (b"\"IVL_TS\"", Kind::IvlTs),
+    (b"\"QSU_TS\"", Kind::QsuTs),
+    (b"\"QSI_TS\"", Kind::QsiTs),
+    (b"\"QSD_TS\"", Kind::QsdTs),
+];
+
+// The type, among some by their names, that the value at a position names. No byte of a name can be written as a reference, so the value is
+// the name exactly if that stands there, in its quotes.
+fn named(s: &[u8], at: usize, types: &[(&[u8], Kind)]) -> Option<Kind>
     requires { at ≤ length s.now }
-    ensures { (v after : List ℕ) → value (drop at s.now) ≡ ok v after → type_meant result ≡ named_among member_types v }
+    ensures { (v after : List ℕ) → value (drop at s.now) ≡ ok v after → Names types.now → type_meant result ≡ named_among (kinds_of types.now) v }
 {
-    if stands_at(s, at, b"\"IVL_TS\"") {
-        return Some(Kind::IvlTs);
-    }
-    if stands_at(s, at, b"\"QSU_TS\"") {
-        return Some(Kind::QsuTs);
-    }
-    if stands_at(s, at, b"\"QSI_TS\"") {
-        return Some(Kind::QsiTs);
-    }
-    if stands_at(s, at, b"\"QSD_TS\"") {
-        return Some(Kind::QsdTs);
+    for (name, kind) in types {
+        if stands_at(s, at, name) {
+            return Some(*kind);
+        }
     }
     None
-}
-
-// The type that the value at a position names.
-fn named_type(s: &[u8], at: usize) -> Option<Kind>
-    requires { at ≤ length s.now }
-    ensures { (v after : List ℕ) → value (drop at s.now) ≡ ok v after → type_meant result ≡ named_among all_types v }
-{
-    if stands_at(s, at, b"\"TS\"") {
-        return Some(Kind::Ts);
-    }
-    if stands_at(s, at, b"\"MO\"") {
-        return Some(Kind::Mo);
-    }
-    if stands_at(s, at, b"\"II\"") {
-        return Some(Kind::Ii);
-    }
-    if stands_at(s, at, b"\"CD\"") {
-        return Some(Kind::Cd);
-    }
-    if stands_at(s, at, b"\"EN\"") {
-        return Some(Kind::En);
-    }
-    named_member(s, at)
 }
 
 // The type that an element names whose `xsi:type` has its value at a place: one that a record may have, or one that a member of a set may have.
@@ -78,8 +61,8 @@ pub fn type_at(s: &[u8], place: usize, top: bool) -> Option<Kind>
         return None;
     }
     if top {
-        named_type(s, place)
+        named(s, place, &TYPES)
     } else {
-        named_member(s, place)
+        named(s, place, &TYPES[5..])
     }
 }

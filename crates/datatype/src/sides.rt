@@ -4,7 +4,7 @@ ghost use Rattle.rules.specs.Basics.{bytes};
 ghost use Rattle.rules.specs.Markup.{Element};
 ghost use Rattle.element.specs.Tags.{TagOf, TagIn};
 ghost use Rattle.datatype.specs.Said.{said_meant, said_named};
-ghost use Rattle.datatype.specs.Sides.{Settled, Passes};
+ghost use Rattle.datatype.specs.Sides.{Passes};
 
 use crate::said::{Said, time_of};
 use element::inside::{Inside, next_inside};
@@ -21,21 +21,13 @@ pub struct Sides {
     pub end: usize,
 }
 
-// The first child of a name: whether it was passed, and what it says.
-#[derive(Clone, Copy)]
-struct First {
-    seen: bool,
-    said: Said,
-}
-
-// What is known of the first child of a name after one child more.
-fn after_child(s: &[u8], child: Tag, shift: u64, name: &[u8], first: First) -> First
+// What the first child of a name says, if it was passed, after one child more.
+fn after_child(s: &[u8], child: Tag, shift: u64, name: &[u8], first: Option<Said>) -> Option<Said>
     requires fact_1 { TagIn s.now child }
     requires fact_2 { shift ≤ 1680 }
-    ensures settled { Settled first → Settled result }
-    ensures tells { (d : ℕ) (v : Element) (after : List ℕ) → TagOf s.now d v after child → Passes shift name.now v first result }
+    ensures { (d : ℕ) (v : Element) (after : List ℕ) → TagOf s.now d v after child → Passes shift name.now v first result }
 {
-    if first.seen {
+    if first.is_some() {
         return first;
     }
     let from = child.name;
@@ -44,8 +36,7 @@ fn after_child(s: &[u8], child: Tag, shift: u64, name: &[u8], first: First) -> F
         return first;
     }
     let time = time_of(s, child, shift);
-    let said = time.said;
-    First { seen: true, said }
+    Some(time.said)
 }
 
 // What the first child named low, and the first named high, say in the element of a tag, where `depth` may be open at once.
@@ -55,12 +46,8 @@ pub fn read_sides(s: &[u8], tag: Tag, depth: usize, shift: u64) -> Sides
     ensures within { (tag.end ≤ result.end) × (result.end ≤ length s.now) }
     ensures tells { (v : Element) (after : List ℕ) → TagOf s.now depth v after tag → (said_meant result.low ≡ said_named shift (bytes "low") v.kids) × (said_meant result.high ≡ said_named shift (bytes "high") v.kids) × (after ≡ drop result.end s.now) }
 {
-    let none = First {
-        seen: false,
-        said: Said::Nothing,
-    };
-    let mut low = none;
-    let mut high = none;
+    let mut low = None;
+    let mut high = None;
     let mut at = tag.end;
     loop {
         let next = next_inside(s, tag.full, tag.name, tag.past, depth, at);
@@ -72,8 +59,8 @@ pub fn read_sides(s: &[u8], tag: Tag, depth: usize, shift: u64) -> Sides
                 at = past_element(s, child, depth - 1);
             }
             Inside::Past(end) => {
-                let first = low.said;
-                let last = high.said;
+                let first = low.unwrap_or(Said::Nothing);
+                let last = high.unwrap_or(Said::Nothing);
                 return Sides {
                     low: first,
                     high: last,

@@ -6,7 +6,7 @@ ghost use Rattle.rules.specs.Markup.{value};
 ghost use Rattle.rules.specs.Forms.{is_qualifiers};
 ghost use Rattle.form.specs.Words.{along_by, is_qualifier};
 
-use crate::parts::{Part, are_parts, is_word};
+use crate::parts::{are_parts, is_word};
 use element::value::{next, start};
 
 // How many bytes of w the current word of a text has after one byte more, where it had k before: none after a space; past the end of w if it
@@ -55,5 +55,5 @@ pub fn is_qualifier(w: &[u8]) -> bool
 pub fn is_qualifiers(t: &[u8]) -> bool
     ensures { result ≡ is_qualifiers t.now }
 {
-    are_parts(t, b' ', Part::Qualifier)
+    are_parts(t, b' ', is_qualifier)
 }

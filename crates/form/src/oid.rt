@@ -3,7 +3,7 @@ ghost use Rattle.std.specs.Prelude.{◌≡◌, true, ◌&&◌, ◌||◌, ◌<◌
 ghost use Rattle.rules.specs.Basics.{decimal};
 ghost use Rattle.rules.specs.Forms.{is_plain_number, is_root};
 
-use crate::parts::{Part, are_parts, part_end};
+use crate::parts::{are_parts, part_end};
 use text::digits;
 
 // The most bytes of an OID.
@@ -59,7 +59,7 @@ pub fn is_root(t: &[u8]) -> bool
     if MOST < t.len() {
         return false;
     }
-    if !are_parts(t, b'.', Part::Number) {
+    if !are_parts(t, b'.', is_number) {
         return false;
     }
     let first = part_end(t, 0, b'.');

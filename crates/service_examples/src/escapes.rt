@@ -85,10 +85,8 @@ fn put_group(group: &[u8], out: &mut [u8], at: usize) -> usize
     let count = numbers::number(lines::between(group, 0, space));
     let text = lines::after(group, space, 1);
     let mut n = at;
-    let mut k = 0;
-    while k < count {
+    for _ in 0..count {
         n = put(text, out, n);
-        k += 1;
     }
     n
 }
@@ -108,11 +106,8 @@ pub(crate) fn decode(text: &[u8], out: &mut [u8]) -> usize
     ensures { IsPrefixLen result out.new }
 {
     let mut n = 0;
-    let mut i = 0;
-    while i < text.len() {
-        let close = lines::position(text, i, b'}');
-        n = put_part(&text[i..close], out, n);
-        i = close + 1;
+    for part in text.split(|b| *b == b'}') {
+        n = put_part(part, out, n);
     }
     n
 }

@@ -6,14 +6,12 @@ pub(crate) fn position(s: &[u8], from: usize, byte: u8) -> usize
     requires { from ≤ length s.now }
     ensures { (from ≤ result) × (result ≤ length s.now) }
 {
-    let mut i = from;
-    while i < s.len() {
+    for i in from..s.len() {
         if s[i] == byte {
             return i;
         }
-        i += 1;
     }
-    i
+    s.len()
 }
 
 // The byte at a position, or 0 where the text has none.

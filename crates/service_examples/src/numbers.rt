@@ -3,18 +3,11 @@ ghost use Rattle.std.specs.Prelude.{◌≡◌, ◌+◌, ◌<◌, ◌≤◌, leng
 
 use crate::lines;
 
-fn wide(byte: u8) -> u64 {
-    byte as u64
-}
-
 // The number that digits write.
 fn digits(word: &[u8]) -> u64 {
     let mut n: u64 = 0;
-    let mut i = 0;
-    while i < word.len() {
-        let ten = std::num::wrapping_add_u64(n << 3, n << 1);
-        n = std::num::wrapping_add_u64(ten, wide(word[i] % 16));
-        i += 1;
+    for digit in word {
+        n = n.wrapping_mul(10).wrapping_add(u64::from(digit % 16));
     }
     n
 }
@@ -37,13 +30,8 @@ fn place(k: usize) -> usize
 // The numbers that words write, after what stands before the first space; those that are missing are 0.
 pub(crate) fn read(words: &[u8]) -> [u64; 136] {
     let mut list = [0u64; 136];
-    let mut k = 0;
-    let mut i = lines::position(words, 0, b' ');
-    while i < words.len() {
-        let e = lines::position(words, i + 1, b' ');
-        list[place(k)] = number(&words[i + 1..e]);
-        k += 1;
-        i = e;
+    for (k, word) in words.split(|b| *b == b' ').skip(1).enumerate() {
+        list[place(k)] = number(word);
     }
     list
 }
@@ -52,62 +40,40 @@ pub(crate) fn read(words: &[u8]) -> [u64; 136] {
 pub(crate) fn difference(a: [u64; 136], b: [u64; 136]) -> usize
     ensures { result ≤ 136 }
 {
-    let mut k = 0;
-    while k < 136 {
+    for k in 0..136 {
         if a[k] != b[k] {
             return k;
         }
-        k += 1;
     }
-    k
+    136
 }
 
 // A number as a signed one.
 pub(crate) fn signed(n: u64) -> i64 {
-    if n < 9_223_372_036_854_775_808 {
-        n as i64
-    } else {
-        -1 - ((18_446_744_073_709_551_615 - n) as i64)
-    }
+    n.cast_signed()
 }
 
 // A signed number in two's complement.
 pub(crate) fn complement(n: i64) -> u64 {
-    if n < 0 {
-        18_446_744_073_709_551_615 - ((-1 - n) as u64)
-    } else {
-        n as u64
-    }
+    n.cast_unsigned()
 }
 
 // The number in eight bytes at a position, lowest first.
 pub(crate) fn number_at(list: &[u8], at: usize) -> u64
     requires { at + 8 ≤ length list.now }
 {
-    let mut n: u64 = 0;
-    let mut k = 8;
-    while 0 < k {
-        k -= 1;
-        n = (n << 8) | wide(list[at + k]);
-    }
-    n
-}
-
-// A byte of a number, lowest first.
-fn number_byte(n: u64, k: usize) -> u8
-    requires { k < 8 }
-{
-    ((n >> (8 * k)) % 256) as u8
+    let mut bytes = [0; 8];
+    bytes.copy_from_slice(&list[at..at + 8]);
+    u64::from_le_bytes(bytes)
 }
 
 // Puts the numbers of a list from the third on in eight bytes each, lowest first.
 pub(crate) fn put_bytes(list: [u64; 136], out: &mut [u8])
     ensures { length out.new ≡ length out.old }
 {
-    let mut i = 0;
-    while i < out.len() {
-        out[i] = number_byte(list[place(i / 8 + 2)], i % 8);
-        i += 1;
+    for (i, byte) in out.iter_mut().enumerate() {
+        let number = list[place(i / 8 + 2)].to_le_bytes();
+        *byte = number[i % 8];
     }
 }
 

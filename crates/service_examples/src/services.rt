@@ -68,10 +68,8 @@ fn written(number: u64, count: u64) -> usize {
 fn with_list(answer: [u64; 136], list: &[u8; 1056]) -> [u64; 136] {
     let mut given = answer;
     let count = written(given[0], given[1]);
-    let mut k = 0;
-    while k < 132 {
+    for k in 0..132 {
         given[k + 2] = lent(numbers::number_at(list, 8 * k), k < count);
-        k += 1;
     }
     given
 }
@@ -99,12 +97,10 @@ fn byte_due(due: &[u8], at: usize) -> u8 {
 
 // Where a lent record is first not as due, counted from 1, and 0 if it is as due.
 fn difference(record: &[u8; 5000], due: &[u8]) -> u64 {
-    let mut i = 0;
-    while i < 5000 {
+    for i in 0..5000 {
         if record[i] != byte_due(due, i) {
             return (i as u64) + 1;
         }
-        i += 1;
     }
     0
 }

@@ -6,6 +6,3 @@ use Rattle.form.proofs.parts.part_end.Given as goal
 
 abbrev pub invariant-loop-i : goal.invariant-loop-i
 invariant-loop-i l = (l.i ≤ length l.t) × ((e : ℕ) → PartAt l.b l.t l.i e → PartAt l.b l.t l.from e)
-
-abbrev pub decreases-loop-i : goal.decreases-loop-i
-decreases-loop-i l = length l.t - l.i

@@ -1,9 +1,6 @@
--- `service_examples::escapes::decode` meets its contract. The measure is what is left of the text.
+-- `service_examples::escapes::decode` meets its contract.
 use Rattle.std.proofs.Common.{◌≡◌, ◌-◌, ◌≤◌, length}
 use Rattle.service_examples.proofs.escapes.decode.Given as goal
 
-abbrev pub invariant-loop-i : goal.invariant-loop-i
-invariant-loop-i l = (l.n ≤ length l.out) × (length l.out ≡ length l.initial.out)
-
-abbrev pub decreases-loop-i : goal.decreases-loop-i
-decreases-loop-i l = length l.text - l.i
+abbrev pub invariant-loop-part : goal.invariant-loop-part
+invariant-loop-part l = (l.n ≤ length l.out) × (length l.out ≡ length l.initial.out)

@@ -1,9 +1,0 @@
--- `service_examples::services::difference` is safe and ends.
-use Rattle.std.proofs.Common.{◌-◌, ◌≤◌}
-use Rattle.service_examples.proofs.services.difference.Given as goal
-
-abbrev pub invariant-loop-i : goal.invariant-loop-i
-invariant-loop-i l = l.i ≤ 5000
-
-abbrev pub decreases-loop-i : goal.decreases-loop-i
-decreases-loop-i l = 5000 - l.i
