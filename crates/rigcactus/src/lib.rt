@@ -236,10 +236,7 @@ fn read_money(record: &[u8], offset: i64) -> Result<Option<Money>, Refusal>
     }
     let checked = judge::check(record, shift_of(offset));
     let held = checked.record;
-    let fault = typed_fault(checked, entry::is_money(held));
-    if let Err(r) = fault {
-        return Err(r);
-    }
+    typed_fault(checked, entry::is_money(held))?;
     Ok(entry::read(record, held))
 }
 
