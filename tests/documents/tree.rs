@@ -125,9 +125,13 @@ impl Tree {
                 "mod" if public => {
                     self.open.insert(format!("{module}::{}", words.next().unwrap()));
                 }
+                // One item of a module, or a group of them.
                 "use" if public => {
                     let path: Vec<&str> = words.collect();
-                    self.handed_on.push((format!("{module}::{}", path[path.len() - 1]), format!("{module}::{}", path.join("::"))));
+                    let stem = if line.contains('{') { line.matches("::").count() } else { path.len() - 1 };
+                    for name in &path[stem..] {
+                        self.handed_on.push((format!("{module}::{name}"), format!("{module}::{}::{name}", path[..stem].join("::"))));
+                    }
                 }
                 "impl" => within = format!("::{}", words.next().unwrap()),
                 "fn" | "extern" => {
