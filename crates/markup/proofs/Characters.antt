@@ -1,6 +1,6 @@
 -- The characters of a value, one at a time and up to the quote that ends them.
 use Rattle.std.specs.Prelude.{Option, Some, None}
-use Prim.Native.Nat.{ℕ, zero, suc, ◌+◌, ◌-◌, ◌≤◌, ◌<◌}
+use Prim.Native.Nat.{ℕ, zero, suc, ◌+◌, ◌≤◌, ◌<◌}
 use mathlib.Core.Path.{◌≡◌, refl, sym, subst}
 use mathlib.Core.Bool.{Bool, true, false, not, ◌&&◌}
 use mathlib.Core.List.{List}
@@ -112,13 +112,3 @@ module _ (s : List ℕ) (i : ℕ) (h : i < length s) (e : is_simple (get_or s i 
 
   pub on_simple : {at : ℕ} → TextOn s at i → TextOn s at (i + 1)
   on_simple a = on_more a (on_none s i (omega arith)) not_quote (char_good simple_char)
-
--- simple bytes, one after another
-on_run : (s : List ℕ) (n : ℕ) {at e : ℕ} → at + n ≡ e → e ≤ length s → ((i : ℕ) → at ≤ i → i < e → true ≡ is_simple (get_or s i 0)) → TextOn s at e
-on_run s zero {at} {e} q h f = let z : e ≡ at = omega arith in rw z (on_none s at (omega arith))
-on_run s (suc n) {at} {e} q h f =
-    let z : e ≡ at + n + 1 = omega arith in
-    rw z (on_simple s (at + n) (omega arith) (sym (f (at + n) (omega arith) (omega arith))) (on_run s n refl (omega arith) (λ i l m. f i l (omega arith))))
-
-pub on_upto : (s : List ℕ) {at e : ℕ} → at ≤ e → e ≤ length s → ((i : ℕ) → at ≤ i → i < e → true ≡ is_simple (get_or s i 0)) → TextOn s at e
-on_upto s {at} {e} l = on_run s (e - at) (omega arith)
