@@ -13,4 +13,4 @@ pub returns : goal.returns
 returns c = λ v w g h.
     let a = (c.time_at-first.ensures _ (g.placed 0 (omega arith))).1 in
     let b = (c.time_at-second.ensures _ (h.placed 0 (omega arith))).1 in
-    said_values c.args.shift v w a b c.compare_said.ensures
+    said_values c.args.shift.minutes v w a b c.compare_said.ensures

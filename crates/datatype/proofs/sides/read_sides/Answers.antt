@@ -33,7 +33,7 @@ pub loop-i-preserved : goal.loop-i-preserved
 loop-i-preserved c =
     walk_goes (rw c.in-Child.is at c.next_inside-next.ensures) (c.read-child.ensures.within, c.read-child.ensures.tells) c.loop-i.invariant c.past_element-at.ensures.within (λ all k v rest h p. (
       c.past_element-at.ensures.tells v rest h,
-      sought_goes c.args.shift c.loop-i.low c.loop-i.high v c.after_child-low.result c.after_child-high.result
+      sought_goes c.args.shift.minutes c.loop-i.low c.loop-i.high v c.after_child-low.result c.after_child-high.result
           (c.after_child-low.ensures _ v rest h) (c.after_child-high.ensures _ v rest h) all k p,
     ))
 
@@ -43,6 +43,6 @@ returns-in-Past c =
       within = (omega (arith, l.invariant.from, n.low), n.high);
       tells = λ v after h.
           let (p, e) = walk_ends n l.invariant v after h in
-          let (x, y) = sought_ends c.args.shift l.low l.high v.kids p in
+          let (x, y) = sought_ends c.args.shift.minutes l.low l.high v.kids p in
           (rw c.unwrap_or-first.ensures x, rw c.unwrap_or-last.ensures y, e);
     }

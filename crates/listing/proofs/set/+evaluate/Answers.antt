@@ -11,7 +11,7 @@ pub returns-then-has : goal.returns-then-has
 returns-then-has t c = record {
   formed = tt;
   within = (omega arith, c.requires.0.end);
-  tells = none_said c.args.shift _ (λ v after h. (_, null-set c.args.shift v (c.has.ensures _ v.attrs h.tells) c.if-has.true));
+  tells = none_said c.args.shift.minutes _ (λ v after h. (_, null-set c.args.shift.minutes v (c.has.ensures _ v.attrs h.tells) c.if-has.true));
 }
 
 pub shape_of-requires : goal.shape_of-requires
@@ -28,16 +28,16 @@ returns-in-Single t c =
       tells = λ v after h.
           let (s, e) = c.of_single-so_far.ensures.tells v after h in
           let w = rw c.in-Single.is at (c.shape_of.ensures _ v after h) in
-          (single_set c.args.shift v (c.has.ensures _ v.attrs h.tells) c.if-has.false w s, λ k. e);
+          (single_set c.args.shift.minutes v (c.has.ensures _ v.attrs h.tells) c.if-has.false w s, λ k. e);
     }
 
 pub returns-in-Other : goal.returns-in-Other
 returns-in-Other t c = record {
   formed = tt;
   within = (omega arith, c.requires.0.end);
-  tells = none_said c.args.shift _ (λ v after h. (
+  tells = none_said c.args.shift.minutes _ (λ v after h. (
     _,
-    other-set c.args.shift v (c.has.ensures _ v.attrs h.tells) c.if-has.false (rw c.in-Other.is at (c.shape_of.ensures _ v after h)),
+    other-set c.args.shift.minutes v (c.has.ensures _ v.attrs h.tells) c.if-has.false (rw c.in-Other.is at (c.shape_of.ensures _ v after h)),
   ));
 }
 
@@ -61,7 +61,7 @@ pub returns-then-is_none : goal.returns-then-is_none
 returns-then-is_none t c =
     let n = rw c.in-Child.is at c.next_inside.ensures in
     let w = c.loop-i.invariant.1 in
-    let shift = c.args.shift in let op = c.in-Members.op in record {
+    let shift = c.args.shift.minutes in let op = c.in-Members.op in record {
       formed = tt;
       within = (w.from, w.within);
       tells = λ v after h.
@@ -90,13 +90,13 @@ loop-i-preserved t c =
       f,
       walk_goes (rw c.in-Child.is at c.next_inside.ensures) (c.read-child.ensures.within, c.read-child.ensures.tells) c.loop-i.invariant.1 (rw z e.ensures.within) (λ all left v rest h p.
           let (s, q) = e.ensures.tells v rest h in
-          (rw z (q known), member-known c.args.shift op v s all left p known c.join-so_far.ensures.tells)),
+          (rw z (q known), member-known c.args.shift.minutes op v s all left p known c.join-so_far.ensures.tells)),
     )
 
 pub returns-in-Past : goal.returns-in-Past
 returns-in-Past t c =
     let (f, w) = c.loop-i.invariant in let n = rw c.in-Past.is at c.next_inside.ensures in
-    let shift = c.args.shift in let op = c.in-Members.op in record {
+    let shift = c.args.shift.minutes in let op = c.in-Members.op in record {
       formed = f;
       within = (omega (arith, w.from, n.low), n.high);
       tells = λ v after h.
