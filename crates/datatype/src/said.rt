@@ -49,7 +49,7 @@ fn flavor_said(s: &[u8], place: usize) -> Said
 
 // The time of the value at a place.
 pub fn time_at(s: &[u8], place: usize, shift: Shift) -> Time
-    requires fact_1 { place ≤ length s.now - 1 }
+    requires { place ≤ length s.now - 1 }
     ensures { (o : Option (List ℕ)) → Place s.now o place → (fault_of result.fault ≡ value_fault shift.minutes o) × (said_meant result.said ≡ said_value shift.minutes o) }
 {
     if place == 0 {
@@ -74,7 +74,7 @@ pub fn time_at(s: &[u8], place: usize, shift: Shift) -> Time
 // The time of an element, by its tag. Where it is null its flavor says it; what its value is refused for, if it carries one, is told all the
 // same.
 pub fn time_of(s: &[u8], tag: Tag, shift: Shift) -> Time
-    requires fact_1 { TagIn s.now tag }
+    requires { TagIn s.now tag }
     ensures { (l : List Attribute) → Tells s.now l tag.places → (fault_of result.fault ≡ time_fault shift.minutes l) × (said_meant result.said ≡ said_by shift.minutes l) }
 {
     let time = time_at(s, tag.places[VALUE], shift);

@@ -44,7 +44,7 @@ fn others_fault(others: usize, namespaces: usize, standing: Standing) -> Result<
 
 // The fault of the value at a place that is to be of a form. That of any text is not read.
 fn text_fault(s: &[u8], place: usize, form: Form, shift: Shift) -> Result<(), Refusal>
-    requires fact_1 { place < length s.now }
+    requires { place < length s.now }
     ensures { (v : List ℕ) (e : ℕ) → e ≤ length s.now → text_of (drop place s.now) ≡ ok v (drop e s.now) → fault_of result ≡ first_of (form_faults shift.minutes (form_of form) v) }
 {
     if let Form::AnyText = form {
@@ -89,7 +89,7 @@ pub fn attributes_fault(
     time: Result<(), Refusal>,
     shift: Shift,
 ) -> Result<(), Refusal>
-    requires fact_1 { TagIn s.now tag }
+    requires { TagIn s.now tag }
     ensures { (depth : ℕ) (v : Element) (after : List ℕ) → TagOf s.now depth v after tag → (kind_meant kind ≡ TS → fault_of time ≡ time_fault shift.minutes v.attrs) → fault_of result ≡ first_of (flat_map (attribute_faults shift.minutes (standing_meant standing) (kind_meant kind)) v.attrs) }
 {
     let mut so_far = others_fault(tag.others, tag.namespaces, standing);

@@ -27,7 +27,7 @@ use timestamp::Shift;
 
 // What a time says and what its value is refused for; another element says nothing.
 pub fn time_in(s: &[u8], tag: Tag, kind: Kind, shift: Shift) -> Time
-    requires fact_1 { TagIn s.now tag }
+    requires { TagIn s.now tag }
     ensures { (l : List Attribute) → Tells s.now l tag.places → (kind_meant kind ≡ TS → fault_of result.fault ≡ time_fault shift.minutes l) × (said_meant result.said ≡ said_of (kind_meant kind) shift.minutes l) }
 {
     if let Kind::Ts = kind {
@@ -67,7 +67,7 @@ pub fn judge_with(
     content: Content,
     shift: Shift,
 ) -> Result<(), Refusal>
-    requires fact_1 { TagIn s.now tag }
+    requires { TagIn s.now tag }
     ensures { (depth : ℕ) (v : Element) (after : List ℕ) → TagOf s.now depth v after tag → (kind_meant kind ≡ TS → fault_of text ≡ time_fault shift.minutes v.attrs) → ContentAs s.now shift.minutes (kind_meant kind) v after content → fault_of result ≡ first_of (judged shift.minutes (standing_meant standing) (some (kind_meant kind)) v) }
 {
     let carried = attributes_fault(s, tag, kind, standing, text, shift);

@@ -147,7 +147,7 @@ fn with_judged(row: Row, stage: u64, fault: Result<(), Refusal>, said: Said, end
 
 // A row with the child of a tag more, by what it is judged as and what is inside it.
 pub fn with_child(s: &[u8], row: Row, tag: Tag, asked: Asked, content: Content, shift: Shift) -> Row
-    requires fact_1 { TagIn s.now tag }
+    requires { TagIn s.now tag }
     ensures { (result.end ≡ content.end) × ((k : RulesKind) (depth : ℕ) (v : Element) (after : List ℕ) → TagOf s.now depth v after tag → AskedAs shift.minutes (step_among (line_of k).children row.stage v.name) row.stage v asked → ContentAs s.now shift.minutes (kind_meant asked.kind) v after content → row_meant result ≡ row_step shift.minutes k (row_meant row) v) }
 {
     let kind = asked.kind;

@@ -104,7 +104,7 @@ fn interval_said(s: &[u8], tag: Tag, from: Said, to: Said) -> Option<Interval>
 
 // The interval that the element of a tag writes, where `depth` may be open at once.
 pub fn interval_of(s: &[u8], tag: Tag, depth: usize, shift: Shift) -> Written
-    requires fact_1 { TagIn s.now tag }
+    requires { TagIn s.now tag }
     ensures within { (tag.end ≤ result.end) × (result.end ≤ length s.now) }
     ensures tells { (v : Element) (after : List ℕ) → TagOf s.now depth v after tag → (written_meant result.interval ≡ interval_of shift.minutes v.attrs v.kids) × (after ≡ drop result.end s.now) }
 {

@@ -41,7 +41,7 @@ pub fn is_listed(record: Record) -> bool
 // Whether a tick, or the gap after it, is in the set of times that a record writes.
 pub fn is_meant(s: &[u8], record: Record, shift: Shift, n: u64, gap: bool) -> bool
     requires fact_1 { TagIn s.now «record».tag }
-    requires fact_3 { n < 2 ^ 60 }
+    requires fact_2 { n < 2 ^ 60 }
     ensures { (e : Element) → RecordOf s.now e «record» → result ≡ is_meant shift.minutes e (place_of n gap) }
 {
     let tag = record.tag;
@@ -52,7 +52,7 @@ pub fn is_meant(s: &[u8], record: Record, shift: Shift, n: u64, gap: bool) -> bo
 // Writes the stretches of the set of times that an accepted record writes into a lent list, four numbers each, and gives their count; or
 // refuses, and leaves the list as it was.
 pub fn list(s: &[u8], record: Record, shift: Shift, out: &mut [u8]) -> Result<usize, Refusal>
-    requires fact_1 { TagIn s.now «record».tag }
+    requires { TagIn s.now «record».tag }
     ensures kept { Kept result out.old out.new }
     ensures tells { (e : Element) → RecordOf s.now e «record» → top_faults shift.minutes e ≡ [] → is_listed e ≡ true → Answers (list_element shift.minutes (room_of out.old) e) out.old result out.new }
     ensures few { Few result }

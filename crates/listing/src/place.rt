@@ -48,7 +48,7 @@ fn in_both(op: Op, any: bool, first: bool, next: bool) -> bool
 // Whether a tick, or the gap after it, is in the interval that the element of a tag writes, where `depth` may be open at once.
 fn in_single(s: &[u8], tag: Tag, depth: usize, shift: Shift, n: u64, gap: bool) -> Meant
     requires fact_1 { TagIn s.now tag }
-    requires fact_3 { n < 2 ^ 60 }
+    requires fact_2 { n < 2 ^ 60 }
     ensures within { (tag.end ≤ result.end) × (result.end ≤ length s.now) }
     ensures tells { (v : Element) (after : List ℕ) → TagOf s.now depth v after tag → (result.is ≡ is_within (interval_of shift.minutes v.attrs v.kids) (place_of n gap)) × (after ≡ drop result.end s.now) }
 {

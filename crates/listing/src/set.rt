@@ -66,7 +66,7 @@ pub fn shape_of(s: &[u8], tag: Tag) -> Shape
 
 // The set of the one interval that the element of a tag writes, where `depth` may be open at once.
 fn of_single(s: &[u8], tag: Tag, depth: usize, shift: Shift) -> Evaluated
-    requires fact_1 { TagIn s.now tag }
+    requires { TagIn s.now tag }
     ensures formed { IfSome result.times Formed }
     ensures within { (tag.end ≤ result.end) × (result.end ≤ length s.now) }
     ensures tells { (v : Element) (after : List ℕ) → TagOf s.now depth v after tag → Says (expressed (interval_of shift.minutes v.attrs v.kids)) result.times × (after ≡ drop result.end s.now) }

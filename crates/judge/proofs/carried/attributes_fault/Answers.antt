@@ -17,8 +17,8 @@ loop-n-init c = (omega arith, λ l t h. sym (earlier-none_right (fault_of c.othe
 
 pub attribute_fault-requires : goal.attribute_fault-requires
 attribute_fault-requires c =
-    let q = c.requires.fact_1.placed c.loop-n.n in
-    record { fact_1 = c.loop-n-test.true; fact_2 = omega (arith, c.if-place-ne0.true); fact_3 = omega (arith, q, c.if-place-ne0.true); fact_4 = c.requires.fact_2 }
+    let q = c.requires.placed c.loop-n.n in
+    record { fact_1 = c.loop-n-test.true; fact_2 = omega (arith, c.if-place-ne0.true); fact_3 = omega (arith, q, c.if-place-ne0.true) }
 
 pub loop-n-preserved : goal.loop-n-preserved
 loop-n-preserved c = (

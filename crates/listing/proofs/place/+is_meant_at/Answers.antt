@@ -10,7 +10,7 @@ pub shape_of-shape-requires : goal.shape_of-shape-requires
 shape_of-shape-requires t c = c.requires.0
 
 pub in_single-requires : goal.in_single-requires
-in_single-requires t c = record { fact_1 = c.requires.0; fact_2 = c.requires.1.0; fact_3 = c.requires.1.1 }
+in_single-requires t c = record { fact_1 = c.requires.0; fact_2 = c.requires.1 }
 
 pub returns-in-Single : goal.returns-in-Single
 returns-in-Single t c =

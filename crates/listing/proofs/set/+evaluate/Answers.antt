@@ -10,15 +10,15 @@ use Rattle.listing.proofs.set.+evaluate.Goals as goal
 pub returns-then-has : goal.returns-then-has
 returns-then-has t c = record {
   formed = tt;
-  within = (omega arith, c.requires.0.end);
+  within = (omega arith, c.requires.end);
   tells = none_said c.args.shift.minutes _ (λ v after h. (_, null-set c.args.shift.minutes v (c.has.ensures _ v.attrs h.tells) c.if-has.true));
 }
 
 pub shape_of-requires : goal.shape_of-requires
-shape_of-requires t c = c.requires.0
+shape_of-requires t c = c.requires
 
 pub of_single-so_far-requires : goal.of_single-so_far-requires
-of_single-so_far-requires t c = record { fact_1 = c.requires.0; fact_2 = c.requires.1 }
+of_single-so_far-requires t c = c.requires
 
 pub returns-in-Single : goal.returns-in-Single
 returns-in-Single t c =
@@ -34,7 +34,7 @@ returns-in-Single t c =
 pub returns-in-Other : goal.returns-in-Other
 returns-in-Other t c = record {
   formed = tt;
-  within = (omega arith, c.requires.0.end);
+  within = (omega arith, c.requires.end);
   tells = none_said c.args.shift.minutes _ (λ v after h. (
     _,
     other-set c.args.shift.minutes v (c.has.ensures _ v.attrs h.tells) c.if-has.false (rw c.in-Other.is at (c.shape_of.ensures _ v after h)),
@@ -42,10 +42,10 @@ returns-in-Other t c = record {
 }
 
 pub loop-i-init : goal.loop-i-init
-loop-i-init t c = (tt, walk_begins c.requires.0.end (λ all. (none, none_yet, refl)))
+loop-i-init t c = (tt, walk_begins c.requires.end (λ all. (none, none_yet, refl)))
 
 pub next_inside-requires : goal.next_inside-requires
-next_inside-requires t c = let tag = c.requires.0 in record { fact_1 = tag.name; fact_2 = tag.past; fact_3 = c.loop-i.invariant.1.within }
+next_inside-requires t c = let tag = c.requires in record { fact_1 = tag.name; fact_2 = tag.past; fact_3 = c.loop-i.invariant.1.within }
 
 pub read-child-requires : goal.read-child-requires
 read-child-requires t c = omega (arith, (rw c.in-Child.is at c.next_inside.ensures).high)
@@ -55,7 +55,7 @@ overflow_sub-depth t c = (rw c.in-Child.is at c.next_inside.ensures).deep
 
 pub evaluate-member-requires : goal.evaluate-member-requires
 evaluate-member-requires t c =
-    (omega (arith, (rw c.in-Child.is at c.next_inside.ensures).deep), (c.read-child.ensures.within.0, c.requires.1))
+    (omega (arith, (rw c.in-Child.is at c.next_inside.ensures).deep), c.read-child.ensures.within.0)
 
 pub returns-then-is_none : goal.returns-then-is_none
 returns-then-is_none t c =
