@@ -5,7 +5,7 @@ ghost use Rattle.rules.specs.Markup.{reference, noncharacter, is_plain, char, va
 ghost use Rattle.text.specs.Reads.{Reads};
 ghost use Rattle.markup.specs.Values.{is_simple, stands_for, CharBy, ReadsText, TextOn};
 
-use crate::scan::{read_byte, read_literal, skip};
+use crate::scan::{read_byte, read_literal};
 
 // The end of U+FFFE or U+FFFF at a position.
 fn read_noncharacter(s: &[u8], at: usize) -> Option<usize>
@@ -98,7 +98,12 @@ fn skip_simple(s: &[u8], at: usize) -> usize
     requires { at ≤ length s.now }
     ensures { TextOn s.now at result }
 {
-    skip(s, at, is_simple)
+    for i in at..s.len() {
+        if !is_simple(s[i]) {
+            return i;
+        }
+    }
+    s.len()
 }
 
 // The end of the characters from a position on, past the quote that ends them.
@@ -118,7 +123,6 @@ fn read_text(s: &[u8], at: usize) -> Option<usize>
 }
 
 // The end of the value, with its quotes, at a position.
-#[inline(never)]
 pub fn read_value(s: &[u8], at: usize) -> Option<usize>
     requires { at ≤ length s.now }
     ensures { Reads 1 value s.now at result }
