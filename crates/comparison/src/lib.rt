@@ -1,7 +1,7 @@
 // Comparison of two records: yes, no or unknown.
 #![tactic(auto)]
 
-ghost use Rattle.std.specs.Prelude.{◌≡◌, List, ℕ, ◌≤◌};
+ghost use Rattle.std.specs.Prelude.{◌≡◌, List, ℕ};
 ghost use Rattle.rules.specs.Basics.{if_some};
 ghost use Rattle.rules.specs.Refusal.{TYPE, answered};
 ghost use Rattle.rules.specs.Markup.{Element};

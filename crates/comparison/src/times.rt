@@ -1,5 +1,5 @@
 // Comparison of timestamps and of intervals of times.
-ghost use Rattle.std.specs.Prelude.{◌≡◌, true, List, ℕ, ◌≤◌};
+ghost use Rattle.std.specs.Prelude.{◌≡◌, true, List, ℕ};
 ghost use Rattle.rules.specs.Markup.{Element};
 ghost use Rattle.rules.specs.Comparison.{compare_moments, compare_endpoints, compare_times, compare_intervals};
 ghost use Rattle.rules.specs.Invariants.{valued, infinite};

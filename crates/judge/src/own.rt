@@ -1,5 +1,5 @@
 // An element judged, with what is inside it: its attributes, its invariants and the row of its children put together.
-ghost use Rattle.std.specs.Prelude.{◌≡◌, ◌||◌, List, ℕ, ◌≤◌};
+ghost use Rattle.std.specs.Prelude.{◌≡◌, ◌||◌, List, ℕ};
 ghost use Rattle.rules.specs.Refusal.{first_of};
 ghost use Rattle.std.proofs.Math.Option.{some};
 ghost use Rattle.rules.specs.Markup.{Attribute, Nodes, Element};

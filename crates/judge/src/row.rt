@@ -1,5 +1,5 @@
 // Children judged one after another, and what is known of them so far.
-ghost use Rattle.std.specs.Prelude.{◌≡◌, List, ℕ, ◌≤◌};
+ghost use Rattle.std.specs.Prelude.{◌≡◌, List, ℕ};
 ghost use Rattle.std.proofs.Math.Option.{some};
 ghost use Rattle.rules.specs.Basics.{if_some};
 ghost use Rattle.rules.specs.Refusal.{first_of, ◌when◌};

@@ -45,8 +45,7 @@ fn put_places(s: &[u8], held: Record, shift: Shift, list: &[u8], bounds: usize)
 }
 
 // Prints the count of stretches of a record and what is meant at their bounds, if it is listed.
-fn put_record(s: &[u8], shift: Shift)
-{
+fn put_record(s: &[u8], shift: Shift) {
     let checked = judge::check(s, shift);
     let held = checked.record;
     let mut list = io::buffer();
@@ -62,7 +61,9 @@ fn put_record(s: &[u8], shift: Shift)
 // The number of four digits that a line begins with, or 1680 if that is less or there is none.
 fn shift_of(line: &[u8]) -> Shift {
     let n = text::digits::read(line, 0, 4).unwrap_or(1680);
-    Shift { minutes: n.min(1680) }
+    Shift {
+        minutes: n.min(1680),
+    }
 }
 
 // Prints a line for the record of a line.

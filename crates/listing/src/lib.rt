@@ -2,7 +2,7 @@
 // a record as it is held after checking to what is answered.
 #![tactic(auto)]
 
-ghost use Rattle.std.specs.Prelude.{◌≡◌, true, List, [], ℕ, ◌^◌, ◌≤◌, ◌<◌};
+ghost use Rattle.std.specs.Prelude.{◌≡◌, true, List, [], ℕ, ◌^◌, ◌<◌};
 ghost use Rattle.rules.specs.Markup.{Element};
 ghost use Rattle.rules.specs.Judge.{top_faults};
 ghost use Rattle.rules.specs.Listing.{list_element};

@@ -13,10 +13,9 @@ mod fourteen;
 mod shift;
 pub mod tick;
 
-pub use shift::Shift;
-
 use form::{Offset, Written};
 use refusal::Refusal;
+pub use shift::Shift;
 use tick::Tick;
 
 // A moment: its start and the next start of its smallest written unit, in ticks from fourteen hours before 0001-01-01 00:00, and its
