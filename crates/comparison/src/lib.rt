@@ -1,7 +1,7 @@
 // Comparison of two records: yes, no or unknown.
 #![tactic(auto)]
 
-ghost use Rattle.std.specs.Prelude.{◌≡◌, List, ℕ, ◌≤◌};
+ghost use Rattle.std.specs.Prelude.{◌≡◌, List, ℕ};
 ghost use Rattle.rules.specs.Basics.{if_some};
 ghost use Rattle.rules.specs.Refusal.{TYPE, answered};
 ghost use Rattle.rules.specs.Markup.{Element};
@@ -21,6 +21,7 @@ use datatype::kind::Kind;
 use datatype::record::Record;
 use element::name::NULL_FLAVOR;
 use element::tag::{Tag, has};
+use timestamp::Shift;
 
 // Yes, no, or unknown.
 #[derive(Clone, Copy)]
@@ -70,11 +71,10 @@ fn unknown_if(compared: Option<Answer>, null: bool) -> Option<Answer>
 const DEPTH: usize = 8;
 
 // The answer on two values of a kind, neither null, if values of the kind are compared.
-fn compare_kind(s: &[u8], a: Tag, t: &[u8], b: Tag, kind: Kind, shift: u64) -> Option<Answer>
+fn compare_kind(s: &[u8], a: Tag, t: &[u8], b: Tag, kind: Kind, shift: Shift) -> Option<Answer>
     requires fact_1 { TagIn s.now a }
     requires fact_2 { TagIn t.now b }
-    requires fact_3 { shift ≤ 1680 }
-    ensures { (v w : Element) (after rest : List ℕ) → TagOf s.now 8 v after a → TagOf t.now 8 w rest b → compared_meant result ≡ if_some (comparer_of (kind_meant kind)) (λ f. as_compared (f shift v w)) (refused_second TYPE) }
+    ensures { (v w : Element) (after rest : List ℕ) → TagOf s.now 8 v after a → TagOf t.now 8 w rest b → compared_meant result ≡ if_some (comparer_of (kind_meant kind)) (λ f. as_compared (f shift.minutes v w)) (refused_second TYPE) }
 {
     match kind {
         Kind::Ts => Some(times::compare_times(s, a, t, b, shift)),
@@ -93,11 +93,10 @@ fn compare_kind(s: &[u8], a: Tag, t: &[u8], b: Tag, kind: Kind, shift: u64) -> O
 
 // The answer on two records, if they are compared: none where their types differ, or are set types. `shift` is 840 less the agreed offset in
 // minutes.
-pub fn compare(s: &[u8], a: Record, t: &[u8], b: Record, shift: u64) -> Option<Answer>
+pub fn compare(s: &[u8], a: Record, t: &[u8], b: Record, shift: Shift) -> Option<Answer>
     requires fact_1 { TagIn s.now a.tag }
     requires fact_2 { TagIn t.now b.tag }
-    requires fact_3 { shift ≤ 1680 }
-    ensures { (v w : Element) → RecordOf s.now v a → RecordOf t.now w b → compared_meant result ≡ compare_checked shift (answered v) (answered w) }
+    ensures { (v w : Element) → RecordOf s.now v a → RecordOf t.now w b → compared_meant result ≡ compare_checked shift.minutes (answered v) (answered w) }
 {
     let kind = a.kind;
     if kind != b.kind {

@@ -1,5 +1,5 @@
 // Comparison of timestamps and of intervals of times.
-ghost use Rattle.std.specs.Prelude.{◌≡◌, true, List, ℕ, ◌≤◌};
+ghost use Rattle.std.specs.Prelude.{◌≡◌, true, List, ℕ};
 ghost use Rattle.rules.specs.Markup.{Element};
 ghost use Rattle.rules.specs.Comparison.{compare_moments, compare_endpoints, compare_times, compare_intervals};
 ghost use Rattle.rules.specs.Invariants.{valued, infinite};
@@ -17,7 +17,7 @@ use datatype::said::{Said, endpoint, time_at};
 use datatype::sides::read_sides;
 use element::name::{HIGH_CLOSED, LOW_CLOSED, VALUE};
 use element::tag::Tag;
-use timestamp::Moment;
+use timestamp::{Moment, Shift};
 
 // Yes if precision and tick are the same; no if the spans share no tick; else unknown.
 fn compare_moments(a: Moment, b: Moment) -> Answer
@@ -92,11 +92,10 @@ fn compare_said(flags: bool, a: Said, b: Said, side: Side) -> Answer
 }
 
 // TS: the values of two elements, by their tags. A value says the same on either side.
-pub fn compare_times(s: &[u8], a: Tag, t: &[u8], b: Tag, shift: u64) -> Answer
+pub fn compare_times(s: &[u8], a: Tag, t: &[u8], b: Tag, shift: Shift) -> Answer
     requires fact_1 { TagIn s.now a }
     requires fact_2 { TagIn t.now b }
-    requires fact_3 { shift ≤ 1680 }
-    ensures { (v w : Element) → Tells s.now v.attrs a.places → Tells t.now w.attrs b.places → answer_meant result ≡ compare_times shift v w }
+    ensures { (v w : Element) → Tells s.now v.attrs a.places → Tells t.now w.attrs b.places → answer_meant result ≡ compare_times shift.minutes v w }
 {
     let first = time_at(s, a.places[VALUE], shift);
     let second = time_at(t, b.places[VALUE], shift);
@@ -106,11 +105,10 @@ pub fn compare_times(s: &[u8], a: Tag, t: &[u8], b: Tag, shift: u64) -> Answer
 }
 
 // IVL_TS: lows, highs, and flags of sides where both are valued.
-pub fn compare_intervals(s: &[u8], a: Tag, t: &[u8], b: Tag, depth: usize, shift: u64) -> Answer
+pub fn compare_intervals(s: &[u8], a: Tag, t: &[u8], b: Tag, depth: usize, shift: Shift) -> Answer
     requires fact_1 { TagIn s.now a }
     requires fact_2 { TagIn t.now b }
-    requires fact_3 { shift ≤ 1680 }
-    ensures { (v w : Element) (after rest : List ℕ) → TagOf s.now depth v after a → TagOf t.now depth w rest b → answer_meant result ≡ compare_intervals shift v w }
+    ensures { (v w : Element) (after rest : List ℕ) → TagOf s.now depth v after a → TagOf t.now depth w rest b → answer_meant result ≡ compare_intervals shift.minutes v w }
 {
     let first = read_sides(s, a, depth, shift);
     let second = read_sides(t, b, depth, shift);

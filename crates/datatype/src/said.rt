@@ -15,7 +15,7 @@ use element::name::{NULL_FLAVOR, VALUE};
 use element::tag::Tag;
 use element::value;
 use refusal::Refusal;
-use timestamp::Moment;
+use timestamp::{Moment, Shift};
 
 // A value; that there is no bound below, or none above; or nothing.
 #[derive(Clone, Copy)]
@@ -48,10 +48,9 @@ fn flavor_said(s: &[u8], place: usize) -> Said
 }
 
 // The time of the value at a place.
-pub fn time_at(s: &[u8], place: usize, shift: u64) -> Time
-    requires fact_1 { place ≤ length s.now - 1 }
-    requires fact_2 { shift ≤ 1680 }
-    ensures { (o : Option (List ℕ)) → Place s.now o place → (fault_of result.fault ≡ value_fault shift o) × (said_meant result.said ≡ said_value shift o) }
+pub fn time_at(s: &[u8], place: usize, shift: Shift) -> Time
+    requires { place ≤ length s.now - 1 }
+    ensures { (o : Option (List ℕ)) → Place s.now o place → (fault_of result.fault ≡ value_fault shift.minutes o) × (said_meant result.said ≡ said_value shift.minutes o) }
 {
     if place == 0 {
         return Time {
@@ -74,10 +73,9 @@ pub fn time_at(s: &[u8], place: usize, shift: u64) -> Time
 
 // The time of an element, by its tag. Where it is null its flavor says it; what its value is refused for, if it carries one, is told all the
 // same.
-pub fn time_of(s: &[u8], tag: Tag, shift: u64) -> Time
-    requires fact_1 { TagIn s.now tag }
-    requires fact_2 { shift ≤ 1680 }
-    ensures { (l : List Attribute) → Tells s.now l tag.places → (fault_of result.fault ≡ time_fault shift l) × (said_meant result.said ≡ said_by shift l) }
+pub fn time_of(s: &[u8], tag: Tag, shift: Shift) -> Time
+    requires { TagIn s.now tag }
+    ensures { (l : List Attribute) → Tells s.now l tag.places → (fault_of result.fault ≡ time_fault shift.minutes l) × (said_meant result.said ≡ said_by shift.minutes l) }
 {
     let time = time_at(s, tag.places[VALUE], shift);
     let flavor = tag.places[NULL_FLAVOR];

@@ -12,6 +12,7 @@ use element::row::past_element;
 use element::tag;
 use element::tag::Tag;
 use text::is_same;
+use timestamp::Shift;
 
 // What the sides of an interval say, and the position past its element.
 #[derive(Clone, Copy)]
@@ -22,10 +23,9 @@ pub struct Sides {
 }
 
 // What the first child of a name says, if it was passed, after one child more.
-fn after_child(s: &[u8], child: Tag, shift: u64, name: &[u8], first: Option<Said>) -> Option<Said>
-    requires fact_1 { TagIn s.now child }
-    requires fact_2 { shift ≤ 1680 }
-    ensures { (d : ℕ) (v : Element) (after : List ℕ) → TagOf s.now d v after child → Passes shift name.now v first result }
+fn after_child(s: &[u8], child: Tag, shift: Shift, name: &[u8], first: Option<Said>) -> Option<Said>
+    requires { TagIn s.now child }
+    ensures { (d : ℕ) (v : Element) (after : List ℕ) → TagOf s.now d v after child → Passes shift.minutes name.now v first result }
 {
     if first.is_some() {
         return first;
@@ -40,11 +40,10 @@ fn after_child(s: &[u8], child: Tag, shift: u64, name: &[u8], first: Option<Said
 }
 
 // What the first child named low, and the first named high, say in the element of a tag, where `depth` may be open at once.
-pub fn read_sides(s: &[u8], tag: Tag, depth: usize, shift: u64) -> Sides
-    requires fact_1 { TagIn s.now tag }
-    requires fact_2 { shift ≤ 1680 }
+pub fn read_sides(s: &[u8], tag: Tag, depth: usize, shift: Shift) -> Sides
+    requires { TagIn s.now tag }
     ensures within { (tag.end ≤ result.end) × (result.end ≤ length s.now) }
-    ensures tells { (v : Element) (after : List ℕ) → TagOf s.now depth v after tag → (said_meant result.low ≡ said_named shift (bytes "low") v.kids) × (said_meant result.high ≡ said_named shift (bytes "high") v.kids) × (after ≡ drop result.end s.now) }
+    ensures tells { (v : Element) (after : List ℕ) → TagOf s.now depth v after tag → (said_meant result.low ≡ said_named shift.minutes (bytes "low") v.kids) × (said_meant result.high ≡ said_named shift.minutes (bytes "high") v.kids) × (after ≡ drop result.end s.now) }
 {
     let mut low = None;
     let mut high = None;

@@ -22,7 +22,7 @@ mod parts;
 
 use money::Amount;
 use refusal::{Refusal, refused_if};
-use timestamp::Moment;
+use timestamp::{Moment, Shift};
 
 // The forms that the table of types asks for, by the name of what they are asked of.
 #[derive(Clone, Copy)]
@@ -54,11 +54,10 @@ fn inside(s: &[u8], q: usize, e: usize) -> &[u8]
 }
 
 // The moment that a value says, or a refusal; `shift` is 840 less the agreed offset in minutes.
-pub fn moment(s: &[u8], q: usize, e: usize, shift: u64) -> Result<Moment, Refusal>
+pub fn moment(s: &[u8], q: usize, e: usize, shift: Shift) -> Result<Moment, Refusal>
     requires fact_1 { q < e }
     requires fact_2 { e ≤ length s.now }
-    requires fact_3 { shift ≤ 1680 }
-    ensures { (v : List ℕ) → value (drop q s.now) ≡ ok v (drop e s.now) → outcome_of result ≡ read_timestamp shift v }
+    ensures { (v : List ℕ) → value (drop q s.now) ≡ ok v (drop e s.now) → outcome_of result ≡ read_timestamp shift.minutes v }
 {
     let raw = inside(s, q, e);
     timestamp::read(raw, shift)
@@ -102,22 +101,20 @@ fn is_amount(s: &[u8], q: usize, e: usize) -> bool
 }
 
 // The refusal of a value that is to be a timestamp.
-fn timestamp_fault(s: &[u8], q: usize, e: usize, shift: u64) -> Result<(), Refusal>
+fn timestamp_fault(s: &[u8], q: usize, e: usize, shift: Shift) -> Result<(), Refusal>
     requires fact_1 { q < e }
     requires fact_2 { e ≤ length s.now }
-    requires fact_3 { shift ≤ 1680 }
-    ensures { (v : List ℕ) → value (drop q s.now) ≡ ok v (drop e s.now) → fault_of result ≡ first_of (faults_of (read_timestamp shift v)) }
+    ensures { (v : List ℕ) → value (drop q s.now) ≡ ok v (drop e s.now) → fault_of result ≡ first_of (faults_of (read_timestamp shift.minutes v)) }
 {
     moment(s, q, e, shift)?;
     Ok(())
 }
 
 // The refusal of a value that is to be of a form.
-pub fn fault(s: &[u8], q: usize, e: usize, form: Form, shift: u64) -> Result<(), Refusal>
+pub fn fault(s: &[u8], q: usize, e: usize, form: Form, shift: Shift) -> Result<(), Refusal>
     requires fact_1 { q < e }
     requires fact_2 { e ≤ length s.now }
-    requires fact_3 { shift ≤ 1680 }
-    ensures { (v : List ℕ) → value (drop q s.now) ≡ ok v (drop e s.now) → fault_of result ≡ first_of (form_faults shift (form_of form) v) }
+    ensures { (v : List ℕ) → value (drop q s.now) ≡ ok v (drop e s.now) → fault_of result ≡ first_of (form_faults shift.minutes (form_of form) v) }
 {
     let raw = inside(s, q, e);
     match form {

@@ -24,6 +24,7 @@ use element::name::VALUE;
 use element::tag::{Tag, has};
 use form::Form;
 use refusal::{Refusal, first, refused_if};
+use timestamp::Shift;
 
 // Whether an element stands at the top.
 fn is_top(standing: Standing) -> bool
@@ -42,10 +43,9 @@ fn others_fault(others: usize, namespaces: usize, standing: Standing) -> Result<
 }
 
 // The fault of the value at a place that is to be of a form. That of any text is not read.
-fn text_fault(s: &[u8], place: usize, form: Form, shift: u64) -> Result<(), Refusal>
-    requires fact_1 { place < length s.now }
-    requires fact_2 { shift ≤ 1680 }
-    ensures { (v : List ℕ) (e : ℕ) → e ≤ length s.now → text_of (drop place s.now) ≡ ok v (drop e s.now) → fault_of result ≡ first_of (form_faults shift (form_of form) v) }
+fn text_fault(s: &[u8], place: usize, form: Form, shift: Shift) -> Result<(), Refusal>
+    requires { place < length s.now }
+    ensures { (v : List ℕ) (e : ℕ) → e ≤ length s.now → text_of (drop place s.now) ≡ ok v (drop e s.now) → fault_of result ≡ first_of (form_faults shift.minutes (form_of form) v) }
 {
     if let Form::AnyText = form {
         return Ok(());
@@ -62,13 +62,12 @@ fn attribute_fault(
     kind: Kind,
     standing: Standing,
     time: Result<(), Refusal>,
-    shift: u64,
+    shift: Shift,
 ) -> Result<(), Refusal>
     requires fact_1 { n < known }
     requires fact_2 { 0 < place }
     requires fact_3 { place < length s.now }
-    requires fact_4 { shift ≤ 1680 }
-    ensures { (l : List Attribute) → Place s.now (lookup (name_at n) l) place → (kind_meant kind ≡ TS → fault_of time ≡ time_fault shift l) → fault_of result ≡ fault_at (attribute_faults shift (standing_meant standing) (kind_meant kind)) l n }
+    ensures { (l : List Attribute) → Place s.now (lookup (name_at n) l) place → (kind_meant kind ≡ TS → fault_of time ≡ time_fault shift.minutes l) → fault_of result ≡ fault_at (attribute_faults shift.minutes (standing_meant standing) (kind_meant kind)) l n }
 {
     if let Kind::Ts = kind {
         if n == VALUE {
@@ -88,11 +87,10 @@ pub fn attributes_fault(
     kind: Kind,
     standing: Standing,
     time: Result<(), Refusal>,
-    shift: u64,
+    shift: Shift,
 ) -> Result<(), Refusal>
-    requires fact_1 { TagIn s.now tag }
-    requires fact_2 { shift ≤ 1680 }
-    ensures { (depth : ℕ) (v : Element) (after : List ℕ) → TagOf s.now depth v after tag → (kind_meant kind ≡ TS → fault_of time ≡ time_fault shift v.attrs) → fault_of result ≡ first_of (flat_map (attribute_faults shift (standing_meant standing) (kind_meant kind)) v.attrs) }
+    requires { TagIn s.now tag }
+    ensures { (depth : ℕ) (v : Element) (after : List ℕ) → TagOf s.now depth v after tag → (kind_meant kind ≡ TS → fault_of time ≡ time_fault shift.minutes v.attrs) → fault_of result ≡ first_of (flat_map (attribute_faults shift.minutes (standing_meant standing) (kind_meant kind)) v.attrs) }
 {
     let mut so_far = others_fault(tag.others, tag.namespaces, standing);
     for (n, &place) in tag.places.iter().enumerate() {

@@ -23,15 +23,16 @@ use element::tag::Tag;
 use own::{judge_with, time_in};
 use refusal::Refusal;
 use row::{Content, begin, child_asked, finish, with_child};
+use timestamp::Shift;
 
 // How many elements may be open at once.
 const DEPTH: usize = 8;
 
 // What is inside the element of a tag, of a kind, where `depth` may be open at once. It calls itself for each child, with `depth` falling.
-fn judge_content(s: &[u8], tag: Tag, depth: usize, kind: Kind, shift: u64) -> Content
-    requires { (TagIn s.now tag) × (shift ≤ 1680) }
+fn judge_content(s: &[u8], tag: Tag, depth: usize, kind: Kind, shift: Shift) -> Content
+    requires { TagIn s.now tag }
     ensures within { (tag.end ≤ result.end) × (result.end ≤ length s.now) }
-    ensures tells { (v : Element) (after : List ℕ) → TagOf s.now depth v after tag → ContentAs s.now shift (kind_meant kind) v after result }
+    ensures tells { (v : Element) (after : List ℕ) → TagOf s.now depth v after tag → ContentAs s.now shift.minutes (kind_meant kind) v after result }
 {
     let mut row = begin(tag.end);
     loop {
@@ -80,9 +81,8 @@ fn refused(refusal: Refusal) -> Checked
 }
 
 // A document checked; `shift` is 840 less the agreed offset in minutes.
-fn check_document(s: &[u8], shift: u64) -> Checked
-    requires { shift ≤ 1680 }
-    ensures { DocumentAs s.now shift result }
+fn check_document(s: &[u8], shift: Shift) -> Checked
+    ensures { DocumentAs s.now shift.minutes result }
 {
     let at = element::root(s);
     let tag = tag::read(s, at);
@@ -100,9 +100,8 @@ fn check_document(s: &[u8], shift: u64) -> Checked
 const MOST: usize = 16_384;
 
 // Any bytes checked as a record; `shift` is 840 less the agreed offset in minutes.
-pub fn check(input: &[u8], shift: u64) -> Checked
-    requires { shift ≤ 1680 }
-    ensures { CheckedAs input.now shift result }
+pub fn check(input: &[u8], shift: Shift) -> Checked
+    ensures { CheckedAs input.now shift.minutes result }
 {
     if MOST < input.len() {
         return refused(Refusal::TooLong);

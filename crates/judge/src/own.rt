@@ -1,5 +1,5 @@
 // An element judged, with what is inside it: its attributes, its invariants and the row of its children put together.
-ghost use Rattle.std.specs.Prelude.{◌≡◌, ◌||◌, List, ℕ, ◌≤◌};
+ghost use Rattle.std.specs.Prelude.{◌≡◌, ◌||◌, List, ℕ};
 ghost use Rattle.rules.specs.Refusal.{first_of};
 ghost use Rattle.std.proofs.Math.Option.{some};
 ghost use Rattle.rules.specs.Markup.{Attribute, Nodes, Element};
@@ -23,12 +23,12 @@ use datatype::table::Standing;
 use element::name::NULL_FLAVOR;
 use element::tag::{Tag, has};
 use refusal::{Refusal, first, refused_if};
+use timestamp::Shift;
 
 // What a time says and what its value is refused for; another element says nothing.
-pub fn time_in(s: &[u8], tag: Tag, kind: Kind, shift: u64) -> Time
-    requires fact_1 { TagIn s.now tag }
-    requires fact_2 { shift ≤ 1680 }
-    ensures { (l : List Attribute) → Tells s.now l tag.places → (kind_meant kind ≡ TS → fault_of result.fault ≡ time_fault shift l) × (said_meant result.said ≡ said_of (kind_meant kind) shift l) }
+pub fn time_in(s: &[u8], tag: Tag, kind: Kind, shift: Shift) -> Time
+    requires { TagIn s.now tag }
+    ensures { (l : List Attribute) → Tells s.now l tag.places → (kind_meant kind ≡ TS → fault_of result.fault ≡ time_fault shift.minutes l) × (said_meant result.said ≡ said_of (kind_meant kind) shift.minutes l) }
 {
     if let Kind::Ts = kind {
         return time_of(s, tag, shift);
@@ -65,11 +65,10 @@ pub fn judge_with(
     standing: Standing,
     text: Result<(), Refusal>,
     content: Content,
-    shift: u64,
+    shift: Shift,
 ) -> Result<(), Refusal>
-    requires fact_1 { TagIn s.now tag }
-    requires fact_2 { shift ≤ 1680 }
-    ensures { (depth : ℕ) (v : Element) (after : List ℕ) → TagOf s.now depth v after tag → (kind_meant kind ≡ TS → fault_of text ≡ time_fault shift v.attrs) → ContentAs s.now shift (kind_meant kind) v after content → fault_of result ≡ first_of (judged shift (standing_meant standing) (some (kind_meant kind)) v) }
+    requires { TagIn s.now tag }
+    ensures { (depth : ℕ) (v : Element) (after : List ℕ) → TagOf s.now depth v after tag → (kind_meant kind ≡ TS → fault_of text ≡ time_fault shift.minutes v.attrs) → ContentAs s.now shift.minutes (kind_meant kind) v after content → fault_of result ≡ first_of (judged shift.minutes (standing_meant standing) (some (kind_meant kind)) v) }
 {
     let carried = attributes_fault(s, tag, kind, standing, text, shift);
     let missing = refused_if(Refusal::Shape, lacks(tag, kind));

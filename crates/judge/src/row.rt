@@ -1,5 +1,5 @@
 // Children judged one after another, and what is known of them so far.
-ghost use Rattle.std.specs.Prelude.{◌≡◌, List, ℕ, ◌≤◌};
+ghost use Rattle.std.specs.Prelude.{◌≡◌, List, ℕ};
 ghost use Rattle.std.proofs.Math.Option.{some};
 ghost use Rattle.rules.specs.Basics.{if_some};
 ghost use Rattle.rules.specs.Refusal.{first_of, ◌when◌};
@@ -22,6 +22,7 @@ use datatype::table::{Standing, Step, enough};
 use element::name::{NULL_FLAVOR, XSI_TYPE};
 use element::tag::{Tag, has};
 use refusal::{Refusal, first, refused_if};
+use timestamp::Shift;
 
 // A row of children judged: the first fault, the stage that it has come to, whether there are any, what the last child after which the row
 // stands at stage 1, and the last other one, say as bounds, and where it ends.
@@ -145,10 +146,9 @@ fn with_judged(row: Row, stage: u64, fault: Result<(), Refusal>, said: Said, end
 }
 
 // A row with the child of a tag more, by what it is judged as and what is inside it.
-pub fn with_child(s: &[u8], row: Row, tag: Tag, asked: Asked, content: Content, shift: u64) -> Row
-    requires fact_1 { TagIn s.now tag }
-    requires fact_2 { shift ≤ 1680 }
-    ensures { (result.end ≡ content.end) × ((k : RulesKind) (depth : ℕ) (v : Element) (after : List ℕ) → TagOf s.now depth v after tag → AskedAs shift (step_among (line_of k).children row.stage v.name) row.stage v asked → ContentAs s.now shift (kind_meant asked.kind) v after content → row_meant result ≡ row_step shift k (row_meant row) v) }
+pub fn with_child(s: &[u8], row: Row, tag: Tag, asked: Asked, content: Content, shift: Shift) -> Row
+    requires { TagIn s.now tag }
+    ensures { (result.end ≡ content.end) × ((k : RulesKind) (depth : ℕ) (v : Element) (after : List ℕ) → TagOf s.now depth v after tag → AskedAs shift.minutes (step_among (line_of k).children row.stage v.name) row.stage v asked → ContentAs s.now shift.minutes (kind_meant asked.kind) v after content → row_meant result ≡ row_step shift.minutes k (row_meant row) v) }
 {
     let kind = asked.kind;
     let time = time_in(s, tag, kind, shift);

@@ -5,6 +5,7 @@ ghost use Rattle.element.specs.Tags.{TagIn};
 
 use crate::{put, put_answer};
 use datatype::record::Record;
+use timestamp::Shift;
 use timestamp::tick::Tick;
 
 // What every tick is below.
@@ -20,8 +21,8 @@ fn number_at(list: &[u8], at: usize) -> u64
 }
 
 // Prints whether a tick and the gap after it are meant.
-fn put_place(s: &[u8], held: Record, shift: u64, n: u64)
-    requires { (TagIn s.now held.tag) × (shift ≤ 1680) }
+fn put_place(s: &[u8], held: Record, shift: Shift, n: u64)
+    requires { TagIn s.now held.tag }
 {
     put(b" ");
     if n < MOST {
@@ -31,10 +32,9 @@ fn put_place(s: &[u8], held: Record, shift: u64, n: u64)
 }
 
 // Prints what is meant at the first bounds of a list.
-fn put_places(s: &[u8], held: Record, shift: u64, list: &[u8], bounds: usize)
+fn put_places(s: &[u8], held: Record, shift: Shift, list: &[u8], bounds: usize)
     requires fact_1 { TagIn s.now held.tag }
-    requires fact_2 { shift ≤ 1680 }
-    requires fact_3 { 16 * bounds ≤ length list.now }
+    requires fact_2 { 16 * bounds ≤ length list.now }
 {
     for k in 0..bounds {
         if number_at(list, 16 * k) != 0 {
@@ -45,9 +45,7 @@ fn put_places(s: &[u8], held: Record, shift: u64, list: &[u8], bounds: usize)
 }
 
 // Prints the count of stretches of a record and what is meant at their bounds, if it is listed.
-fn put_record(s: &[u8], shift: u64)
-    requires { shift ≤ 1680 }
-{
+fn put_record(s: &[u8], shift: Shift) {
     let checked = judge::check(s, shift);
     let held = checked.record;
     let mut list = io::buffer();
@@ -61,13 +59,11 @@ fn put_record(s: &[u8], shift: u64)
 }
 
 // The number of four digits that a line begins with, or 1680 if that is less or there is none.
-fn shift_of(line: &[u8]) -> u64
-    ensures { result ≤ 1680 }
-{
-    let Some(n) = text::digits::read(line, 0, 4) else {
-        return 1680;
-    };
-    n.min(1680)
+fn shift_of(line: &[u8]) -> Shift {
+    let n = text::digits::read(line, 0, 4).unwrap_or(1680);
+    Shift {
+        minutes: n.min(1680),
+    }
 }
 
 // Prints a line for the record of a line.

@@ -17,7 +17,7 @@ use datatype::sides::read_sides;
 use element::name::{HIGH_CLOSED, LOW_CLOSED};
 use element::tag::Tag;
 use interval::{Bound, Interval};
-use timestamp::Moment;
+use timestamp::{Moment, Shift};
 
 // An element of an interval: the interval, if its bounds are known, and the position past the element.
 #[derive(Clone, Copy)]
@@ -103,11 +103,10 @@ fn interval_said(s: &[u8], tag: Tag, from: Said, to: Said) -> Option<Interval>
 }
 
 // The interval that the element of a tag writes, where `depth` may be open at once.
-pub fn interval_of(s: &[u8], tag: Tag, depth: usize, shift: u64) -> Written
-    requires fact_1 { TagIn s.now tag }
-    requires fact_2 { shift ≤ 1680 }
+pub fn interval_of(s: &[u8], tag: Tag, depth: usize, shift: Shift) -> Written
+    requires { TagIn s.now tag }
     ensures within { (tag.end ≤ result.end) × (result.end ≤ length s.now) }
-    ensures tells { (v : Element) (after : List ℕ) → TagOf s.now depth v after tag → (written_meant result.interval ≡ interval_of shift v.attrs v.kids) × (after ≡ drop result.end s.now) }
+    ensures tells { (v : Element) (after : List ℕ) → TagOf s.now depth v after tag → (written_meant result.interval ≡ interval_of shift.minutes v.attrs v.kids) × (after ≡ drop result.end s.now) }
 {
     let sides = read_sides(s, tag, depth, shift);
     let from = sides.low;

@@ -2,7 +2,7 @@
 // a record as it is held after checking to what is answered.
 #![tactic(auto)]
 
-ghost use Rattle.std.specs.Prelude.{◌≡◌, true, List, [], ℕ, ◌^◌, ◌≤◌, ◌<◌};
+ghost use Rattle.std.specs.Prelude.{◌≡◌, true, List, [], ℕ, ◌^◌, ◌<◌};
 ghost use Rattle.rules.specs.Markup.{Element};
 ghost use Rattle.rules.specs.Judge.{top_faults};
 ghost use Rattle.rules.specs.Listing.{list_element};
@@ -20,6 +20,7 @@ pub mod set;
 use datatype::record::Record;
 use refusal::Refusal;
 use set::{Shape, shape_of_kind};
+use timestamp::Shift;
 
 // How many elements may be open at once.
 const DEPTH: usize = 8;
@@ -38,11 +39,10 @@ pub fn is_listed(record: Record) -> bool
 }
 
 // Whether a tick, or the gap after it, is in the set of times that a record writes.
-pub fn is_meant(s: &[u8], record: Record, shift: u64, n: u64, gap: bool) -> bool
+pub fn is_meant(s: &[u8], record: Record, shift: Shift, n: u64, gap: bool) -> bool
     requires fact_1 { TagIn s.now «record».tag }
-    requires fact_2 { shift ≤ 1680 }
-    requires fact_3 { n < 2 ^ 60 }
-    ensures { (e : Element) → RecordOf s.now e «record» → result ≡ is_meant shift e (place_of n gap) }
+    requires fact_2 { n < 2 ^ 60 }
+    ensures { (e : Element) → RecordOf s.now e «record» → result ≡ is_meant shift.minutes e (place_of n gap) }
 {
     let tag = record.tag;
     let meant = place::is_meant_at(s, tag, DEPTH, shift, n, gap);
@@ -51,11 +51,10 @@ pub fn is_meant(s: &[u8], record: Record, shift: u64, n: u64, gap: bool) -> bool
 
 // Writes the stretches of the set of times that an accepted record writes into a lent list, four numbers each, and gives their count; or
 // refuses, and leaves the list as it was.
-pub fn list(s: &[u8], record: Record, shift: u64, out: &mut [u8]) -> Result<usize, Refusal>
-    requires fact_1 { TagIn s.now «record».tag }
-    requires fact_2 { shift ≤ 1680 }
+pub fn list(s: &[u8], record: Record, shift: Shift, out: &mut [u8]) -> Result<usize, Refusal>
+    requires { TagIn s.now «record».tag }
     ensures kept { Kept result out.old out.new }
-    ensures tells { (e : Element) → RecordOf s.now e «record» → top_faults shift e ≡ [] → is_listed e ≡ true → Answers (list_element shift (room_of out.old) e) out.old result out.new }
+    ensures tells { (e : Element) → RecordOf s.now e «record» → top_faults shift.minutes e ≡ [] → is_listed e ≡ true → Answers (list_element shift.minutes (room_of out.old) e) out.old result out.new }
     ensures few { Few result }
 {
     let tag = record.tag;

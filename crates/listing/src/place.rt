@@ -15,6 +15,7 @@ use element::row::past_element;
 use element::tag;
 use element::tag::Tag;
 use interval::{Op, apply, is_in};
+use timestamp::Shift;
 
 // Whether a place is in the set that an element writes, and the position past the element.
 #[derive(Clone, Copy)]
@@ -45,12 +46,11 @@ fn in_both(op: Op, any: bool, first: bool, next: bool) -> bool
 }
 
 // Whether a tick, or the gap after it, is in the interval that the element of a tag writes, where `depth` may be open at once.
-fn in_single(s: &[u8], tag: Tag, depth: usize, shift: u64, n: u64, gap: bool) -> Meant
+fn in_single(s: &[u8], tag: Tag, depth: usize, shift: Shift, n: u64, gap: bool) -> Meant
     requires fact_1 { TagIn s.now tag }
-    requires fact_2 { shift ≤ 1680 }
-    requires fact_3 { n < 2 ^ 60 }
+    requires fact_2 { n < 2 ^ 60 }
     ensures within { (tag.end ≤ result.end) × (result.end ≤ length s.now) }
-    ensures tells { (v : Element) (after : List ℕ) → TagOf s.now depth v after tag → (result.is ≡ is_within (interval_of shift v.attrs v.kids) (place_of n gap)) × (after ≡ drop result.end s.now) }
+    ensures tells { (v : Element) (after : List ℕ) → TagOf s.now depth v after tag → (result.is ≡ is_within (interval_of shift.minutes v.attrs v.kids) (place_of n gap)) × (after ≡ drop result.end s.now) }
 {
     let w = interval_of(s, tag, depth, shift);
     let is = match w.interval {
@@ -62,10 +62,10 @@ fn in_single(s: &[u8], tag: Tag, depth: usize, shift: u64, n: u64, gap: bool) ->
 
 // Whether a tick, or the gap after it, is in the set that the element of a tag writes, where `depth` may be open at once. It calls itself
 // for the members, with `depth` falling.
-pub fn is_meant_at(s: &[u8], tag: Tag, depth: usize, shift: u64, n: u64, gap: bool) -> Meant
-    requires { (TagIn s.now tag) × ((shift ≤ 1680) × (n < 2 ^ 60)) }
+pub fn is_meant_at(s: &[u8], tag: Tag, depth: usize, shift: Shift, n: u64, gap: bool) -> Meant
+    requires { (TagIn s.now tag) × (n < 2 ^ 60) }
     ensures within { (tag.end ≤ result.end) × (result.end ≤ length s.now) }
-    ensures tells { MeansElement s.now tag depth shift (place_of n gap) result }
+    ensures tells { MeansElement s.now tag depth shift.minutes (place_of n gap) result }
 {
     let shape = shape_of(s, tag);
     let op = match shape {

@@ -16,6 +16,7 @@ use element::name::{NULL_FLAVOR, XSI_TYPE};
 use element::tag;
 use element::tag::Tag;
 use interval::{Op, Stretches};
+use timestamp::Shift;
 
 // What an element writes, by its type: one interval, or a set of members that an operation puts together, or neither.
 #[derive(Clone, Copy)]
@@ -64,12 +65,11 @@ pub fn shape_of(s: &[u8], tag: Tag) -> Shape
 }
 
 // The set of the one interval that the element of a tag writes, where `depth` may be open at once.
-fn of_single(s: &[u8], tag: Tag, depth: usize, shift: u64) -> Evaluated
-    requires fact_1 { TagIn s.now tag }
-    requires fact_2 { shift ≤ 1680 }
+fn of_single(s: &[u8], tag: Tag, depth: usize, shift: Shift) -> Evaluated
+    requires { TagIn s.now tag }
     ensures formed { IfSome result.times Formed }
     ensures within { (tag.end ≤ result.end) × (result.end ≤ length s.now) }
-    ensures tells { (v : Element) (after : List ℕ) → TagOf s.now depth v after tag → Says (expressed (interval_of shift v.attrs v.kids)) result.times × (after ≡ drop result.end s.now) }
+    ensures tells { (v : Element) (after : List ℕ) → TagOf s.now depth v after tag → Says (expressed (interval_of shift.minutes v.attrs v.kids)) result.times × (after ≡ drop result.end s.now) }
 {
     let w = interval_of(s, tag, depth, shift);
     let times = match w.interval {
@@ -126,11 +126,11 @@ fn join(op: Op, so_far: Evaluated, member: Evaluated) -> Evaluated
 // from the first on. It calls itself for the members, with `depth` falling. The first member that is not known ends it. It is not known where
 // the element is null, of a type that writes neither an interval nor members, or has no member. What is returned is always `so_far`: a set is
 // large, and each place that it is made at is one more to copy it from.
-pub fn evaluate(s: &[u8], tag: Tag, depth: usize, shift: u64) -> Evaluated
-    requires { (TagIn s.now tag) × (shift ≤ 1680) }
+pub fn evaluate(s: &[u8], tag: Tag, depth: usize, shift: Shift) -> Evaluated
+    requires { TagIn s.now tag }
     ensures formed { IfSome result.times Formed }
     ensures within { (tag.end ≤ result.end) × (result.end ≤ length s.now) }
-    ensures tells { SaysElement s.now tag depth shift result }
+    ensures tells { SaysElement s.now tag depth shift.minutes result }
 {
     let mut so_far = Evaluated {
         times: None,

@@ -21,6 +21,7 @@ ghost use Rattle.rigcactus.specs.Faults.{typed_faults, AllowedAs};
 use comparison::Answer;
 use judge::Checked;
 use refusal::Refusal;
+use timestamp::Shift;
 use timestamp::tick::Tick;
 use totals::damage::is_full;
 use totals::entry::Money;
@@ -54,11 +55,13 @@ fn is_offset(offset: i64) -> bool
 }
 
 // 840 less the agreed offset.
-fn shift_of(offset: i64) -> u64
+fn shift_of(offset: i64) -> Shift
     requires { is_offset offset ≡ true }
-    ensures { (result ≡ shift_by offset) × (result ≤ 1680) }
+    ensures { result.minutes ≡ shift_by offset }
 {
-    1680 - ((offset + 840) as u64)
+    Shift {
+        minutes: 1680 - ((offset + 840) as u64),
+    }
 }
 
 // The number of a verdict's refusal, 0 if it is none.

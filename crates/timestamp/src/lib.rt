@@ -10,10 +10,12 @@ ghost use Rattle.timestamp.specs.Moments.{is_date_of, is_clock_of, unit_ticks, P
 pub mod calendar;
 mod form;
 mod fourteen;
+mod shift;
 pub mod tick;
 
 use form::{Offset, Written};
 use refusal::Refusal;
+pub use shift::Shift;
 use tick::Tick;
 
 // A moment: its start and the next start of its smallest written unit, in ticks from fourteen hours before 0001-01-01 00:00, and its
@@ -75,14 +77,13 @@ fn is_zone(zone: Option<Offset>) -> bool
 }
 
 // The minutes to add for an offset, which is subtracted: 840 less the one written, or `shift`, 840 less the one agreed.
-fn minutes_to_add(zone: Option<Offset>, shift: u64) -> u64
+fn minutes_to_add(zone: Option<Offset>, shift: Shift) -> u64
     requires fact_1 { SmallZone zone }
     requires fact_2 { is_zone (zone_of zone) ≡ true }
-    requires fact_3 { shift ≤ 1680 }
-    ensures { (result ≡ shift_of shift (zone_of zone)) × (result ≤ 1680) }
+    ensures { (result ≡ shift_of shift.minutes (zone_of zone)) × (result ≤ 1680) }
 {
     let Some(offset) = zone else {
-        return shift;
+        return shift.minutes;
     };
     let minutes = 60 * offset.hours + offset.minutes;
     if offset.is_behind {
@@ -125,9 +126,9 @@ fn unit_ticks(year: u64, month: u64, parts: usize, digits: usize) -> u64
 }
 
 // The moment of what is written.
-fn make_moment(w: Written, shift: u64) -> Moment
-    requires { Possible shift w }
-    ensures { result ≡ moment_written shift w }
+fn make_moment(w: Written, shift: Shift) -> Moment
+    requires { Possible shift.minutes w }
+    ensures { result ≡ moment_written shift.minutes w }
 {
     let p = w.parts;
     let f = w.fraction;
@@ -150,9 +151,8 @@ fn written(text: &[u8]) -> Option<Written>
 
 // Reads a text as a timestamp; `shift` is 840 less the agreed offset in minutes. A text of the wrong form is VALUE. Of one of the right
 // form an impossible date is DATE, else an impossible clock CLOCK, else an impossible offset ZONE.
-pub fn read(text: &[u8], shift: u64) -> Result<Moment, Refusal>
-    requires { shift ≤ 1680 }
-    ensures { outcome_of result ≡ read_timestamp shift text.now }
+pub fn read(text: &[u8], shift: Shift) -> Result<Moment, Refusal>
+    ensures { outcome_of result ≡ read_timestamp shift.minutes text.now }
 {
     let w = written(text).ok_or(Refusal::Value)?;
     let p = w.parts;

@@ -24,19 +24,19 @@ returns-in-QsdTs c = λ v w after rest g h. rw c.in-QsdTs.is
 
 pub returns-in-Mo : goal.returns-in-Mo
 unfolding comparer_of
-returns-in-Mo c = λ v w after rest g h. rw (c.in-Mo.is, c.compare_money.ensures c.args.shift v w g.tells h.tells)
+returns-in-Mo c = λ v w after rest g h. rw (c.in-Mo.is, c.compare_money.ensures c.args.shift.minutes v w g.tells h.tells)
 
 pub returns-in-Ii : goal.returns-in-Ii
 unfolding comparer_of
-returns-in-Ii c = λ v w after rest g h. rw (c.in-Ii.is, c.compare_identifiers.ensures c.args.shift v w g.tells h.tells)
+returns-in-Ii c = λ v w after rest g h. rw (c.in-Ii.is, c.compare_identifiers.ensures c.args.shift.minutes v w g.tells h.tells)
 
 pub returns-in-Cd : goal.returns-in-Cd
 unfolding comparer_of
-returns-in-Cd c = λ v w after rest g h. rw (c.in-Cd.is, c.compare_codes.ensures c.args.shift v w g.tells h.tells)
+returns-in-Cd c = λ v w after rest g h. rw (c.in-Cd.is, c.compare_codes.ensures c.args.shift.minutes v w g.tells h.tells)
 
 pub returns-in-En : goal.returns-in-En
 unfolding comparer_of
-returns-in-En c = λ v w after rest g h. rw (c.in-En.is, c.compare_names.ensures c.args.shift v w after rest g h)
+returns-in-En c = λ v w after rest g h. rw (c.in-En.is, c.compare_names.ensures c.args.shift.minutes v w after rest g h)
 
 pub returns-in-DisplayName : goal.returns-in-DisplayName
 unfolding comparer_of

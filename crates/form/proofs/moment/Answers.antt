@@ -6,4 +6,4 @@ use Rattle.form.proofs.Quoted.{by_raw}
 use Rattle.form.proofs.moment.Goals as goal
 
 pub returns : goal.returns
-returns c = λ v h. c.read.ensures ∙ by_raw (read_timestamp c.args.shift) (no_timestamp c.args.shift) c.args.s.now c.args.q c.args.e c.requires.fact_2 c.inside-raw.ensures v h
+returns c = λ v h. c.read.ensures ∙ by_raw (read_timestamp c.args.shift.minutes) (no_timestamp c.args.shift.minutes) c.args.s.now c.args.q c.args.e c.requires.fact_2 c.inside-raw.ensures v h

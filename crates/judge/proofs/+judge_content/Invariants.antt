@@ -10,7 +10,7 @@ abbrev pub decreases-judge_content : goal.decreases-judge_content
 decreases-judge_content l = l.depth
 
 abbrev pub invariant-loop-i : goal.invariant-loop-i
-invariant-loop-i l = Walked l.s l.tag l.depth l.row.end (Judges l.shift (kind_meant l.kind) l.row)
+invariant-loop-i l = Walked l.s l.tag l.depth l.row.end (Judges l.shift.minutes (kind_meant l.kind) l.row)
 
 abbrev pub decreases-loop-i : goal.decreases-loop-i
 decreases-loop-i l = length l.s - l.row.end

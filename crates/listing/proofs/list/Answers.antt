@@ -11,7 +11,7 @@ returns-in_default c =
     record {
       kept = refl;
       tells = λ e d f l.
-          answers-unknown c.args.shift e c.args.out.now f l (rw c.in_default.is at (c.evaluate-evaluated.ensures.tells e _ d.tag).0);
+          answers-unknown c.args.shift.minutes e c.args.out.now f l (rw c.in_default.is at (c.evaluate-evaluated.ensures.tells e _ d.tag).0);
       few = tt;
     }
 
@@ -20,7 +20,7 @@ returns-then-written-gt32 c =
     record {
       kept = refl;
       tells = λ e d f l.
-          answers-many c.args.shift e c.args.out.now f l (rw c.in-Some.is at (c.evaluate-evaluated.ensures.tells e _ d.tag).0) c.if-written-gt32.true;
+          answers-many c.args.shift.minutes e c.args.out.now f l (rw c.in-Some.is at (c.evaluate-evaluated.ensures.tells e _ d.tag).0) c.if-written-gt32.true;
       few = tt;
     }
 
@@ -28,7 +28,7 @@ pub returns-then-out-count : goal.returns-then-out-count
 returns-then-out-count c =
     let g : length c.in-Some.written.set.items ≡ 32 = search (length_mapped, rw c.in-Some.is at c.evaluate-evaluated.type_inv) parts 20 in record {
       kept = refl;
-      tells = λ e d f l. answers_no_room c.args.shift e c.args.out.now f l (rw c.in-Some.is at (c.evaluate-evaluated.ensures.tells e _ d.tag).0)
+      tells = λ e d f l. answers_no_room c.args.shift.minutes e c.args.out.now f l (rw c.in-Some.is at (c.evaluate-evaluated.ensures.tells e _ d.tag).0)
           (rw c.in-Some.is at c.evaluate-evaluated.ensures.formed) (omega (arith, c.if-written-gt32.false)) g c.if-out-count.true;
       few = tt;
     }
@@ -37,7 +37,7 @@ pub returns : goal.returns
 returns c =
     let g : length c.in-Some.written.set.items ≡ 32 = search (length_mapped, rw c.in-Some.is at c.evaluate-evaluated.type_inv) parts 20 in record {
       kept = tt;
-      tells = λ e d f l. answers-count c.args.shift e c.args.out.now f l (rw c.in-Some.is at (c.evaluate-evaluated.ensures.tells e _ d.tag).0)
+      tells = λ e d f l. answers-count c.args.shift.minutes e c.args.out.now f l (rw c.in-Some.is at (c.evaluate-evaluated.ensures.tells e _ d.tag).0)
           (rw c.in-Some.is at c.evaluate-evaluated.ensures.formed) (omega (arith, c.if-written-gt32.false)) g (omega (arith, c.if-out-count.false)) c.write_list.ensures;
       few = omega (
         arith,

@@ -18,17 +18,14 @@ returns-then-not-is_offset c = refused-read c.args.offset c.args.«record».now 
 pub shift_of-requires : goal.shift_of-requires
 shift_of-requires c = sym c.is_offset.ensures ∙ c.if-not-is_offset.false
 
-pub check-checked-requires : goal.check-checked-requires
-check-checked-requires c = c.shift_of.ensures.1
-
 pub returns-in_err-typed_fault : goal.returns-in_err-typed_fault
-returns-in_err-typed_fault c = let p = err_from_is_err_and c.from_residual.result c.from_residual.ensures.1 in rw (p.1, p.2) (refused-read c.args.offset c.args.«record».now (money-refused c.args.offset c.args.«record».now (sym (subst (λ z. c.is_offset.result ≡ is_offset z) (to_z-of_z w64 c.args.offset c.ranges.offset) c.is_offset.ensures) ∙ c.if-not-is_offset.false) (subst (λ z. c.shift_of.result ≡ shift_by z) (to_z-of_z w64 c.args.offset c.ranges.offset) c.shift_of.ensures.0) (sym (ap fault_of c.in_err-typed_fault.was) ∙ (c.typed_fault.ensures c.shift_of.result c.args.«record».now is_money c.check-checked.ensures c.is_money.ensures))))
+returns-in_err-typed_fault c = let p = err_from_is_err_and c.from_residual.result c.from_residual.ensures.1 in rw (p.1, p.2) (refused-read c.args.offset c.args.«record».now (money-refused c.args.offset c.args.«record».now (sym (subst (λ z. c.is_offset.result ≡ is_offset z) (to_z-of_z w64 c.args.offset c.ranges.offset) c.is_offset.ensures) ∙ c.if-not-is_offset.false) (subst (λ z. c.shift_of.result.minutes ≡ shift_by z) (to_z-of_z w64 c.args.offset c.ranges.offset) c.shift_of.ensures) (sym (ap fault_of c.in_err-typed_fault.was) ∙ (c.typed_fault.ensures c.shift_of.result.minutes c.args.«record».now is_money c.check-checked.ensures c.is_money.ensures))))
 
 pub read-requires : goal.read-requires
 read-requires c = c.check-checked.ensures.within
 
 pub returns : goal.returns
 returns c =
-    let (e, a, m) = typed-accepted is_money c.args.offset c.args.«record».now (sym (subst (λ z. c.is_offset.result ≡ is_offset z) (to_z-of_z w64 c.args.offset c.ranges.offset) c.is_offset.ensures) ∙ c.if-not-is_offset.false) (subst (λ z. c.shift_of.result ≡ shift_by z) (to_z-of_z w64 c.args.offset c.ranges.offset) c.shift_of.ensures.0) (sym (ap fault_of c.in_ok-typed_fault.was) ∙ (c.typed_fault.ensures c.shift_of.result c.args.«record».now is_money c.check-checked.ensures c.is_money.ensures)) in
+    let (e, a, m) = typed-accepted is_money c.args.offset c.args.«record».now (sym (subst (λ z. c.is_offset.result ≡ is_offset z) (to_z-of_z w64 c.args.offset c.ranges.offset) c.is_offset.ensures) ∙ c.if-not-is_offset.false) (subst (λ z. c.shift_of.result.minutes ≡ shift_by z) (to_z-of_z w64 c.args.offset c.ranges.offset) c.shift_of.ensures) (sym (ap fault_of c.in_ok-typed_fault.was) ∙ (c.typed_fault.ensures c.shift_of.result.minutes c.args.«record».now is_money c.check-checked.ensures c.is_money.ensures)) in
     let (x, y) = c.read.ensures e (shift_by c.args.offset) (accepted-held c.check-checked.result c.check-checked.ensures c.args.offset e a) (check_faultless c.args.offset c.args.«record».now a) m in
     (x, ap answered y ∙ money-read c.args.offset c.args.«record».now e a m)

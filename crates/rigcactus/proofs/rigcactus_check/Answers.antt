@@ -12,9 +12,6 @@ returns-then-not-is_offset c =
 pub shift_of-requires : goal.shift_of-requires
 shift_of-requires c = sym c.is_offset.ensures ∙ c.if-not-is_offset.false
 
-pub check-checked-requires : goal.check-checked-requires
-check-checked-requires c = c.shift_of.ensures.1
-
 pub returns : goal.returns
 returns c =
-    c.verdict_number.ensures ∙ check-judged c.args.offset c.args.«record».now (sym (subst (λ z. c.is_offset.result ≡ is_offset z) (to_z-of_z w64 c.args.offset c.ranges.offset) c.is_offset.ensures) ∙ c.if-not-is_offset.false) (subst (λ z. c.shift_of.result ≡ shift_by z) (to_z-of_z w64 c.args.offset c.ranges.offset) c.shift_of.ensures.0) c.check-checked.ensures.fault
+    c.verdict_number.ensures ∙ check-judged c.args.offset c.args.«record».now (sym (subst (λ z. c.is_offset.result ≡ is_offset z) (to_z-of_z w64 c.args.offset c.ranges.offset) c.is_offset.ensures) ∙ c.if-not-is_offset.false) (subst (λ z. c.shift_of.result.minutes ≡ shift_by z) (to_z-of_z w64 c.args.offset c.ranges.offset) c.shift_of.ensures) c.check-checked.ensures.fault

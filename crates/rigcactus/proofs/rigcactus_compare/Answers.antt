@@ -14,30 +14,24 @@ returns-then-not-is_offset c =
 pub shift_of-shift-requires : goal.shift_of-shift-requires
 shift_of-shift-requires c = sym c.is_offset.ensures ∙ c.if-not-is_offset.false
 
-pub check-one-requires : goal.check-one-requires
-check-one-requires c = c.shift_of-shift.ensures.1
-
 pub returns-in-Err : goal.returns-in-Err
 returns-in-Err c =
     c.first_refused-in-Err.ensures ∙ compare_first c.args.offset c.args.first.now c.args.second.now _
-    (judged-refused c.args.offset c.args.first.now (sym (subst (λ z. c.is_offset.result ≡ is_offset z) (to_z-of_z w64 c.args.offset c.ranges.offset) c.is_offset.ensures) ∙ c.if-not-is_offset.false) (subst (λ z. c.shift_of-shift.result ≡ shift_by z) (to_z-of_z w64 c.args.offset c.ranges.offset) c.shift_of-shift.ensures.0) _ (sym (ap fault_of c.in-Err.is) ∙ c.check-one.ensures.fault))
-
-pub check-other-requires : goal.check-other-requires
-check-other-requires c = c.shift_of-shift.ensures.1
+    (judged-refused c.args.offset c.args.first.now (sym (subst (λ z. c.is_offset.result ≡ is_offset z) (to_z-of_z w64 c.args.offset c.ranges.offset) c.is_offset.ensures) ∙ c.if-not-is_offset.false) (subst (λ z. c.shift_of-shift.result.minutes ≡ shift_by z) (to_z-of_z w64 c.args.offset c.ranges.offset) c.shift_of-shift.ensures) _ (sym (ap fault_of c.in-Err.is) ∙ c.check-one.ensures.fault))
 
 pub returns-in-Err-fault : goal.returns-in-Err-fault
 returns-in-Err-fault c =
-    let (a, h) = judged-accepted c.args.offset c.args.first.now (sym (subst (λ z. c.is_offset.result ≡ is_offset z) (to_z-of_z w64 c.args.offset c.ranges.offset) c.is_offset.ensures) ∙ c.if-not-is_offset.false) (subst (λ z. c.shift_of-shift.result ≡ shift_by z) (to_z-of_z w64 c.args.offset c.ranges.offset) c.shift_of-shift.ensures.0) (sym (ap fault_of c.in_default.is) ∙ c.check-one.ensures.fault) in
+    let (a, h) = judged-accepted c.args.offset c.args.first.now (sym (subst (λ z. c.is_offset.result ≡ is_offset z) (to_z-of_z w64 c.args.offset c.ranges.offset) c.is_offset.ensures) ∙ c.if-not-is_offset.false) (subst (λ z. c.shift_of-shift.result.minutes ≡ shift_by z) (to_z-of_z w64 c.args.offset c.ranges.offset) c.shift_of-shift.ensures) (sym (ap fault_of c.in_default.is) ∙ c.check-one.ensures.fault) in
     c.second_refused.ensures ∙ compare_second c.args.offset c.args.first.now c.args.second.now a h _
-    (judged-refused c.args.offset c.args.second.now (sym (subst (λ z. c.is_offset.result ≡ is_offset z) (to_z-of_z w64 c.args.offset c.ranges.offset) c.is_offset.ensures) ∙ c.if-not-is_offset.false) (subst (λ z. c.shift_of-shift.result ≡ shift_by z) (to_z-of_z w64 c.args.offset c.ranges.offset) c.shift_of-shift.ensures.0) _ (sym (ap fault_of c.in-Err-fault.is) ∙ c.check-other.ensures.fault))
+    (judged-refused c.args.offset c.args.second.now (sym (subst (λ z. c.is_offset.result ≡ is_offset z) (to_z-of_z w64 c.args.offset c.ranges.offset) c.is_offset.ensures) ∙ c.if-not-is_offset.false) (subst (λ z. c.shift_of-shift.result.minutes ≡ shift_by z) (to_z-of_z w64 c.args.offset c.ranges.offset) c.shift_of-shift.ensures) _ (sym (ap fault_of c.in-Err-fault.is) ∙ c.check-other.ensures.fault))
 
 pub compare-requires : goal.compare-requires
 compare-requires c =
-    record { fact_1 = c.check-one.ensures.within; fact_2 = c.check-other.ensures.within; fact_3 = c.shift_of-shift.ensures.1 }
+    record { fact_1 = c.check-one.ensures.within; fact_2 = c.check-other.ensures.within }
 
 pub returns : goal.returns
 returns c =
-    let (a, h) = judged-accepted c.args.offset c.args.first.now (sym (subst (λ z. c.is_offset.result ≡ is_offset z) (to_z-of_z w64 c.args.offset c.ranges.offset) c.is_offset.ensures) ∙ c.if-not-is_offset.false) (subst (λ z. c.shift_of-shift.result ≡ shift_by z) (to_z-of_z w64 c.args.offset c.ranges.offset) c.shift_of-shift.ensures.0) (sym (ap fault_of c.in_default.is) ∙ c.check-one.ensures.fault) in
-    let (b, k) = judged-accepted c.args.offset c.args.second.now (sym (subst (λ z. c.is_offset.result ≡ is_offset z) (to_z-of_z w64 c.args.offset c.ranges.offset) c.is_offset.ensures) ∙ c.if-not-is_offset.false) (subst (λ z. c.shift_of-shift.result ≡ shift_by z) (to_z-of_z w64 c.args.offset c.ranges.offset) c.shift_of-shift.ensures.0) (sym (ap fault_of c.in_default-fault.is) ∙ c.check-other.ensures.fault) in
-    c.compared_number.ensures ∙ compare_both c.args.offset c.args.first.now c.args.second.now a h b k (subst (λ z. c.shift_of-shift.result ≡ shift_by z) (to_z-of_z w64 c.args.offset c.ranges.offset) c.shift_of-shift.ensures.0)
+    let (a, h) = judged-accepted c.args.offset c.args.first.now (sym (subst (λ z. c.is_offset.result ≡ is_offset z) (to_z-of_z w64 c.args.offset c.ranges.offset) c.is_offset.ensures) ∙ c.if-not-is_offset.false) (subst (λ z. c.shift_of-shift.result.minutes ≡ shift_by z) (to_z-of_z w64 c.args.offset c.ranges.offset) c.shift_of-shift.ensures) (sym (ap fault_of c.in_default.is) ∙ c.check-one.ensures.fault) in
+    let (b, k) = judged-accepted c.args.offset c.args.second.now (sym (subst (λ z. c.is_offset.result ≡ is_offset z) (to_z-of_z w64 c.args.offset c.ranges.offset) c.is_offset.ensures) ∙ c.if-not-is_offset.false) (subst (λ z. c.shift_of-shift.result.minutes ≡ shift_by z) (to_z-of_z w64 c.args.offset c.ranges.offset) c.shift_of-shift.ensures) (sym (ap fault_of c.in_default-fault.is) ∙ c.check-other.ensures.fault) in
+    c.compared_number.ensures ∙ compare_both c.args.offset c.args.first.now c.args.second.now a h b k (subst (λ z. c.shift_of-shift.result.minutes ≡ shift_by z) (to_z-of_z w64 c.args.offset c.ranges.offset) c.shift_of-shift.ensures)
     (c.compare.ensures a b (accepted-held c.check-one.result c.check-one.ensures c.args.offset a h) (accepted-held c.check-other.result c.check-other.ensures c.args.offset b k))

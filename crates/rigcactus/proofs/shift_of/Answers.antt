@@ -27,4 +27,4 @@ pub returns : goal.returns
 returns c =
     let h : 1680 - shift_by c.args.offset < 2 ^ 60 = omega arith in
     rw (to_z-of_z w64 c.args.offset c.ranges.offset, offset-sum c.args.offset c.requires, to_z-of_z w64 (pos (1680 - shift_by c.args.offset)) (small-fits _ h))
-    (omega (arith, shift_most c.args.offset c.requires), omega arith)
+    (omega (arith, shift_most c.args.offset c.requires))

@@ -11,5 +11,5 @@ returns c = λ v w after rest g h.
     let (yl, yh, ye) = c.read_sides-second.ensures.tells w rest h in
     let low = c.same_attribute-lows.ensures v.attrs w.attrs g.tells h.tells in
     let high = c.same_attribute-highs.ensures v.attrs w.attrs g.tells h.tells in
-    c.also.ensures ∙ both-answers (said_sides c.args.shift Low v w low xl yl c.compare_said-low.ensures)
-    (said_sides c.args.shift High v w high xh yh c.compare_said-high.ensures)
+    c.also.ensures ∙ both-answers (said_sides c.args.shift.minutes Low v w low xl yl c.compare_said-low.ensures)
+    (said_sides c.args.shift.minutes High v w high xh yh c.compare_said-high.ensures)

@@ -9,7 +9,7 @@ pub returns-then-place-eq0 : goal.returns-then-place-eq0
 returns-then-place-eq0 c = λ o p. rw (absent p c.if-place-eq0.true) (refl, refl)
 
 pub moment-requires : goal.moment-requires
-moment-requires c = record { fact_1 = c.end-end.ensures.on_1 (omega (arith, c.requires.fact_1, c.if-place-eq0.false)); fact_2 = c.end-end.ensures.on_2; fact_3 = c.requires.fact_2 }
+moment-requires c = record { fact_1 = c.end-end.ensures.on_1 (omega (arith, c.requires, c.if-place-eq0.false)); fact_2 = c.end-end.ensures.on_2 }
 
 pub returns-in-Ok : goal.returns-in-Ok
 unfolding first_of

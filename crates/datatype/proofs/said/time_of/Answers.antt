@@ -7,7 +7,7 @@ use Rattle.element.proofs.Asked.{absent, present}
 use Rattle.datatype.proofs.said.time_of.Goals as goal
 
 pub time_at-time-requires : goal.time_at-time-requires
-time_at-time-requires c = record { fact_1 = c.requires.fact_1.placed 0; fact_2 = c.requires.fact_2 }
+time_at-time-requires c = c.requires.placed 0
 
 pub returns-then-flavor-eq0 : goal.returns-then-flavor-eq0
 returns-then-flavor-eq0 c = λ l t.
@@ -15,7 +15,7 @@ returns-then-flavor-eq0 c = λ l t.
     (fault, rw (absent (t.placed 1 (omega arith)) c.if-flavor-eq0.true) said)
 
 pub flavor_said-requires : goal.flavor_said-requires
-flavor_said-requires c = omega (arith, c.requires.fact_1.placed 1)
+flavor_said-requires c = omega (arith, c.requires.placed 1)
 
 pub returns : goal.returns
 returns c = λ l t.

@@ -5,19 +5,19 @@ use Rattle.datatype.proofs.Finding.{sought_goes, sought_ends}
 use Rattle.datatype.proofs.sides.read_sides.Goals as goal
 
 pub loop-i-init : goal.loop-i-init
-loop-i-init c = walk_begins c.requires.fact_1.end (λ all. (refl, refl))
+loop-i-init c = walk_begins c.requires.end (λ all. (refl, refl))
 
 pub next_inside-next-requires : goal.next_inside-next-requires
-next_inside-next-requires c = let tag = c.requires.fact_1 in record { fact_1 = tag.name; fact_2 = tag.past; fact_3 = c.loop-i.invariant.within }
+next_inside-next-requires c = let tag = c.requires in record { fact_1 = tag.name; fact_2 = tag.past; fact_3 = c.loop-i.invariant.within }
 
 pub read-child-requires : goal.read-child-requires
 read-child-requires c = omega (arith, (rw c.in-Child.is at c.next_inside-next.ensures).high)
 
 pub after_child-low-requires : goal.after_child-low-requires
-after_child-low-requires c = record { fact_1 = c.read-child.ensures.within.0; fact_2 = c.requires.fact_2 }
+after_child-low-requires c = c.read-child.ensures.within.0
 
 pub after_child-high-requires : goal.after_child-high-requires
-after_child-high-requires c = record { fact_1 = c.read-child.ensures.within.0; fact_2 = c.requires.fact_2 }
+after_child-high-requires c = c.read-child.ensures.within.0
 
 pub overflow_sub-depth : goal.overflow_sub-depth
 overflow_sub-depth c = (rw c.in-Child.is at c.next_inside-next.ensures).deep
@@ -33,7 +33,7 @@ pub loop-i-preserved : goal.loop-i-preserved
 loop-i-preserved c =
     walk_goes (rw c.in-Child.is at c.next_inside-next.ensures) (c.read-child.ensures.within, c.read-child.ensures.tells) c.loop-i.invariant c.past_element-at.ensures.within (λ all k v rest h p. (
       c.past_element-at.ensures.tells v rest h,
-      sought_goes c.args.shift c.loop-i.low c.loop-i.high v c.after_child-low.result c.after_child-high.result
+      sought_goes c.args.shift.minutes c.loop-i.low c.loop-i.high v c.after_child-low.result c.after_child-high.result
           (c.after_child-low.ensures _ v rest h) (c.after_child-high.ensures _ v rest h) all k p,
     ))
 
@@ -43,6 +43,6 @@ returns-in-Past c =
       within = (omega (arith, l.invariant.from, n.low), n.high);
       tells = λ v after h.
           let (p, e) = walk_ends n l.invariant v after h in
-          let (x, y) = sought_ends c.args.shift l.low l.high v.kids p in
+          let (x, y) = sought_ends c.args.shift.minutes l.low l.high v.kids p in
           (rw c.unwrap_or-first.ensures x, rw c.unwrap_or-last.ensures y, e);
     }

@@ -17,8 +17,8 @@ loop-n-init c = (omega arith, λ l t h. sym (earlier-none_right (fault_of c.othe
 
 pub attribute_fault-requires : goal.attribute_fault-requires
 attribute_fault-requires c =
-    let q = c.requires.fact_1.placed c.loop-n.n in
-    record { fact_1 = c.loop-n-test.true; fact_2 = omega (arith, c.if-place-ne0.true); fact_3 = omega (arith, q, c.if-place-ne0.true); fact_4 = c.requires.fact_2 }
+    let q = c.requires.placed c.loop-n.n in
+    record { fact_1 = c.loop-n-test.true; fact_2 = omega (arith, c.if-place-ne0.true); fact_3 = omega (arith, q, c.if-place-ne0.true) }
 
 pub loop-n-preserved : goal.loop-n-preserved
 loop-n-preserved c = (
@@ -26,7 +26,7 @@ loop-n-preserved c = (
   λ l t h.
       let n = c.loop-n.n in
       let a = c.args in
-      let f = attribute_faults a.shift (standing_meant a.standing) (kind_meant a.kind) in
+      let f = attribute_faults a.shift.minutes (standing_meant a.standing) (kind_meant a.kind) in
       let at = t.placed n c.loop-n-test.true in
       let o = fault_of c.others_fault-so_far.result in
       let i = c.loop-n.invariant.1 l t h in
@@ -39,5 +39,5 @@ loop-n-preserved c = (
 pub returns : goal.returns
 returns c = λ d v after t h.
     let a = c.args in
-    all-judged a.shift (standing_meant a.standing) (kind_meant a.kind) v.attrs t.distinct
+    all-judged a.shift.minutes (standing_meant a.standing) (kind_meant a.kind) v.attrs t.distinct
     (omega (arith, c.loop-n-test.false, c.loop-n.invariant.0)) (c.others_fault-so_far.ensures v.attrs t.others t.namespaces) (c.loop-n.invariant.1 v.attrs t.tells h)

@@ -18,5 +18,5 @@ use Rattle.judge.proofs.carried.attributes_fault.Given as goal
 
 abbrev pub invariant-loop-n : goal.invariant-loop-n
 invariant-loop-n l = (l.n ≤ known)
-    × ((attrs : List Attribute) → Tells l.s attrs l.fn.tag.places → (kind_meant l.kind ≡ TS → fault_of l.time ≡ time_fault l.shift attrs)
-    → fault_of l.so_far ≡ earlier (fault_of l.initial.so_far) (below (attribute_faults l.shift (standing_meant l.standing) (kind_meant l.kind)) attrs l.n))
+    × ((attrs : List Attribute) → Tells l.s attrs l.fn.tag.places → (kind_meant l.kind ≡ TS → fault_of l.time ≡ time_fault l.shift.minutes attrs)
+    → fault_of l.so_far ≡ earlier (fault_of l.initial.so_far) (below (attribute_faults l.shift.minutes (standing_meant l.standing) (kind_meant l.kind)) attrs l.n))

@@ -10,7 +10,7 @@ pub shape_of-shape-requires : goal.shape_of-shape-requires
 shape_of-shape-requires t c = c.requires.0
 
 pub in_single-requires : goal.in_single-requires
-in_single-requires t c = record { fact_1 = c.requires.0; fact_2 = c.requires.1.0; fact_3 = c.requires.1.1 }
+in_single-requires t c = record { fact_1 = c.requires.0; fact_2 = c.requires.1 }
 
 pub returns-in-Single : goal.returns-in-Single
 returns-in-Single t c =
@@ -18,7 +18,7 @@ returns-in-Single t c =
       within = c.in_single.ensures.within;
       tells = λ v after h.
           let (m, e) = c.in_single.ensures.tells v after h in
-          (means_single args.shift v (place_of args.n args.gap) (rw c.in-Single.is at (c.shape_of-shape.ensures _ v after h)) m, e);
+          (means_single args.shift.minutes v (place_of args.n args.gap) (rw c.in-Single.is at (c.shape_of-shape.ensures _ v after h)) m, e);
     }
 
 pub past_element-requires : goal.past_element-requires
@@ -29,7 +29,7 @@ returns-in-Other t c =
     let args = c.args in record {
       within = c.past_element.ensures.within;
       tells = λ v after h. (
-        means-other args.shift v (place_of args.n args.gap) (rw c.in-Other.is at (c.shape_of-shape.ensures _ v after h)),
+        means-other args.shift.minutes v (place_of args.n args.gap) (rw c.in-Other.is at (c.shape_of-shape.ensures _ v after h)),
         c.past_element.ensures.tells v after h,
       );
     }
@@ -61,7 +61,7 @@ loop-i-preserved t c =
       walk_goes (rw c.in-Child.is at c.next_inside-next.ensures) (c.read-child.ensures.within, c.read-child.ensures.tells) c.loop-i.invariant.1 c.is_meant_at-member.ensures.within (λ all left v rest h p.
           let (m, e) = c.is_meant_at-member.ensures.tells v rest h in (
             e,
-            place_goes args.shift c.in-Members.op (place_of args.n args.gap) c.loop-i.any c.loop-i.so_far v c.is_meant_at-member.result.is
+            place_goes args.shift.minutes c.in-Members.op (place_of args.n args.gap) c.loop-i.any c.loop-i.so_far v c.is_meant_at-member.result.is
                 m c.in_both-so_far.result c.in_both-so_far.ensures all left p,
           )),
     )
@@ -75,5 +75,5 @@ returns-in-Past t c =
       tells = λ v after h.
           let (p, e) = walk_ends n l.invariant.1 v after h in
           let w = rw c.in-Members.is at (c.shape_of-shape.ensures _ v after h) in
-          (means_members args.shift v x op w (place_ends args.shift op x l.any l.so_far l.invariant.0 v.kids p), e);
+          (means_members args.shift.minutes v x op w (place_ends args.shift.minutes op x l.any l.so_far l.invariant.0 v.kids p), e);
     }

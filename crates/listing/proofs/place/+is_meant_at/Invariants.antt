@@ -10,7 +10,7 @@ abbrev pub decreases-is_meant_at : goal.decreases-is_meant_at
 decreases-is_meant_at l = l.depth
 
 abbrev pub invariant-loop-i : goal.invariant-loop-i
-invariant-loop-i l = Begun l.op l.any l.so_far × Walked l.s l.tag l.depth l.at (Placing l.shift l.op (place_of l.n l.gap) l.any l.so_far)
+invariant-loop-i l = Begun l.op l.any l.so_far × Walked l.s l.tag l.depth l.at (Placing l.shift.minutes l.op (place_of l.n l.gap) l.any l.so_far)
 
 abbrev pub decreases-loop-i : goal.decreases-loop-i
 decreases-loop-i l = length l.s - l.at

@@ -10,15 +10,15 @@ use Rattle.listing.proofs.set.+evaluate.Goals as goal
 pub returns-then-has : goal.returns-then-has
 returns-then-has t c = record {
   formed = tt;
-  within = (omega arith, c.requires.0.end);
-  tells = none_said c.args.shift _ (λ v after h. (_, null-set c.args.shift v (c.has.ensures _ v.attrs h.tells) c.if-has.true));
+  within = (omega arith, c.requires.end);
+  tells = none_said c.args.shift.minutes _ (λ v after h. (_, null-set c.args.shift.minutes v (c.has.ensures _ v.attrs h.tells) c.if-has.true));
 }
 
 pub shape_of-requires : goal.shape_of-requires
-shape_of-requires t c = c.requires.0
+shape_of-requires t c = c.requires
 
 pub of_single-so_far-requires : goal.of_single-so_far-requires
-of_single-so_far-requires t c = record { fact_1 = c.requires.0; fact_2 = c.requires.1 }
+of_single-so_far-requires t c = c.requires
 
 pub returns-in-Single : goal.returns-in-Single
 returns-in-Single t c =
@@ -28,24 +28,24 @@ returns-in-Single t c =
       tells = λ v after h.
           let (s, e) = c.of_single-so_far.ensures.tells v after h in
           let w = rw c.in-Single.is at (c.shape_of.ensures _ v after h) in
-          (single_set c.args.shift v (c.has.ensures _ v.attrs h.tells) c.if-has.false w s, λ k. e);
+          (single_set c.args.shift.minutes v (c.has.ensures _ v.attrs h.tells) c.if-has.false w s, λ k. e);
     }
 
 pub returns-in-Other : goal.returns-in-Other
 returns-in-Other t c = record {
   formed = tt;
-  within = (omega arith, c.requires.0.end);
-  tells = none_said c.args.shift _ (λ v after h. (
+  within = (omega arith, c.requires.end);
+  tells = none_said c.args.shift.minutes _ (λ v after h. (
     _,
-    other-set c.args.shift v (c.has.ensures _ v.attrs h.tells) c.if-has.false (rw c.in-Other.is at (c.shape_of.ensures _ v after h)),
+    other-set c.args.shift.minutes v (c.has.ensures _ v.attrs h.tells) c.if-has.false (rw c.in-Other.is at (c.shape_of.ensures _ v after h)),
   ));
 }
 
 pub loop-i-init : goal.loop-i-init
-loop-i-init t c = (tt, walk_begins c.requires.0.end (λ all. (none, none_yet, refl)))
+loop-i-init t c = (tt, walk_begins c.requires.end (λ all. (none, none_yet, refl)))
 
 pub next_inside-requires : goal.next_inside-requires
-next_inside-requires t c = let tag = c.requires.0 in record { fact_1 = tag.name; fact_2 = tag.past; fact_3 = c.loop-i.invariant.1.within }
+next_inside-requires t c = let tag = c.requires in record { fact_1 = tag.name; fact_2 = tag.past; fact_3 = c.loop-i.invariant.1.within }
 
 pub read-child-requires : goal.read-child-requires
 read-child-requires t c = omega (arith, (rw c.in-Child.is at c.next_inside.ensures).high)
@@ -55,13 +55,13 @@ overflow_sub-depth t c = (rw c.in-Child.is at c.next_inside.ensures).deep
 
 pub evaluate-member-requires : goal.evaluate-member-requires
 evaluate-member-requires t c =
-    (omega (arith, (rw c.in-Child.is at c.next_inside.ensures).deep), (c.read-child.ensures.within.0, c.requires.1))
+    (omega (arith, (rw c.in-Child.is at c.next_inside.ensures).deep), c.read-child.ensures.within.0)
 
 pub returns-then-is_none : goal.returns-then-is_none
 returns-then-is_none t c =
     let n = rw c.in-Child.is at c.next_inside.ensures in
     let w = c.loop-i.invariant.1 in
-    let shift = c.args.shift in let op = c.in-Members.op in record {
+    let shift = c.args.shift.minutes in let op = c.in-Members.op in record {
       formed = tt;
       within = (w.from, w.within);
       tells = λ v after h.
@@ -90,13 +90,13 @@ loop-i-preserved t c =
       f,
       walk_goes (rw c.in-Child.is at c.next_inside.ensures) (c.read-child.ensures.within, c.read-child.ensures.tells) c.loop-i.invariant.1 (rw z e.ensures.within) (λ all left v rest h p.
           let (s, q) = e.ensures.tells v rest h in
-          (rw z (q known), member-known c.args.shift op v s all left p known c.join-so_far.ensures.tells)),
+          (rw z (q known), member-known c.args.shift.minutes op v s all left p known c.join-so_far.ensures.tells)),
     )
 
 pub returns-in-Past : goal.returns-in-Past
 returns-in-Past t c =
     let (f, w) = c.loop-i.invariant in let n = rw c.in-Past.is at c.next_inside.ensures in
-    let shift = c.args.shift in let op = c.in-Members.op in record {
+    let shift = c.args.shift.minutes in let op = c.in-Members.op in record {
       formed = f;
       within = (omega (arith, w.from, n.low), n.high);
       tells = λ v after h.

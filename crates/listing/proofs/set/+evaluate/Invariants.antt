@@ -11,7 +11,7 @@ abbrev pub decreases-evaluate : goal.decreases-evaluate
 decreases-evaluate l = l.depth
 
 abbrev pub invariant-loop-i : goal.invariant-loop-i
-invariant-loop-i l = IfSome l.so_far.times Formed × Walked l.s l.tag l.depth l.so_far.end (Evaluating l.shift l.op l.so_far.times)
+invariant-loop-i l = IfSome l.so_far.times Formed × Walked l.s l.tag l.depth l.so_far.end (Evaluating l.shift.minutes l.op l.so_far.times)
 
 abbrev pub decreases-loop-i : goal.decreases-loop-i
 decreases-loop-i l = length l.s - l.so_far.end
