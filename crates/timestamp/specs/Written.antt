@@ -76,7 +76,16 @@ abbrev pub FormOf : List ℕ → Option Written → Type 0
 FormOf s (Some c) = (w : RulesWritten) × (whole timestamp s ≡ some w) × Writes w c
 FormOf s None = whole timestamp s ≡ none
 
--- fourteen digits and nothing else, as what is written, or another text
+-- fourteen digits, as what is written
+abbrev pub fourteen_written : Written → Written
+fourteen_written c = record {
+  year = c.year;
+  parts = record { count = 5; month = c.parts.month; day = c.parts.day; hour = c.parts.hour; minute = c.parts.minute; second = c.parts.second; end = 14 };
+  fraction = record { value = 0; count = 0; end = 14 };
+  zone = None;
+}
+
+-- fourteen digits and nothing else, or another text
 abbrev pub FourteenOf : List ℕ → Option Written → Type 0
-FourteenOf s (Some c) = FormOf s (Some c)
+FourteenOf s (Some c) = FormOf s (Some c) × (c ≡ fourteen_written c)
 FourteenOf s None = length s ≡ 14 → every is_digit s ≡ false
