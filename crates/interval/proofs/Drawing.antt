@@ -7,12 +7,12 @@ use Rattle.interval.specs.declared.Interval.{Interval}
 use Rattle.interval.specs.declared.Stretches.{Stretches}
 use Rattle.interval.specs.declared.Op.{Op}
 use Rattle.interval.specs.declared.Op.TheVariants.{Union, Intersection, Difference}
-use Rattle.interval.specs.Meaning.{op_of, used, Canonical, Holds, applied}
+use Rattle.interval.specs.Meaning.{op_of, Ticked, AllTicked, used, Canonical, Holds, applied}
 use Rattle.interval.specs.Edges.{top, low_edge, high_edge, edges, Rising, Climbs, rank, padded, Inputs, Edged, Merged, Drawn}
 use Rattle.interval.proofs.Ranks.{le-or-lt, rank_more, rank_below, rank-append, rank-take, rising_climbs, climbs_rising, rising_next, below_at}
 use Rattle.interval.proofs.Places.{spot, spot_below, is_in-within, rising_canonical}
 use Rattle.interval.proofs.Sweep.{padded-length}
-use Rattle.interval.proofs.Items.{all-ticked, edges-snoc, is_in-edges, edges_climb, edges_few, edges-padded}
+use Rattle.interval.proofs.Items.{edges-snoc, ticked-snoc, is_in-edges, edges_climb, edges_few, edges-padded}
 
 module _ (n : ℕ) (l : List ℕ) (d : Edged n l) where
   edged_climbs : Climbs 0 l
@@ -54,6 +54,9 @@ module _ (l : List ℕ) (items : List Interval) (k : ℕ) (v : Interval) (long :
   stored : take (k + 1) (set items k v) ≡ take k items ++ v ∷ []
   stored = rw add-one (take-suc-set items k v (omega arith))
 
+  pub ticked_more : AllTicked (take k items) → Ticked v.low → Ticked v.high → AllTicked (take (k + 1) (set items k v))
+  ticked_more t a b = rw stored (ticked-snoc (take k items) v t a b)
+
   take_pair : take (2 * (k + 1)) l ≡ take (2 * k) l ++ get_or l (2 * k) 0 ∷ get_or l (2 * k + 1) 0 ∷ []
   take_pair =
       let e : 2 * (k + 1) ≡ suc (2 * k + 1) = omega arith in
@@ -85,10 +88,10 @@ drawn-holds op a b r n l ca cb fit m d =
     let rises : Rising 0 (edges (used r)) =
     rw d.edges_are (climbs_rising l 0 (2 * r.count) (edged_climbs n l m.edged) (omega (arith, d.most, edged-rank n l m.edged))) in
     record {
-      canonical = record { fits = omega (arith, few); ticked = all-ticked (used r); rises = rising_canonical (used r) 0 rises };
+      canonical = record { fits = omega (arith, few); ticked = d.ticked; rises = rising_canonical (used r) 0 d.ticked rises };
       places = λ x.
           let short : rank l (suc (spot x)) ≤ 2 * r.count = omega (arith, rank_more l (suc (spot x)) top (spot_below x), edged-rank n l m.edged, d.fewest) in
-          let e0 = is_in-within (used r) 0 rises x in
+          let e0 = is_in-within (used r) 0 d.ticked rises x in
           let e1 = d.edges_are in
           let e2 = rank-take l (2 * r.count) (suc (spot x)) short in
           let e3 = m.agrees (spot x) (spot_below x) in

@@ -1,10 +1,9 @@
 -- The items of a set as edges, which the code stores in an array of 65 with `top` after them.
-use Rattle.std.proofs.Common.{◌≡◌, ℕ, suc, ◌+◌, ◌-◌, ◌*◌, ◌<◌, ◌≤◌, false, ◌||◌, List, [], ◌∷◌, ◌++◌, map, length, get_or, take, drop, set, sym, refl, ap, ◌∙◌, append_assoc, zero-le, add-one, arith, drop_of_length-le, length-take, length-take-le, drop-cons, take-suc}
+use Rattle.std.proofs.Common.{◌≡◌, ℕ, zero, suc, ◌+◌, ◌-◌, ◌*◌, ◌<◌, ◌≤◌, false, ◌||◌, List, [], ◌∷◌, ◌++◌, map, length, get_or, take, drop, set, sym, refl, ap, ◌∙◌, append_assoc, zero-le, add-one, arith, drop_of_length-le, length-take, length-take-le, drop-cons, get_or-take, take-suc}
 use lib.ListN.{length-map}
-use mathlib.Core.HLevel.{is_prop→PathP}
-use Rattle.std.proofs.Props.{props}
 use Rattle.rules.specs.Basics.{exists}
 use Rattle.rules.specs.Sets.{Place, holds, is_in}
+use Rattle.interval.specs.declared.Bound.TheVariants.{Unbounded}
 use Rattle.interval.specs.declared.Interval.{Interval}
 use Rattle.interval.specs.declared.Stretches.{Stretches}
 use Rattle.interval.specs.Meaning.{interval_of, Ticked, AllTicked, used, stretches_of, Canonical}
@@ -17,14 +16,13 @@ use Rattle.interval.proofs.Sweep.{length-snoc, store, padded-length}
 pub length_mapped : (X Y : Type 0) (f : X → Y) (l : List X) (n : ℕ) → length (map f l) ≡ n → length l ≡ n
 length_mapped X Y f l n p = sym (length-map l f) ∙ p
 
+-- what an array of intervals is past its end
+abbrev pub nowhere : Interval
+nowhere = record { low = Unbounded; high = Unbounded }
+
 -- intervals with the same bounds are the same
 pub same_interval : {v w : Interval} → v.low ≡ w.low → v.high ≡ w.high → v ≡ w
-same_interval {v} {w} p q = λ i. record {
-  low = p i;
-  high = q i;
-  low_ticked = is_prop→PathP (λ j. Ticked (p j)) (λ j. Prim.hlevel props) v.low_ticked w.low_ticked i;
-  high_ticked = is_prop→PathP (λ j. Ticked (q j)) (λ j. Prim.hlevel props) v.high_ticked w.high_ticked i;
-}
+same_interval p q = λ i. record { low = p i; high = q i }
 
 -- ---- edges of lists of intervals
 edges-length : (l : List Interval) → length (edges l) ≡ 2 * length l
@@ -35,9 +33,14 @@ pub edges-snoc : (l : List Interval) (v : Interval) → edges (l ++ v ∷ []) �
 edges-snoc [] v = refl
 edges-snoc (w ∷ l) v = ap (λ (r : List ℕ). low_edge w.low ∷ high_edge w.high ∷ r) (edges-snoc l v)
 
-pub all-ticked : (l : List Interval) → AllTicked l
-all-ticked [] = tt
-all-ticked (v ∷ l) = (v.low_ticked, v.high_ticked, all-ticked l)
+pub ticked-snoc : (l : List Interval) (v : Interval) → AllTicked l → Ticked v.low → Ticked v.high → AllTicked (l ++ v ∷ [])
+ticked-snoc [] v t a b = (a, b, tt)
+ticked-snoc (w ∷ l) v t a b = (t.0, t.1, ticked-snoc l v t.2 a b)
+
+pub ticked-at : (l : List Interval) (k : ℕ) (d : Interval) → AllTicked l → k < length l → Ticked (get_or l k d).low × Ticked (get_or l k d).high
+ticked-at [] k d t h = absurd (omega arith)
+ticked-at (v ∷ l) zero d t h = (t.0, t.1)
+ticked-at (v ∷ l) (suc k) d t h = ticked-at l k d t.2 (omega arith)
 
 -- two edges stored at the end of padded edges
 store_pair : (l : List ℕ) (k a e : ℕ) → length l ≡ 2 * k → k < 32 → set (set (padded l) (2 * k) a) (2 * k + 1) e ≡ padded (l ++ a ∷ e ∷ [])
@@ -71,11 +74,11 @@ module _ (s : Stretches) where
 
   module _ (c : Canonical s) where
     pub edges_rise : Rising 0 (edges (used s))
-    edges_rise = canonical_rising (used s) c.rises
+    edges_rise = canonical_rising (used s) c.ticked c.rises
 
     pub is_in-edges : (x : Place) → is_in (stretches_of s) x ≡ within (padded (edges (used s))) (spot x)
     is_in-edges x =
-        is_in-within (used s) 0 edges_rise x
+        is_in-within (used s) 0 c.ticked edges_rise x
         ∙ sym (rw (rank-append (edges (used s)) (65 - length (edges (used s))) (suc (spot x)) (spot_below x)) refl)
 
     pub edges_climb : Climbs 0 (padded (edges (used s)))
@@ -92,3 +95,6 @@ module _ (s : Stretches) where
   module _ (long : length s.items ≡ 32) (fits : s.count ≤ 32) where
     pub used-length : length (used s) ≡ s.count
     used-length = length-take-le s.count s.items (omega arith)
+
+    pub used-ticked : (k : ℕ) → k < s.count → (d : Interval) → AllTicked (used s) → Ticked (get_or s.items k d).low × Ticked (get_or s.items k d).high
+    used-ticked k h d t = rw (get_or-take s.count s.items k d h) at (ticked-at (used s) k d t (rw used-length h))

@@ -7,12 +7,12 @@ use Rattle.interval.specs.declared.Bound.{Bound}
 use Rattle.interval.specs.declared.Interval.{Interval}
 use Rattle.interval.specs.declared.Stretches.{Stretches}
 use Rattle.interval.specs.declared.Op.TheVariants.{Union}
-use Rattle.interval.specs.Meaning.{interval_of, used, stretches_of, Canonical, Holds, applied, joined_by}
+use Rattle.interval.specs.Meaning.{interval_of, Ticked, AllTicked, used, stretches_of, Canonical, Holds, applied, joined_by}
 use Rattle.interval.specs.Edges.{low_edge, high_edge, edges, Rising}
 use Rattle.interval.specs.Joining.{lower_of, higher_of, hull_of, absorb, insert}
 use Rattle.interval.proofs.Ranks.{le-or-lt}
 use Rattle.interval.proofs.Places.{spot, holds-edges, rising_canonical}
-use Rattle.interval.proofs.Items.{all-ticked, edges_rise, used-length}
+use Rattle.interval.proofs.Items.{edges_rise, used-length}
 use Rattle.interval.proofs.Members.{outside}
 
 -- ---- the hull of two intervals
@@ -28,6 +28,20 @@ higher_edge a b =
     ⊎_elim
     (λ (p : high_edge b ≤ high_edge a). rw (le-leb (high_edge b) (high_edge a) p) (omega arith))
     (λ (q : high_edge a < high_edge b). rw (lt-leb (high_edge b) (high_edge a) q) (omega arith))
+    (le-or-lt (high_edge b) (high_edge a))
+
+pub lower_ticked : (a b : Bound) → Ticked a → Ticked b → Ticked (lower_of a b)
+lower_ticked a b t u =
+    ⊎_elim
+    (λ (p : low_edge a ≤ low_edge b). rw (le-leb (low_edge a) (low_edge b) p) t)
+    (λ (q : low_edge b < low_edge a). rw (lt-leb (low_edge a) (low_edge b) q) u)
+    (le-or-lt (low_edge a) (low_edge b))
+
+pub higher_ticked : (a b : Bound) → Ticked a → Ticked b → Ticked (higher_of a b)
+higher_ticked a b t u =
+    ⊎_elim
+    (λ (p : high_edge b ≤ high_edge a). rw (le-leb (high_edge b) (high_edge a) p) t)
+    (λ (q : high_edge a < high_edge b). rw (lt-leb (high_edge b) (high_edge a) q) u)
     (le-or-lt (high_edge b) (high_edge a))
 
 -- two intervals that overlap, or of which one begins where the other ends, have the places of their hull
@@ -59,13 +73,19 @@ within_hull a b c d y h k =
     or-true true = refl
     or-true false = refl
 
-module _ (v w : Interval) where
+module _ (v w : Interval) (t : Ticked v.low) (u : Ticked v.high) (t' : Ticked w.low) (u' : Ticked w.high) where
+  pub hull_low : Ticked (hull_of v w).low
+  hull_low = lower_ticked v.low w.low t t'
+
+  pub hull_high : Ticked (hull_of v w).high
+  hull_high = higher_ticked v.high w.high u u'
+
   hull_holds : low_edge w.low ≤ high_edge v.high → low_edge v.low ≤ high_edge w.high → (x : Place)
       → holds (interval_of (hull_of v w)) x ≡ holds (interval_of w) x || holds (interval_of v) x
   hull_holds h k x =
-      holds-edges (hull_of v w) x
+      holds-edges (hull_of v w) hull_low hull_high x
       ∙ rw (lower_edge v.low w.low, higher_edge v.high w.high) (within_hull _ _ _ _ (spot x) h k)
-      ∙ sym (ap₂ ◌||◌ (holds-edges w x) (holds-edges v x))
+      ∙ sym (ap₂ ◌||◌ (holds-edges w t' u' x) (holds-edges v t u x))
 
 -- ---- bools
 swapped : (a b : Bool) → a || b ≡ b || a
@@ -124,32 +144,53 @@ insert-rises v (w ∷ l) b r h k =
     rw (lt-ltb (high_edge w.high) (low_edge v.low) q) (r.0, (r.1.0, insert-rises v l (suc (high_edge w.high)) r.1.1 q k)))
     (le-or-lt (low_edge v.low) (high_edge w.high))
 
--- ---- places
-absorb-places : (v : Interval) (l : List Interval) (b : ℕ) → Rising b (edges l) → Meets v l → (x : Place)
-    → is_in (map interval_of (absorb v l)) x ≡ is_in (map interval_of l) x || holds (interval_of v) x
-unfolding absorb exists
-absorb-places v [] b r m x = swapped (holds (interval_of v) x) false
-absorb-places v (w ∷ l) b r m x =
+-- ---- ticks
+absorb-ticked : (v : Interval) (l : List Interval) → Ticked v.low → Ticked v.high → AllTicked l → AllTicked (absorb v l)
+unfolding absorb
+absorb-ticked v [] t u a = (t, u, tt)
+absorb-ticked v (w ∷ l) t u a =
     ⊎_elim
     (λ (p : low_edge w.low ≤ high_edge v.high).
     rw (le-ltb (high_edge v.high) (low_edge w.low) p)
-    (absorb-places (hull_of v w) l (suc (high_edge w.high)) r.1.1
+    (absorb-ticked (hull_of v w) l (hull_low v w t u a.0 a.1) (hull_high v w t u a.0 a.1) a.2))
+    (λ (q : high_edge v.high < low_edge w.low). rw (lt-ltb (high_edge v.high) (low_edge w.low) q) (t, u, a))
+    (le-or-lt (low_edge w.low) (high_edge v.high))
+
+pub insert-ticked : (v : Interval) (l : List Interval) → Ticked v.low → Ticked v.high → AllTicked l → AllTicked (insert v l)
+unfolding insert
+insert-ticked v [] t u a = (t, u, tt)
+insert-ticked v (w ∷ l) t u a =
+    ⊎_elim
+    (λ (p : low_edge v.low ≤ high_edge w.high). rw (le-ltb (high_edge w.high) (low_edge v.low) p) (absorb-ticked v (w ∷ l) t u a))
+    (λ (q : high_edge w.high < low_edge v.low). rw (lt-ltb (high_edge w.high) (low_edge v.low) q) (a.0, a.1, insert-ticked v l t u a.2))
+    (le-or-lt (low_edge v.low) (high_edge w.high))
+
+-- ---- places
+absorb-places : (v : Interval) (l : List Interval) (b : ℕ) → Ticked v.low → Ticked v.high → AllTicked l → Rising b (edges l) → Meets v l → (x : Place)
+    → is_in (map interval_of (absorb v l)) x ≡ is_in (map interval_of l) x || holds (interval_of v) x
+unfolding absorb exists
+absorb-places v [] b t u a r m x = swapped (holds (interval_of v) x) false
+absorb-places v (w ∷ l) b t u a r m x =
+    ⊎_elim
+    (λ (p : low_edge w.low ≤ high_edge v.high).
+    rw (le-ltb (high_edge v.high) (low_edge w.low) p)
+    (absorb-places (hull_of v w) l (suc (high_edge w.high)) (hull_low v w t u a.0 a.1) (hull_high v w t u a.0 a.1) a.2 r.1.1
     (meets (hull_of v w) l (suc (high_edge w.high)) r.1.1 (omega (arith, lower_edge v.low w.low, r.1.0))) x
-    ∙ ap (λ (y : Bool). is_in (map interval_of l) x || y) (hull_holds v w p m x)
+    ∙ ap (λ (y : Bool). is_in (map interval_of l) x || y) (hull_holds v w t u a.0 a.1 p m x)
     ∙ moved (is_in (map interval_of l) x) (holds (interval_of w) x) (holds (interval_of v) x)))
     (λ (q : high_edge v.high < low_edge w.low). rw (lt-ltb (high_edge v.high) (low_edge w.low) q) (swapped (holds (interval_of v) x) _))
     (le-or-lt (low_edge w.low) (high_edge v.high))
 
-pub insert_places : (v : Interval) (l : List Interval) (b : ℕ) → Rising b (edges l) → (x : Place)
+pub insert_places : (v : Interval) (l : List Interval) (b : ℕ) → Ticked v.low → Ticked v.high → AllTicked l → Rising b (edges l) → (x : Place)
     → is_in (map interval_of (insert v l)) x ≡ is_in (map interval_of l) x || holds (interval_of v) x
 unfolding insert exists
-insert_places v [] b r x = swapped (holds (interval_of v) x) false
-insert_places v (w ∷ l) b r x =
+insert_places v [] b t u a r x = swapped (holds (interval_of v) x) false
+insert_places v (w ∷ l) b t u a r x =
     ⊎_elim
-    (λ (p : low_edge v.low ≤ high_edge w.high). rw (le-ltb (high_edge w.high) (low_edge v.low) p) (absorb-places v (w ∷ l) b r p x))
+    (λ (p : low_edge v.low ≤ high_edge w.high). rw (le-ltb (high_edge w.high) (low_edge v.low) p) (absorb-places v (w ∷ l) b t u a r p x))
     (λ (q : high_edge w.high < low_edge v.low).
     rw (lt-ltb (high_edge w.high) (low_edge v.low) q)
-    (ap (λ (y : Bool). holds (interval_of w) x || y) (insert_places v l (suc (high_edge w.high)) r.1.1 x)
+    (ap (λ (y : Bool). holds (interval_of w) x || y) (insert_places v l (suc (high_edge w.high)) t u a.2 r.1.1 x)
     ∙ grouped (holds (interval_of w) x) (is_in (map interval_of l) x) (holds (interval_of v) x)))
     (le-or-lt (low_edge v.low) (high_edge w.high))
 
@@ -218,20 +259,21 @@ replace_start s p q v h k lt long =
     rw (e, f, append_assoc) refl
 
 -- ---- the whole
-module _ (s : Stretches) (c : Canonical s) (v : Interval) where
+module _ (s : Stretches) (c : Canonical s) (v : Interval) (t : Ticked v.low) (u : Ticked v.high) where
   pub holds-empty : high_edge v.high ≤ low_edge v.low → Holds (joined_by s v) (s.count + 1) s
   holds-empty h = record {
     canonical = c;
-    places = λ x. sym (rw (holds-edges v x ∙ outside v (spot x) h) (swapped (is_in (stretches_of s) x) false));
+    places = λ x. sym (rw (holds-edges v t u x ∙ outside v (spot x) h) (swapped (is_in (stretches_of s) x) false));
     short = omega arith;
   }
 
   pub holds-joined : (r : Stretches) → low_edge v.low < high_edge v.high → used r ≡ insert v (used s) → r.count ≤ s.count + 1 → s.count < 32 → Holds (joined_by s v) (s.count + 1) r
   holds-joined r h e few lt =
+      let ticked : AllTicked (used r) = rw e (insert-ticked v (used s) t u c.ticked) in
       let rises : Rising 0 (edges (used r)) = rw e (insert-rises v (used s) 0 (edges_rise s c) zero-le h) in
       record {
-        canonical = record { fits = omega arith; ticked = all-ticked (used r); rises = rising_canonical (used r) 0 rises };
-        places = λ x. rw e (insert_places v (used s) 0 (edges_rise s c) x);
+        canonical = record { fits = omega arith; ticked = ticked; rises = rising_canonical (used r) 0 ticked rises };
+        places = λ x. rw e (insert_places v (used s) 0 t u c.ticked (edges_rise s c) x);
         short = few;
       }
 

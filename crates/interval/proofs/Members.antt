@@ -6,25 +6,28 @@ use Rattle.rules.specs.Basics.{exists}
 use Rattle.rules.specs.Sets.{at, gap_after, holds, is_in}
 use Rattle.interval.specs.declared.Interval.{Interval}
 use Rattle.interval.specs.declared.Stretches.{Stretches}
-use Rattle.interval.specs.Meaning.{interval_of, place_of, Holds}
+use Rattle.interval.specs.Meaning.{interval_of, place_of, Ticked, AllTicked, Holds}
 use Rattle.interval.specs.Edges.{low_edge, high_edge, number_of, is_within}
 use Rattle.interval.proofs.Ranks.{le-or-lt}
 use Rattle.interval.proofs.Places.{spot, spot_tick, spot_gap, holds-edges, rising_canonical}
-use Rattle.interval.proofs.Items.{is_in-next}
+use Rattle.interval.proofs.Items.{ticked-at, is_in-next}
 
-pub within_place : (v : Interval) (n : ℕ) (gap : Bool) → n < 2 ^ 60 → is_within v (number_of n gap) ≡ holds (interval_of v) (place_of n gap)
-within_place v n true h = sym (holds-edges v (gap_after _) ∙ ap (is_within v) (spot_gap n h))
-within_place v n false h = sym (holds-edges v (at _) ∙ ap (is_within v) (spot_tick n h))
+pub within_place : (v : Interval) → Ticked v.low → Ticked v.high → (n : ℕ) (gap : Bool) → n < 2 ^ 60
+    → is_within v (number_of n gap) ≡ holds (interval_of v) (place_of n gap)
+within_place v t u n true h = sym (holds-edges v t u (gap_after _) ∙ ap (is_within v) (spot_gap n h))
+within_place v t u n false h = sym (holds-edges v t u (at _) ∙ ap (is_within v) (spot_tick n h))
 
 -- looking for a place: at an item that has it, and at one that does not
-module _ (l : List Interval) (n : ℕ) (gap : Bool) (h : n < 2 ^ 60) (k : ℕ) (lt : k < length l) (v : Interval) (at_k : v ≡ get_or l k v) (x : ℕ) (e : x ≡ number_of n gap) where
-  found : is_in (map interval_of (drop k l)) (place_of n gap) ≡ is_within v x || is_in (map interval_of (drop (k + 1) l)) (place_of n gap)
-  found = is_in-next l k lt v (place_of n gap) ∙ rw (← at_k, e, within_place v n gap h) refl
+module _ (l : List Interval) (ts : AllTicked l) (n : ℕ) (gap : Bool) (h : n < 2 ^ 60) (k : ℕ) (lt : k < length l) (d : Interval) (x : ℕ) (e : x ≡ number_of n gap) where
+  found : is_in (map interval_of (drop k l)) (place_of n gap) ≡ is_within (get_or l k d) x || is_in (map interval_of (drop (k + 1) l)) (place_of n gap)
+  found =
+      let t = ticked-at l k d ts lt in
+      is_in-next l k lt d (place_of n gap) ∙ rw (e, within_place (get_or l k d) t.0 t.1 n gap h) refl
 
-  pub contains_here : is_within v x ≡ true → is_in (map interval_of (drop k l)) (place_of n gap) ≡ true
+  pub contains_here : is_within (get_or l k d) x ≡ true → is_in (map interval_of (drop k l)) (place_of n gap) ≡ true
   contains_here w = found ∙ rw w refl
 
-  pub contains_next : is_within v x ≡ false → is_in (map interval_of (drop k l)) (place_of n gap) ≡ is_in (map interval_of (drop (k + 1) l)) (place_of n gap)
+  pub contains_next : is_within (get_or l k d) x ≡ false → is_in (map interval_of (drop k l)) (place_of n gap) ≡ is_in (map interval_of (drop (k + 1) l)) (place_of n gap)
   contains_next w = found ∙ rw w refl
 
 -- an interval whose first edge is not below its second has no place
@@ -36,7 +39,7 @@ outside v x h =
     (le-or-lt (low_edge v.low) x)
 
 -- the set of one interval: one stretch if its first edge is below its second, else none
-module _ (v : Interval) where
+module _ (v : Interval) (t : Ticked v.low) (u : Ticked v.high) where
   pub single_one : (s : Stretches) → length s.items ≡ 32 → low_edge v.low < high_edge v.high
       → Holds (holds (interval_of v)) 1 (record { items = set s.items 0 v; count = 1 })
   unfolding exists
@@ -45,8 +48,8 @@ module _ (v : Interval) where
       record {
         canonical = record {
           fits = omega arith;
-          ticked = rw e (v.low_ticked, v.high_ticked, tt);
-          rises = rw e (rising_canonical (v ∷ []) 0 (zero-le, (h, tt)));
+          ticked = rw e (t, u, tt);
+          rises = rw e (rising_canonical (v ∷ []) 0 (t, u, tt) (zero-le, (h, tt)));
         };
         places = λ x. rw e (or-false (holds (interval_of v) x));
         short = omega arith;
@@ -55,6 +58,6 @@ module _ (v : Interval) where
   pub single_none : (s : Stretches) → Holds (λ x. false) 0 s → high_edge v.high ≤ low_edge v.low → Holds (holds (interval_of v)) 1 s
   single_none s e h = record {
     canonical = e.canonical;
-    places = λ x. e.places x ∙ sym (holds-edges v x ∙ outside v (spot x) h);
+    places = λ x. e.places x ∙ sym (holds-edges v t u x ∙ outside v (spot x) h);
     short = omega (arith, e.short);
   }

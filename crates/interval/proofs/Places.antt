@@ -11,7 +11,7 @@ use Rattle.rules.proofs.Canonical.{Canonical as Rises}
 use Rattle.interval.specs.declared.Bound.{Bound}
 use Rattle.interval.specs.declared.Bound.TheVariants.{Unbounded, Open, Closed}
 use Rattle.interval.specs.declared.Interval.{Interval}
-use Rattle.interval.specs.Meaning.{bound_of, interval_of, Ticked}
+use Rattle.interval.specs.Meaning.{bound_of, interval_of, Ticked, AllTicked}
 use Rattle.interval.specs.Edges.{top, low_edge, high_edge, edges, Rising, within}
 use Rattle.interval.proofs.Ranks.{le-or-lt, not_ltb, within-cons}
 
@@ -87,36 +87,37 @@ parts-edge h (Open n) t u = past-edge h t (gap-number n u)
 parts-edge h (Closed n) t u = past-edge h t (tick-number n u)
 
 -- ---- intervals and sets
-pub holds-edges : (v : Interval) (x : Place) → holds (interval_of v) x ≡ leb (low_edge v.low) (spot x) && ltb (spot x) (high_edge v.high)
-holds-edges v x = half_open (interval_of v) x ∙ ap₂ ◌&&◌ (since_edge v.low v.low_ticked x) (until-edge v.high v.high_ticked x)
+pub holds-edges : (v : Interval) → Ticked v.low → Ticked v.high → (x : Place)
+    → holds (interval_of v) x ≡ leb (low_edge v.low) (spot x) && ltb (spot x) (high_edge v.high)
+holds-edges v t u x = half_open (interval_of v) x ∙ ap₂ ◌&&◌ (since_edge v.low t x) (until-edge v.high u x)
 
-pub is_in-within : (l : List Interval) (b : ℕ) → Rising b (edges l) → (x : Place) → is_in (map interval_of l) x ≡ within (edges l) (spot x)
+pub is_in-within : (l : List Interval) (b : ℕ) → AllTicked l → Rising b (edges l) → (x : Place) → is_in (map interval_of l) x ≡ within (edges l) (spot x)
 unfolding exists
-is_in-within [] b r x = refl
-is_in-within (v ∷ l) b r x =
+is_in-within [] b t r x = refl
+is_in-within (v ∷ l) b t r x =
     let e = high_edge v.high in
-    ap₂ ◌||◌ (holds-edges v x) (is_in-within l (suc e) r.1.1 x)
+    ap₂ ◌||◌ (holds-edges v t.0 t.1 x) (is_in-within l (suc e) t.2 r.1.1 x)
     ∙ sym (within-cons (low_edge v.low) e b (spot x) (edges l) r)
 
-pub rising_canonical : (l : List Interval) (b : ℕ) → Rising b (edges l) → Rises (map interval_of l)
-rising_canonical [] b r = tt
-rising_canonical (v ∷ []) b r = (opens-edge v.low v.high v.low_ticked v.high_ticked ∙ lt-ltb _ _ r.1.0, tt, tt)
-rising_canonical (v ∷ w ∷ l) b r = (
-  opens-edge v.low v.high v.low_ticked v.high_ticked ∙ lt-ltb _ _ r.1.0,
-  parts-edge v.high w.low v.high_ticked w.low_ticked ∙ lt-ltb _ _ r.1.1.0,
-  rising_canonical (w ∷ l) (suc (high_edge v.high)) r.1.1,
+pub rising_canonical : (l : List Interval) (b : ℕ) → AllTicked l → Rising b (edges l) → Rises (map interval_of l)
+rising_canonical [] b t r = tt
+rising_canonical (v ∷ []) b t r = (opens-edge v.low v.high t.0 t.1 ∙ lt-ltb _ _ r.1.0, tt, tt)
+rising_canonical (v ∷ w ∷ l) b t r = (
+  opens-edge v.low v.high t.0 t.1 ∙ lt-ltb _ _ r.1.0,
+  parts-edge v.high w.low t.1 t.2.0 ∙ lt-ltb _ _ r.1.1.0,
+  rising_canonical (w ∷ l) (suc (high_edge v.high)) t.2 r.1.1,
 )
 
-pub canonical_rising : (l : List Interval) → Rises (map interval_of l) → Rising 0 (edges l)
-canonical_rising [] c = tt
-canonical_rising (v ∷ l) c = from v l 0 zero-le c
+pub canonical_rising : (l : List Interval) → AllTicked l → Rises (map interval_of l) → Rising 0 (edges l)
+canonical_rising [] t c = tt
+canonical_rising (v ∷ l) t c = from v l 0 zero-le t c
   where
-    from : (v : Interval) (l : List Interval) (b : ℕ) → b ≤ low_edge v.low → Rises (map interval_of (v ∷ l)) → Rising b (edges (v ∷ l))
-    from v [] b h c = (h, (ltb-true _ _ (sym (opens-edge v.low v.high v.low_ticked v.high_ticked) ∙ c.0), tt))
-    from v (w ∷ l) b h c = (
+    from : (v : Interval) (l : List Interval) (b : ℕ) → b ≤ low_edge v.low → AllTicked (v ∷ l) → Rises (map interval_of (v ∷ l)) → Rising b (edges (v ∷ l))
+    from v [] b h t c = (h, (ltb-true _ _ (sym (opens-edge v.low v.high t.0 t.1) ∙ c.0), tt))
+    from v (w ∷ l) b h t c = (
       h,
       (
-        ltb-true _ _ (sym (opens-edge v.low v.high v.low_ticked v.high_ticked) ∙ c.0),
-        from w l (suc (high_edge v.high)) (ltb-true _ _ (sym (parts-edge v.high w.low v.high_ticked w.low_ticked) ∙ c.1)) c.2,
+        ltb-true _ _ (sym (opens-edge v.low v.high t.0 t.1) ∙ c.0),
+        from w l (suc (high_edge v.high)) (ltb-true _ _ (sym (parts-edge v.high w.low t.1 t.2.0) ∙ c.1)) t.2 c.2,
       ),
     )

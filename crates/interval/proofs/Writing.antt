@@ -74,21 +74,23 @@ list_bytes_snoc (w ∷ l) v =
     ∙ sym (append_assoc (flat_map eight_bytes a) (list_bytes l) (interval_bytes v))
     ∙ ap (◌++ interval_bytes v) (sym (flat_map_append eight_bytes a (list_numbers (map interval_of l))))
 
-pub interval-length : (v : Interval) → length (interval_bytes v) ≡ 32
-interval-length v = omega (arith, length-append (bound_bytes v.low) (bound_bytes v.high), bound_length v.low v.low_ticked, bound_length v.high v.high_ticked)
+pub interval-length : (v : Interval) → Ticked v.low → Ticked v.high → length (interval_bytes v) ≡ 32
+interval-length v t u = omega (arith, length-append (bound_bytes v.low) (bound_bytes v.high), bound_length v.low t, bound_length v.high u)
 
 -- one more interval after k of them
-module _ (items : List Interval) (old now : List ℕ) (k : ℕ) (h : k < length items) (v : Interval) (at_k : v ≡ get_or items k v) (e : now ≡ overwrite old (list_bytes (take k items)))
+module _ (items : List Interval) (old now : List ℕ) (k : ℕ) (h : k < length items) (d : Interval) (e : now ≡ overwrite old (list_bytes (take k items)))
     (n : length (list_bytes (take k items)) ≡ 32 * k) (room : 32 * k ≤ length old) where
-  more_items : take (k + 1) items ≡ take k items ++ v ∷ []
-  more_items = rw (add-one, at_k) (take-suc items k v h)
+  more_items : take (k + 1) items ≡ take k items ++ get_or items k d ∷ []
+  more_items = rw add-one (take-suc items k d h)
 
-  pub written_more : placed (32 * k) (interval_bytes v) now ≡ overwrite old (list_bytes (take (k + 1) items))
+  pub written_more : placed (32 * k) (interval_bytes (get_or items k d)) now ≡ overwrite old (list_bytes (take (k + 1) items))
   written_more =
+      let v = get_or items k d in
       let b = list_bytes (take k items) in
       let z : 32 * k ≡ 0 + length b = omega arith in
       rw (more_items, list_bytes_snoc (take k items) v, overwrite-placed, e, overwrite-placed, z) (sym (placed-append 0 b (interval_bytes v) old (omega arith)))
 
-  pub length_more : length (list_bytes (take (k + 1) items)) ≡ 32 * (k + 1)
-  length_more =
-      rw (more_items, list_bytes_snoc (take k items) v) (omega (arith, length-append (list_bytes (take k items)) (interval_bytes v), interval-length v))
+  pub length_more : Ticked (get_or items k d).low → Ticked (get_or items k d).high → length (list_bytes (take (k + 1) items)) ≡ 32 * (k + 1)
+  length_more t u =
+      let v = get_or items k d in
+      rw (more_items, list_bytes_snoc (take k items) v) (omega (arith, length-append (list_bytes (take k items)) (interval_bytes v), interval-length v t u))

@@ -5,7 +5,7 @@ use Rattle.interval.specs.declared.Bound.{Bound}
 use Rattle.interval.specs.declared.Bound.TheVariants.{Unbounded, Open, Closed}
 use Rattle.interval.specs.declared.Interval.{Interval}
 use Rattle.interval.specs.declared.Stretches.{Stretches}
-use Rattle.interval.specs.Meaning.{Ticked, used}
+use Rattle.interval.specs.Meaning.{Ticked, AllTicked, used}
 
 -- above every place: one more than the number of the gap after the last tick
 abbrev pub top : ℕ
@@ -104,6 +104,7 @@ pub record Merged (h : Bool → Bool → Bool) (a b : List ℕ) (n : ℕ) (l : L
 
 -- the set r has the edges l
 pub record Drawn (n : ℕ) (l : List ℕ) (r : Stretches) : Type 0 where
+  pub ticked : AllTicked (used r)
   pub edges_are : edges (used r) ≡ take (2 * r.count) l
   pub fewest : n ≤ 2 * r.count
   pub most : 2 * r.count ≤ suc n

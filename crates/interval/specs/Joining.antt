@@ -1,5 +1,5 @@
 -- Joining one interval to a list of stretches, for the contracts of private functions. Edges say which bounds are lower and higher.
-use Rattle.std.specs.Prelude.{◌≡◌, ℕ, ◌+◌, ◌≤◌, Bool, true, false, cond, List, [], ◌∷◌, ◌++◌, take, drop, nat_le, nat_lt}
+use Rattle.std.specs.Prelude.{◌≡◌, ℕ, ◌+◌, ◌≤◌, cond, List, [], ◌∷◌, ◌++◌, take, drop, nat_le, nat_lt}
 use Rattle.interval.specs.declared.Bound.{Bound}
 use Rattle.interval.specs.declared.Interval.{Interval}
 use Rattle.interval.specs.declared.Stretches.{Stretches}
@@ -13,18 +13,9 @@ lower_of a b = cond (nat_le (low_edge a) (low_edge b)) a b
 abbrev pub higher_of : Bound → Bound → Bound
 higher_of a b = cond (nat_le (high_edge b) (high_edge a)) a b
 
-pub either-ticked : (b : Bool) (x y : Bound) → Ticked x → Ticked y → Ticked (cond b x y)
-either-ticked true x y t u = t
-either-ticked false x y t u = u
-
 -- from the lower low to the higher high
 abbrev pub hull_of : Interval → Interval → Interval
-hull_of v w = record {
-  low = lower_of v.low w.low;
-  high = higher_of v.high w.high;
-  low_ticked = either-ticked (nat_le (low_edge v.low) (low_edge w.low)) v.low w.low v.low_ticked w.low_ticked;
-  high_ticked = either-ticked (nat_le (high_edge w.high) (high_edge v.high)) v.high w.high v.high_ticked w.high_ticked;
-}
+hull_of v w = record { low = lower_of v.low w.low; high = higher_of v.high w.high }
 
 -- v and the stretches after it, joined with those that it meets
 unfoldable pub absorb : Interval → List Interval → List Interval
@@ -45,6 +36,8 @@ pub record Passed (s : Stretches) (v : Interval) (p : ℕ) : Type 0 where
 pub record Joins (s : Stretches) (v : Interval) (p : ℕ) (j : Joint) : Type 0 where
   pub least : p ≤ j.next
   pub most : j.next ≤ s.count
+  pub low : Ticked j.whole.low
+  pub high : Ticked j.whole.high
   pub rest : absorb v (drop p (used s)) ≡ j.whole ∷ drop j.next (used s)
 
 -- v in place of the stretches from the p-th up to the one at q

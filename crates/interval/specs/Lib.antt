@@ -1,4 +1,3 @@
-pub mod Ticks
 pub mod Meaning
 pub mod Edges
 pub mod Joining

@@ -1,12 +1,11 @@
 -- What the code's bounds, intervals and sets mean, in the words of the rules ("Sets of times").
-use Rattle.std.specs.Prelude.{◌≡◌, ℕ, ◌≤◌, Bool, true, false, ◌||◌, List, [], ◌∷◌, map, take}
+use Rattle.std.specs.Prelude.{◌≡◌, ℕ, ◌^◌, ◌<◌, ◌≤◌, Bool, true, false, ◌||◌, List, [], ◌∷◌, map, take}
 use Rattle.rules.specs.Timestamp.{tick_at}
 use Rattle.rules.specs.Sets.{Place, at, gap_after, Bound as PageBound, unbounded, open_at, closed_at, Interval as PageInterval, ◌upto◌, Op as PageOp, union, intersection, difference, apply, holds, is_in}
 use Rattle.rules.proofs.Canonical.{Canonical as Rises}
 use Rattle.interval.specs.declared.Bound.{Bound}
 use Rattle.interval.specs.declared.Bound.TheVariants.{Unbounded, Open, Closed}
 use Rattle.interval.specs.declared.Interval.{Interval}
-pub use Rattle.interval.specs.Ticks.{tick, Ticked}
 use Rattle.interval.specs.declared.Stretches.{Stretches}
 use Rattle.interval.specs.declared.Op.{Op}
 use Rattle.interval.specs.declared.Op.TheVariants.{Union, Intersection, Difference}
@@ -35,6 +34,15 @@ used s = take s.count s.items
 
 abbrev pub stretches_of : Stretches → List PageInterval
 stretches_of s = map interval_of (used s)
+
+-- a bound's number of its tick, 0 if it has none; it is small
+abbrev pub tick : Bound → ℕ
+tick Unbounded = 0
+tick (Open n) = n
+tick (Closed n) = n
+
+abbrev pub Ticked : Bound → Type 0
+Ticked b = tick b < 2 ^ 60
 
 abbrev pub AllTicked : List Interval → Type 0
 AllTicked [] = Unit {0}

@@ -73,6 +73,8 @@ pub fn high_bound(e: u64) -> Bound
 
 // Whether the place with a number is in an interval.
 pub fn is_within(v: Interval, x: u64) -> bool
+    requires fact_1 { Ticked v.low }
+    requires fact_2 { Ticked v.high }
     ensures { result ≡ is_within v x }
 {
     (low_edge(v.low) <= x) & (x < high_edge(v.high))

@@ -26,6 +26,10 @@ fn higher(a: Bound, b: Bound) -> Bound
 
 // From the lower low of two intervals to the higher high.
 fn hull(v: Interval, w: Interval) -> Interval
+    requires fact_1 { Ticked v.low }
+    requires fact_2 { Ticked v.high }
+    requires fact_3 { Ticked w.low }
+    requires fact_4 { Ticked w.high }
     ensures { result ≡ hull_of v w }
 {
     Interval {
@@ -36,7 +40,8 @@ fn hull(v: Interval, w: Interval) -> Interval
 
 // How many stretches of a set end before an interval, with a place between.
 fn count_before(s: Stretches, v: Interval) -> usize
-    requires { Canonical s }
+    requires fact_1 { Canonical s }
+    requires fact_2 { Ticked v.low }
     ensures { Passed s v result }
 {
     let from = low_edge(v.low);
@@ -59,6 +64,8 @@ struct Joint {
 fn join_from(s: Stretches, p: usize, v: Interval) -> Joint
     requires fact_1 { Canonical s }
     requires fact_2 { p ≤ s.count }
+    requires fact_3 { Ticked v.low }
+    requires fact_4 { Ticked v.high }
     ensures { Joins s v p result }
 {
     let mut whole = v;
@@ -93,6 +100,8 @@ fn replace(s: Stretches, p: usize, q: usize, v: Interval) -> Stretches
 pub fn with_interval(s: Stretches, v: Interval) -> Stretches
     requires fact_1 { Canonical s }
     requires fact_2 { s.count < 32 }
+    requires fact_3 { Ticked v.low }
+    requires fact_4 { Ticked v.high }
     ensures { Holds (joined_by s v) (s.count + 1) result }
 {
     if high_edge(v.high) <= low_edge(v.low) {

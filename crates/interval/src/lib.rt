@@ -1,8 +1,6 @@
 // Sets of times: bounds, intervals, sets as stretches, and union, intersection and difference.
 #![tactic(auto)]
 
-ghost use Rattle.interval.specs.Ticks.{Ticked};
-
 mod edge;
 mod join;
 mod list;
@@ -14,6 +12,7 @@ pub use list::write_list;
 pub use set::{all, apply, combine, contains, empty, is_in, same, single};
 
 // A bound of an interval. A tick (the page's term) is counted from fourteen hours before 0001-01-01 00:00, so that none is negative.
+// The first variant stays `Unbounded`: the logic takes it for what is past an array's end.
 #[derive(Clone, Copy, PartialEq, Eq)]
 pub enum Bound {
     Unbounded,
@@ -21,13 +20,11 @@ pub enum Bound {
     Closed(u64),
 }
 
-// The places from low to high; crossed bounds mean none. Their ticks are below 2^60.
+// The places from low to high; crossed bounds mean none.
 #[derive(Clone, Copy, PartialEq, Eq)]
 pub struct Interval {
     pub low: Bound,
     pub high: Bound,
-    pub ghost low_ticked: { Ticked low },
-    pub ghost high_ticked: { Ticked high },
 }
 
 // A set of places as its stretches (the page's term: runs of neighbouring places that can't be made longer), from low to high:

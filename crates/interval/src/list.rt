@@ -53,7 +53,9 @@ fn write_bound(out: &mut [u8], at: usize, b: Bound)
 
 // Writes an interval: its low and its high.
 fn write_interval(out: &mut [u8], at: usize, v: Interval)
-    requires { at + 32 ≤ length out.old }
+    requires fact_1 { Ticked v.low }
+    requires fact_2 { Ticked v.high }
+    requires fact_3 { at + 32 ≤ length out.old }
     ensures { out.new ≡ placed at (interval_bytes v) out.old }
 {
     write_bound(out, at, v.low);

@@ -1,7 +1,7 @@
 // Sets by value: those of no place, of one interval and of all places, whether a place is in one, and two put together.
 ghost use Rattle.std.specs.Prelude.{◌≡◌, ◌+◌, ◌^◌, ◌<◌, ◌≤◌, true, false};
 ghost use Rattle.rules.specs.Sets.{holds, is_in, apply as page_apply};
-ghost use Rattle.interval.specs.Meaning.{interval_of, op_of, place_of, stretches_of, Canonical, Holds, applied, SaysSame};
+ghost use Rattle.interval.specs.Meaning.{Ticked, interval_of, op_of, place_of, stretches_of, Canonical, Holds, applied, SaysSame};
 
 use crate::edge::{TOP, edge_numbers, high_edge, is_within, low_edge, place_number};
 use crate::join::with_interval;
@@ -24,6 +24,8 @@ pub fn empty() -> Stretches
 
 // The set of the places of one interval: one stretch, or none if it has no place.
 pub fn single(v: Interval) -> Stretches
+    requires fact_1 { Ticked v.low }
+    requires fact_2 { Ticked v.high }
     ensures { Holds (holds (interval_of v)) 1 result }
 {
     let mut s = empty();
@@ -46,7 +48,9 @@ pub fn all() -> Stretches
 
 // Whether a tick, or the gap after it, is in an interval.
 pub fn is_in(v: Interval, n: u64, gap: bool) -> bool
-    requires { n < 2 ^ 60 }
+    requires fact_1 { Ticked v.low }
+    requires fact_2 { Ticked v.high }
+    requires fact_3 { n < 2 ^ 60 }
     ensures { result ≡ holds (interval_of v) (place_of n gap) }
 {
     is_within(v, place_number(n, gap))

@@ -1,9 +1,15 @@
 use Rattle.std.proofs.Common.{arith}
 use Rattle.interval.specs.Meaning.{used}
-use Rattle.interval.proofs.Items.{used-short, edges-stored}
+use Rattle.interval.proofs.Items.{nowhere, ticked-at, used-short, edges-stored}
 use Rattle.interval.proofs.edge.edge_numbers.Goals as goal
+
+pub low_edge-requires : goal.low_edge-requires
+low_edge-requires c = (ticked-at (used c.args.s) c.loop-k.k nowhere c.requires.ticked c.loop-k-test.true).0
+
+pub high_edge-requires : goal.high_edge-requires
+high_edge-requires c = (ticked-at (used c.args.s) c.loop-k.k nowhere c.requires.ticked c.loop-k-test.true).1
 
 pub loop-k-preserved : goal.loop-k-preserved
 loop-k-preserved c =
-    let e = edges-stored (used c.args.s) c.loop-k.k c.loop-k-test.true c.v-item.result (omega (arith, used-short c.args.s, c.requires.fits)) in
-    rw (c.loop-k.invariant, c.low_edge.ensures, c.high_edge.ensures) (rw (← c.v-item.is) at e)
+    rw (c.loop-k.invariant, c.low_edge.ensures, c.high_edge.ensures)
+    (edges-stored (used c.args.s) c.loop-k.k c.loop-k-test.true nowhere (omega (arith, used-short c.args.s, c.requires.fits)))

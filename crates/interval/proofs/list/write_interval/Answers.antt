@@ -9,4 +9,4 @@ pub returns : goal.returns
 returns c =
     let v = c.args.v in
     c.write_bound-2.ensures
-    ∙ rw c.write_bound.ensures (placed-both c.args.at 16 (bound_bytes v.low) (bound_bytes v.high) c.args.out.now (bound_length v.low v.low_ticked) (omega arith))
+    ∙ rw c.write_bound.ensures (placed-both c.args.at 16 (bound_bytes v.low) (bound_bytes v.high) c.args.out.now (bound_length v.low c.requires.fact_1) (omega arith))

@@ -1,12 +1,12 @@
 use Rattle.std.proofs.Common.{◌≡◌, ◌*◌, ◌<◌, length, refl, ◌∙◌, arith, length-set}
 use Rattle.interval.proofs.Items.{length_mapped}
-use Rattle.interval.proofs.Drawing.{edged-length, edge-below, edge-next, edges_more}
+use Rattle.interval.proofs.Drawing.{edged-length, edge-below, edge-next, ticked_more, edges_more}
 use Rattle.interval.proofs.merge.from_edges.Goals as goal
 
 pub loop-k-init : goal.loop-k-init
 loop-k-init c =
     let g : length c.empty-s.result.items ≡ 32 = search length_mapped in
-    (omega arith, g, refl)
+    (omega arith, g, tt, refl)
 
 pub overflow_mul-k : goal.overflow_mul-k
 overflow_mul-k c = omega (arith, c.requires.fact_2)
@@ -50,10 +50,11 @@ loop-k-preserved c =
     let g : length c.args.e.now ≡ 65 = edged-length c.args.n c.args.e.now c.requires.fact_1 c.requires.fact_2 in (
       omega (arith, c.loop-k-test.true),
       length-set l.s.items l.k _ ∙ l.invariant.1,
-      edges_more c.args.e.now l.s.items l.k _ l.invariant.1 g lt l.invariant.2 c.low_bound-low.ensures.edge c.high_bound-high.ensures.edge,
+      ticked_more c.args.e.now l.s.items l.k _ l.invariant.1 g lt l.invariant.2 c.low_bound-low.ensures.ticked c.high_bound-high.ensures.ticked,
+      edges_more c.args.e.now l.s.items l.k _ l.invariant.1 g lt l.invariant.3 c.low_bound-low.ensures.edge c.high_bound-high.ensures.edge,
     )
 
 pub returns : goal.returns
 returns c =
     let e : c.loop-k.k ≡ c.div_ceil-count.result = omega arith in
-    record { edges_are = rw e at c.loop-k.invariant.2; fewest = omega (arith, c.div_ceil-count.ensures); most = omega (arith, c.div_ceil-count.ensures) }
+    record { ticked = rw e at c.loop-k.invariant.2; edges_are = rw e at c.loop-k.invariant.3; fewest = omega (arith, c.div_ceil-count.ensures); most = omega (arith, c.div_ceil-count.ensures) }

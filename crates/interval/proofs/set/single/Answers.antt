@@ -7,7 +7,7 @@ use Rattle.interval.proofs.set.single.Goals as goal
 pub returns-then-low_edge-high_edge : goal.returns-then-low_edge-high_edge
 returns-then-low_edge-high_edge c =
     let g : length c.empty-s.result.items ≡ 32 = search length_mapped in
-    single_one c.args.v c.empty-s.result g (omega (arith, c.low_edge.ensures, c.high_edge.ensures))
+    single_one c.args.v c.requires.fact_1 c.requires.fact_2 c.empty-s.result g (omega (arith, c.low_edge.ensures, c.high_edge.ensures))
 
 pub returns : goal.returns
-returns c = single_none c.args.v c.empty-s.result c.empty-s.ensures (omega (arith, c.low_edge.ensures, c.high_edge.ensures))
+returns c = single_none c.args.v c.requires.fact_1 c.requires.fact_2 c.empty-s.result c.empty-s.ensures (omega (arith, c.low_edge.ensures, c.high_edge.ensures))
