@@ -30,7 +30,7 @@ pub joined-first : (l : List ℕ) (from : ℕ) (v : CodeInterval) (r : Stretches
 unfolding meant
 joined-first l from v r p h = record {
   canonical = h.canonical;
-  places = λ x. h.places x ∙ ap (λ (w : Interval). holds w x) p;
+  places = λ x. h.places x ∙ ap (λ (w : Interval). holds w x) p.means;
   short = h.short;
 }
 
@@ -39,7 +39,7 @@ pub joined_more : (l : List ℕ) (from k : ℕ) (s r : Stretches) (v : CodeInter
     → Holds (joined_by s v) (s.count + 1) r → Holds (meant (joined_to l from (k + 1))) (k + 1 + 1) r
 unfolding meant
 joined_more l from k s r v h p j =
-    let e : interval_of v ≡ piece_at l (from + suc k + suc k) = rw (add-one k) at p in
+    let e : interval_of v ≡ piece_at l (from + suc k + suc k) = rw (add-one k) at p.means in
     rw (add-one k)
     (record {
       canonical = j.canonical;

@@ -4,15 +4,17 @@ use Rattle.rules.specs.Timestamp.{tick_at}
 use Rattle.rules.specs.Sets.{closed_at, open_at, Interval, ◌upto◌, Op, union, intersection, difference, Expression, interval, combine}
 use Rattle.rules.specs.Stretches.{stretches}
 use Rattle.interval.specs.declared.Interval.{Interval as CodeInterval}
-use Rattle.interval.specs.Meaning.{interval_of}
+use Rattle.interval.specs.Meaning.{interval_of, Ticked}
 
 -- the interval from the number at a position to the next one, which it leaves out
 abbrev pub piece_at : List ℕ → (at : ℕ) → Interval
 piece_at l i = closed_at (tick_at (get_or l i 0 % 1000000000000)) upto open_at (tick_at (get_or l (i + 1) 0 % 1000000000000))
 
 -- v is that interval as code holds it
-abbrev pub IsPiece : List ℕ → (at : ℕ) → CodeInterval → Type 0
-IsPiece l at v = interval_of v ≡ piece_at l at
+pub record IsPiece (l : List ℕ) (at : ℕ) (v : CodeInterval) : Type 0 where
+  pub means : interval_of v ≡ piece_at l at
+  pub low : Ticked v.low
+  pub high : Ticked v.high
 
 -- the union of the intervals 0 to `last` that stand from a position on
 abbrev pub joined_to : List ℕ → (from last : ℕ) → Expression

@@ -4,6 +4,9 @@ use native.Mathlib.Omega.{arith}
 use Rattle.interval_bench.proofs.Joining.{joined-first, joined_more}
 use Rattle.interval_bench.proofs.joined.Goals as goal
 
+pub single-s-requires : goal.single-s-requires
+single-s-requires c = record { fact_1 = c.piece.ensures.low; fact_2 = c.piece.ensures.high }
+
 pub loop-k-init : goal.loop-k-init
 loop-k-init c = joined-first c.args.ticks.now c.args.from c.piece.result c.single-s.result c.piece.ensures c.single-s.ensures
 
@@ -11,6 +14,8 @@ pub with_interval-s-requires : goal.with_interval-s-requires
 with_interval-s-requires c = record {
   fact_1 = c.loop-k.invariant.canonical;
   fact_2 = omega (arith, c.loop-k.invariant.short, c.requires.fact_1, c.loop-k-test.true);
+  fact_3 = c.piece-in-loop-k.ensures.low;
+  fact_4 = c.piece-in-loop-k.ensures.high;
 }
 
 pub loop-k-preserved : goal.loop-k-preserved
