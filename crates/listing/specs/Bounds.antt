@@ -30,6 +30,10 @@ abbrev pub LimitOn : Option Bound → Type 0
 LimitOn (Some b) = Ticked b
 LimitOn None = Unit {0}
 
+abbrev pub IntervalOn : Option Interval → Type 0
+IntervalOn (Some v) = Ticked v.low × Ticked v.high
+IntervalOn None = Unit {0}
+
 -- the bound of an element whose child of a side says this
 abbrev pub BoundSaid : Said → Side → (closed : Bool) → Option Bound → Type 0
 BoundSaid said side closed r = (shift : ℕ) → shift ≤ 1680 → (attrs : List Attribute) (kids : Nodes)

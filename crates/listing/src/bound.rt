@@ -8,7 +8,7 @@ ghost use Rattle.interval.specs.Meaning.{bound_of, tick, Ticked};
 ghost use Rattle.element.specs.Tags.{TagOf, TagIn};
 ghost use Rattle.datatype.specs.Bounds.{side_meant, endpoint_meant};
 ghost use Rattle.datatype.specs.Said.{said_meant};
-ghost use Rattle.listing.specs.Bounds.{limit_meant, LimitOn, written_meant, BoundSaid, IntervalSaid};
+ghost use Rattle.listing.specs.Bounds.{limit_meant, LimitOn, written_meant, IntervalOn, BoundSaid, IntervalSaid};
 
 use datatype::bounds::{Endpoint, Side, is_pushed};
 use datatype::places::has_text;
@@ -87,7 +87,8 @@ fn bound_of(said: Said, side: Side, closed: bool) -> Option<Bound>
 // The interval of what is said on the two sides of the element of a tag, if both bounds are known.
 fn interval_said(s: &[u8], tag: Tag, from: Said, to: Said) -> Option<Interval>
     requires { TagIn s.now tag }
-    ensures { IntervalSaid s.now tag from to result }
+    ensures ticked { IntervalOn result }
+    ensures tells { IntervalSaid s.now tag from to result }
 {
     let low = bound_of(
         from,
@@ -105,6 +106,7 @@ fn interval_said(s: &[u8], tag: Tag, from: Said, to: Said) -> Option<Interval>
 // The interval that the element of a tag writes, where `depth` may be open at once.
 pub fn interval_of(s: &[u8], tag: Tag, depth: usize, shift: Shift) -> Written
     requires { TagIn s.now tag }
+    ensures ticked { IntervalOn result.interval }
     ensures within { (tag.end ≤ result.end) × (result.end ≤ length s.now) }
     ensures tells { (v : Element) (after : List ℕ) → TagOf s.now depth v after tag → (written_meant result.interval ≡ interval_of shift.minutes v.attrs v.kids) × (after ≡ drop result.end s.now) }
 {

@@ -2,6 +2,9 @@
 use Rattle.listing.proofs.Joining.{single_formed, single_says, unknown_says}
 use Rattle.listing.proofs.set.of_single.Goals as goal
 
+pub single-requires : goal.single-requires
+single-requires c = let t = rw c.in-Some.is at c.interval_of-w.ensures.ticked in record { fact_1 = t.0; fact_2 = t.1 }
+
 pub returns-in-Some : goal.returns-in-Some
 returns-in-Some c = record {
   formed = single_formed c.in-Some.v c.single.ensures;
