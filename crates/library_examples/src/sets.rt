@@ -1,6 +1,6 @@
 // Sets by value: whether places are in a set, whether two sets are the same, and an interval whose bounds are crossed, which no record may have.
 ghost use Rattle.std.specs.Prelude.{◌<◌};
-ghost use Rattle.interval.specs.Meaning.{Canonical};
+ghost use Rattle.interval.specs.Meaning.{Ticked, Canonical};
 
 use crate::{put, put_answer};
 use interval::{Bound, Interval, Op, Stretches};
@@ -9,6 +9,7 @@ use timestamp::tick::Tick;
 // [low, high]
 fn closed(low: u64, high: u64) -> Interval
     requires { (low < 1000) × (high < 1000) }
+    ensures { Ticked result.low × Ticked result.high }
 {
     Interval {
         low: Bound::Closed(Tick::ORIGIN.0 + low),
@@ -17,7 +18,9 @@ fn closed(low: u64, high: u64) -> Interval
 }
 
 // [1, 3)
-fn before_three() -> Interval {
+fn before_three() -> Interval
+    ensures { Ticked result.low × Ticked result.high }
+{
     Interval {
         low: Bound::Closed(Tick::ORIGIN.0 + 1),
         high: Bound::Open(Tick::ORIGIN.0 + 3),
@@ -25,7 +28,9 @@ fn before_three() -> Interval {
 }
 
 // (3, 5]
-fn after_three() -> Interval {
+fn after_three() -> Interval
+    ensures { Ticked result.low × Ticked result.high }
+{
     Interval {
         low: Bound::Open(Tick::ORIGIN.0 + 3),
         high: Bound::Closed(Tick::ORIGIN.0 + 5),
@@ -34,6 +39,7 @@ fn after_three() -> Interval {
 
 // What an operation makes of two intervals.
 fn combined(op: Op, a: Interval, b: Interval) -> Stretches
+    requires { (Ticked a.low × Ticked a.high) × (Ticked b.low × Ticked b.high) }
     ensures { Canonical result }
 {
     interval::combine(op, interval::single(a), interval::single(b))
