@@ -25,12 +25,16 @@ unfolding value
 text-start {s} {at} {i} g v after q =
     record { fuel = length (drop i s); enough = rw length-drop (omega arith); after = after; reads = rw g.reads at q }
 
--- where they stand, by the answer on the quote
+-- where no quote stands there is no value
+pub text-none : {P : Type 0} {s : List ℕ} {at : ℕ} → Reads 1 (byte 34) s at None → (v after : List ℕ) → value (drop at s) ≡ ok v after → P
+unfolding value
+text-none b v after q = let z = rw (none_of (byte 34) b) at q in clash (cc)
+
+-- where the characters stand, by the answer on the quote
 pub text-from : {s : List ℕ} {at : ℕ} {r : Option ℕ} → at ≤ length s → Reads 1 (byte 34) s at r
     → (unwrap_or r at ≤ length s) × ((v after : List ℕ) → value (drop at s) ≡ ok v after → TextAt s (unwrap_or r at) v)
-unfolding value
 text-from l (upto e g) = (g.high, text-start g)
-text-from l (none b) = (l, λ v after q. let z = rw b at q in clash (cc))
+text-from l (none b) = (l, λ v after q. text-none (none b) v after q)
 
 -- no character, where the quote stands
 pub chars-end : {s : List ℕ} {at e : ℕ} → Reads 1 (byte 34) s at (Some e) → (v : List ℕ) → TextAt s at v → Chars s v None

@@ -1,6 +1,6 @@
 -- Two bounds by their kinds and ticks: those of one stretch, and those between two.
-use Rattle.std.proofs.Common.{◌≡◌, ℕ, zero, suc, ◌<◌, Bool, true, false, not, ◌&&◌, ◌||◌, eqb, ltb, ℤ, sym, refl, ap, ◌∙◌, arith, ltb-true}
-use mathlib.Core.Bool.{and-false, not-not}
+use Rattle.std.proofs.Common.{◌≡◌, ℕ, zero, suc, ◌^◌, ◌<◌, Bool, true, false, not, ◌&&◌, ◌||◌, eqb, ltb, ℤ, sym, refl, ap, ◌∙◌, arith, ltb-true}
+use mathlib.Core.Bool.{and-false, or-false, not-not}
 use lib.IntN.{pred_ℤ, suc-pred}
 use lib.Signed.{le_z, lt_z}
 use Rattle.rules.specs.Basics.{if_some}
@@ -8,15 +8,19 @@ use Rattle.rules.specs.Sets.{Place, at, gap_after, next_place, ◌is_before◌, 
 use Rattle.rules.specs.LentLists.{Row as PageRow, is_zero, bound_in, is_unbounded, signed}
 use Rattle.rules.proofs.Order.{before-next}
 use Rattle.lent.specs.Rows.{is_bound, is_in_order, is_faulty}
-use Rattle.lent.proofs.Numbers.{kind-signed, zero-signed}
+use Rattle.lent.proofs.Numbers.{signed-most, kind-signed, zero-signed}
 
--- what the code asks of a bound's numbers
+-- what the code asks of a bound's numbers, and of two ticks
 pub bound_is : (k t : ℕ) → ltb k 3 && (not (eqb k 0) || eqb t 0) ≡ is_bound (signed k) (signed t)
 bound_is k t = rw (kind-signed k, zero-signed k, zero-signed t) (ap (ltb k 3 &&◌) (go (eqb k 0)))
   where
     go : (x : Bool) → not x || eqb t 0 ≡ not (x && not (eqb t 0))
     go true = sym (not-not (eqb t 0))
     go false = refl
+
+pub order_is : (a b : ℕ) → a < 2 ^ 64 → b < 2 ^ 64 → (equal : Bool) → lt_z (signed a) (signed b) || equal && eqb a b ≡ is_in_order (signed a) (signed b) equal
+order_is a b h k true = sym (signed-most a b h k)
+order_is a b h k false = or-false (lt_z (signed a) (signed b))
 
 -- the good kinds
 data Kind : ℕ → Type 0 where

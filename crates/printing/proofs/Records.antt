@@ -48,6 +48,13 @@ module _ (list : List ℕ) (e : length list ≡ 0 → ⊥) where
   row-some k = rw (ne_eqb (length list) 0 e)
 
 module _ (list : List ℕ) (p : is_improper_list list ≡ false) where
+  pub count_most : term_count list ≤ 32
+  count_most = go (eqb (length list) 0)
+    where
+      go : (b : Bool) → cond b 1 (length list / 32) ≤ 32
+      go true = omega arith
+      go false = omega (arith, proper-length list p)
+
   pub written_terms : written (listed list) ≡ terms_from list 0 (term_count list)
   unfolding terms_from stretches_from
   written_terms = go (eqb (length list) 0) refl

@@ -55,6 +55,9 @@ term_sizes s = sum (bytes "<term xsi:type=\"IVL_TS\"" ++ flag_text low s.low ++ 
     sum : (a b c : List ℕ) → length (a ++ b ++ c ++ bytes "</term>") ≡ length a + length b + length c + 7
     sum a b c = simp length-append
 
+pub opening_length : (side : Side) (v : List ℕ) → length (opening_text side ++ v ++ bytes "\"/>") ≡ length (opening_text side) + length v + 3
+opening_length side v = simp length-append
+
 pub value_length : (side : Side) (t : ℕ) → length (value_text side t) ≡ length (opening_text side) + 27
 value_length side t = sum (opening_text side) (timestamp_text (pos t)) (timestamp-length t)
   where
