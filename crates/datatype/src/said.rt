@@ -59,15 +59,16 @@ pub fn time_at(s: &[u8], place: usize, shift: Shift) -> Time
         };
     }
     let end = value::end(s, place);
-    match form::moment(s, place, end, shift) {
-        Ok(m) => Time {
-            fault: Ok(()),
-            said: Said::Valued(m),
-        },
-        Err(refusal) => Time {
-            fault: Err(refusal),
+    let read = form::moment(s, place, end, shift);
+    let Ok(m) = read else {
+        return Time {
+            fault: read.and(Ok(())),
             said: Said::Nothing,
-        },
+        };
+    };
+    Time {
+        fault: Ok(()),
+        said: Said::Valued(m),
     }
 }
 

@@ -34,7 +34,7 @@ text-none b v after q = let z = rw (none_of (byte 34) b) at q in clash (cc)
 pub text-from : {s : List ℕ} {at : ℕ} {r : Option ℕ} → at ≤ length s → Reads 1 (byte 34) s at r
     → (unwrap_or r at ≤ length s) × ((v after : List ℕ) → value (drop at s) ≡ ok v after → TextAt s (unwrap_or r at) v)
 text-from l (upto e g) = (g.high, text-start g)
-text-from l (none b) = (l, λ v after q. text-none (none b) v after q)
+text-from {s} {at} l (none b) = (l, λ v after q. text-none {s = s} {at = at} (none b) v after q)
 
 -- no character, where the quote stands
 pub chars-end : {s : List ℕ} {at e : ℕ} → Reads 1 (byte 34) s at (Some e) → (v : List ℕ) → TextAt s at v → Chars s v None

@@ -106,8 +106,10 @@ fn timestamp_fault(s: &[u8], q: usize, e: usize, shift: Shift) -> Result<(), Ref
     requires fact_2 { e ≤ length s.now }
     ensures { (v : List ℕ) → value (drop q s.now) ≡ ok v (drop e s.now) → fault_of result ≡ first_of (faults_of (read_timestamp shift.minutes v)) }
 {
-    moment(s, q, e, shift)?;
-    Ok(())
+    let Err(refusal) = moment(s, q, e, shift) else {
+        return Ok(());
+    };
+    Err(refusal)
 }
 
 // The refusal of a value that is to be of a form.

@@ -4,8 +4,9 @@ use mathlib.Core.Path.{◌≡◌, refl, ap₂, ◌∙◌}
 use mathlib.Core.Bool.{Bool}
 use mathlib.Core.Option.{Option, none, some}
 use native.Mathlib.Omega.{arith}
-use Rattle.std.specs.Prelude.{Option as StdOption, Some, None}
+use Rattle.std.specs.Prelude.{Option as StdOption, Some, None, IsSome}
 use lib.ListN.{length, length-append}
+use Rattle.rules.proofs.Tests.{clash}
 use Rattle.rules.specs.Refusal.{Outcome, answered, refused}
 use Rattle.rules.specs.Sets.{Place, Interval as PageInterval, holds, apply, Expression, combine, meant, intervals}
 use Rattle.interval.specs.declared.Stretches.{Stretches}
@@ -87,3 +88,8 @@ module _ (op : Op) (x : Option Expression) (y : Outcome Expression) where
         go (some w) (answered z) (so_far s) (is_set t) = is_set (join w z s t)
         go none y s t = elim s [ ]
         go (some w) (refused q) s t = elim t [ ]
+
+  -- the first as it is, where it is known
+  pub first_taken : {a : StdOption Times} (m : StdOption Times) → a ≡ None → IsSome m → SoFar x a → Says y m → Says (joined op x y) m
+  first_taken (Some b) e known s t = join_first b (rw e at s) t
+  first_taken None e known s t = clash (cc)

@@ -156,7 +156,11 @@ pub fn evaluate(s: &[u8], tag: Tag, depth: usize, shift: Shift) -> Evaluated
                     so_far.times = None;
                     return so_far;
                 }
-                so_far = join(op, so_far, member);
+                if so_far.times.is_none() {
+                    so_far = member;
+                } else {
+                    so_far = join(op, so_far, member);
+                }
             }
             Inside::Past(end) => {
                 so_far.end = end;

@@ -221,13 +221,12 @@ pub fn rigcactus_tick(text: &[u8], offset: i64, tick: &mut i64) -> u64
     if MOST < text.len() {
         return refusal::number(Refusal::TooLong);
     }
-    match timestamp::read(text, shift_of(offset)) {
-        Ok(m) => {
-            *tick = signed_tick(m.start);
-            m.precision * 256
-        }
-        Err(r) => refusal::number(r),
-    }
+    let answer = timestamp::read(text, shift_of(offset));
+    let Ok(m) = answer else {
+        return verdict_number(answer.and(Ok(())));
+    };
+    *tick = signed_tick(m.start);
+    m.precision * 256
 }
 
 // What a record says of money: the amount of an MO, none if it is null, or the first refusal of the ladder, on which another type is TYPE.

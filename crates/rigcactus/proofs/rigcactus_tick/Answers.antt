@@ -17,14 +17,14 @@ returns-then-text-gt-MOST c = let t = timing-long c.args.offset c.args.text.now 
 pub shift_of-requires : goal.shift_of-requires
 shift_of-requires c = sym c.is_offset.ensures ∙ c.if-not-is_offset.false
 
-pub returns-in-Err : goal.returns-in-Err
-returns-in-Err c = let all = passed_on c.args.offset c.args.text.now _ _ c.in-Err.is (timing-passed _ _ _ _ (sym (subst (λ z. c.is_offset.result ≡ is_offset z) (to_z-of_z w64 c.args.offset c.ranges.offset) c.is_offset.ensures) ∙ c.if-not-is_offset.false) c.if-text-gt-MOST.false (subst (λ z. c.shift_of.result.minutes ≡ shift_by z) (to_z-of_z w64 c.args.offset c.ranges.offset) c.shift_of.ensures) c.read.ensures) _ c.number-in-Err.ensures in record { value = all.0; tick_after = all.1 }
+pub returns-in_default : goal.returns-in_default
+returns-in_default c = let all = passed_on c.args.offset c.args.text.now _ _ c.in_default.is (timing-passed _ _ _ _ (sym (subst (λ z. c.is_offset.result ≡ is_offset z) (to_z-of_z w64 c.args.offset c.ranges.offset) c.is_offset.ensures) ∙ c.if-not-is_offset.false) c.if-text-gt-MOST.false (subst (λ z. c.shift_of.result.minutes ≡ shift_by z) (to_z-of_z w64 c.args.offset c.ranges.offset) c.shift_of.ensures) c.read-answer.ensures) _ (c.verdict_number.ensures ∙ rw (c.and.ensures, c.in_default.is) refl) in record { value = all.0; tick_after = all.1 }
 
 pub signed_tick-requires : goal.signed_tick-requires
-signed_tick-requires c = (ticks_in_60_bits _ _ _ (read_at _ _ _ _ c.read.ensures c.in-Ok.is) c.shift_of.result.small).0
+signed_tick-requires c = (ticks_in_60_bits _ _ _ (read_at _ _ _ _ c.read-answer.ensures c.in-Ok.is) c.shift_of.result.small).0
 
 pub overflow_mul-result : goal.overflow_mul-result
-overflow_mul-result c = omega (arith, precision-range _ _ _ (read_at _ _ _ _ c.read.ensures c.in-Ok.is))
+overflow_mul-result c = omega (arith, precision-range _ _ _ (read_at _ _ _ _ c.read-answer.ensures c.in-Ok.is))
 
-pub returns-in-Ok : goal.returns-in-Ok
-returns-in-Ok c = let t = timing-passed c.args.offset c.args.text.now _ _ (sym (subst (λ z. c.is_offset.result ≡ is_offset z) (to_z-of_z w64 c.args.offset c.ranges.offset) c.is_offset.ensures) ∙ c.if-not-is_offset.false) c.if-text-gt-MOST.false (subst (λ z. c.shift_of.result.minutes ≡ shift_by z) (to_z-of_z w64 c.args.offset c.ranges.offset) c.shift_of.ensures) (sym (read_at _ _ _ _ c.read.ensures c.in-Ok.is)) in record { value = rw t refl; tick_after = rw t (to_z-of_z w64 c.signed_tick.result (record { sfits = c.signed_tick.type_inv }) ∙ c.signed_tick.ensures) }
+pub returns : goal.returns
+returns c = let t = timing-passed c.args.offset c.args.text.now _ _ (sym (subst (λ z. c.is_offset.result ≡ is_offset z) (to_z-of_z w64 c.args.offset c.ranges.offset) c.is_offset.ensures) ∙ c.if-not-is_offset.false) c.if-text-gt-MOST.false (subst (λ z. c.shift_of.result.minutes ≡ shift_by z) (to_z-of_z w64 c.args.offset c.ranges.offset) c.shift_of.ensures) (sym (read_at _ _ _ _ c.read-answer.ensures c.in-Ok.is)) in record { value = rw t refl; tick_after = rw t (to_z-of_z w64 c.signed_tick.result (record { sfits = c.signed_tick.type_inv }) ∙ c.signed_tick.ensures) }

@@ -5,6 +5,7 @@ use Rattle.rules.proofs.Tests.{clash}
 use Rattle.element.proofs.Walks.{walk_begins, walk_less, walk_child, walk_goes, walk_ends}
 use Rattle.listing.specs.Sets.{none_yet}
 use Rattle.listing.proofs.Evaluating.{none_said, null-set, single_set, other-set, members_set, known_not, known-so, member-known, member-unknown, members_said}
+use Rattle.listing.proofs.Joining.{first_taken}
 use Rattle.listing.proofs.set.+evaluate.Goals as goal
 
 pub returns-then-has : goal.returns-then-has
@@ -72,6 +73,22 @@ returns-then-is_none t c =
             λ k. clash (cc),
           );
     }
+
+pub loop-i-smaller-then-is_none-2 : goal.loop-i-smaller-then-is_none-2
+loop-i-smaller-then-is_none-2 t c =
+    walk_less (rw c.in-Child.is at c.next_inside.ensures) (c.read-child.ensures.within, c.read-child.ensures.tells)
+    c.evaluate-member.ensures.within
+
+pub loop-i-preserved-then-is_none-2 : goal.loop-i-preserved-then-is_none-2
+loop-i-preserved-then-is_none-2 t c =
+    let e = c.evaluate-member in
+    let op = c.in-Members.op in
+    let known = known-so _ c.is_none.ensures c.if-is_none.false in (
+      e.ensures.formed,
+      walk_goes (rw c.in-Child.is at c.next_inside.ensures) (c.read-child.ensures.within, c.read-child.ensures.tells) c.loop-i.invariant.1 e.ensures.within (λ all left v rest h p.
+          let (s, q) = e.ensures.tells v rest h in
+          (q known, member-known c.args.shift.minutes op v s all left p known (λ x y. first_taken op x y _ (known_not _ c.is_none-in-Child.ensures c.if-is_none-2.true) known))),
+    )
 
 pub join-so_far-requires : goal.join-so_far-requires
 join-so_far-requires t c =
