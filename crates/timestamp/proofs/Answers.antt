@@ -11,9 +11,10 @@ use Rattle.rules.proofs.Tests.{clash}
 use Rattle.rules.specs.Refusal.{Refusal, DATE, CLOCK, ZONE, answered, refused}
 use Rattle.rules.specs.Timestamp.{is_date, is_clock, is_zone, start_of, unit_length, moment_of as rules_moment, read_timestamp}
 use Rattle.rules.proofs.Ticks.{read-wrong-form, read_right_form}
-use Rattle.timestamp.specs.Written.{FormOf, parts_of, zone_of}
+use Rattle.timestamp.specs.Written.{FormOf, parts_of, zone_of, fourteen_written, FourteenOf}
 use Rattle.timestamp.specs.Moments.{is_date_of, is_clock_of, unit_ticks, Possible, moment_of, moment_written}
 use Rattle.timestamp.specs.declared.form.Parts.{Parts}
+use Rattle.timestamp.specs.declared.fourteen.Numbers.{Numbers}
 use Rattle.timestamp.specs.declared.form.Written.{Written}
 use Rattle.timestamp.proofs.Ranges.{unit_is}
 
@@ -21,6 +22,9 @@ use Rattle.timestamp.proofs.Ranges.{unit_is}
 pub found_form : (s : List ℕ) (r : Option Written) (c : Written) → FormOf s r → ok_or r Value ≡ Ok c → FormOf s (Some c)
 found_form s None c h e = clash (cc)
 found_form s (Some d) c h e = let z : d ≡ c = cc in subst (λ w. FormOf s (Some w)) z h
+
+pub found_fourteen : (s : List ℕ) (r : Option Numbers) (n : Numbers) → FourteenOf s r → r ≡ Some n → FormOf s (Some (fourteen_written n))
+found_fourteen s r n h e = subst (FourteenOf s) e h
 
 -- a text of the wrong form
 pub wrong_form : (shift : ℕ) (s : List ℕ) (r : Option Written) (q : RefusalTold) → FormOf s r → ok_or r Value ≡ Err q → refused (refusal_of q) ≡ read_timestamp shift s

@@ -10,6 +10,7 @@ use Rattle.timestamp.specs.declared.form.Offset.{Offset}
 use Rattle.timestamp.specs.declared.form.Hours.{Hours}
 use Rattle.timestamp.specs.declared.form.Zoned.{Zoned}
 use Rattle.timestamp.specs.declared.form.Written.{Written}
+use Rattle.timestamp.specs.declared.fourteen.Numbers.{Numbers}
 
 -- the code's parts of a list of two-digit numbers; missing ones take their first value
 abbrev pub parts_of : List ℕ → (end : ℕ) → Parts
@@ -77,15 +78,15 @@ FormOf s (Some c) = (w : RulesWritten) × (whole timestamp s ≡ some w) × Writ
 FormOf s None = whole timestamp s ≡ none
 
 -- fourteen digits, as what is written
-abbrev pub fourteen_written : Written → Written
-fourteen_written c = record {
-  year = c.year;
-  parts = record { count = 5; month = c.parts.month; day = c.parts.day; hour = c.parts.hour; minute = c.parts.minute; second = c.parts.second; end = 14 };
+abbrev pub fourteen_written : Numbers → Written
+fourteen_written n = record {
+  year = n.year;
+  parts = record { count = 5; month = n.month; day = n.day; hour = n.hour; minute = n.minute; second = n.second; end = 14 };
   fraction = record { value = 0; count = 0; end = 14 };
   zone = None;
 }
 
 -- fourteen digits and nothing else, or another text
-abbrev pub FourteenOf : List ℕ → Option Written → Type 0
-FourteenOf s (Some c) = FormOf s (Some c) × (c ≡ fourteen_written c)
+abbrev pub FourteenOf : List ℕ → Option Numbers → Type 0
+FourteenOf s (Some n) = FormOf s (Some (fourteen_written n))
 FourteenOf s None = length s ≡ 14 → every is_digit s ≡ false

@@ -1,12 +1,21 @@
 // Fourteen digits, the usual timestamp, read eight bytes at a time.
 ghost use Rattle.timestamp.specs.Written.{FourteenOf};
 
-use crate::form::{Parts, Written};
-use text::digits::Fraction;
 use text::words;
 
+// The numbers of a date and a clock.
+#[derive(Clone, Copy)]
+pub struct Numbers {
+    pub year: u64,
+    pub month: u64,
+    pub day: u64,
+    pub hour: u64,
+    pub minute: u64,
+    pub second: u64,
+}
+
 // Reads a text that is fourteen digits. Two digits 0 after the clock fill its word up to eight bytes.
-pub fn read(s: &[u8]) -> Option<Written>
+pub fn read(s: &[u8]) -> Option<Numbers>
     ensures { FourteenOf s.now result }
 {
     if s.len() != 14 {
@@ -16,22 +25,12 @@ pub fn read(s: &[u8]) -> Option<Written>
     let (century, rest, month, day) = words::read_pairs(date)?;
     let clock = words::four(s, 8) + 0x1_0000_0000 * (words::two(s, 12) + 0x3030_0000);
     let (hour, minute, second, _) = words::read_pairs(clock)?;
-    Some(Written {
+    Some(Numbers {
         year: 100 * century + rest,
-        parts: Parts {
-            count: 5,
-            month,
-            day,
-            hour,
-            minute,
-            second,
-            end: 14,
-        },
-        fraction: Fraction {
-            value: 0,
-            count: 0,
-            end: 14,
-        },
-        zone: None,
+        month,
+        day,
+        hour,
+        minute,
+        second,
     })
 }

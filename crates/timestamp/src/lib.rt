@@ -4,7 +4,7 @@
 ghost use Rattle.std.specs.Prelude.{◌≡◌, true, ◌+◌, ◌-◌, ◌*◌, ◌^◌, ◌≤◌, ◌<◌};
 ghost use Rattle.rules.specs.Basics.{is_from};
 ghost use Rattle.rules.specs.Timestamp.{is_offset_time, is_zone, shift_of, read_timestamp};
-ghost use Rattle.timestamp.specs.Written.{zone_of, SmallZone, FormOf};
+ghost use Rattle.timestamp.specs.Written.{zone_of, SmallZone, fourteen_written};
 ghost use Rattle.timestamp.specs.Moments.{is_date_of, is_clock_of, unit_ticks, Possible, moment_written, outcome_of};
 
 pub mod calendar;
@@ -14,6 +14,7 @@ mod shift;
 pub mod tick;
 
 use form::{Offset, Written};
+use fourteen::Numbers;
 use refusal::Refusal;
 pub use shift::Shift;
 use tick::Tick;
@@ -142,19 +143,37 @@ fn make_moment(w: Written, shift: Shift) -> Moment
     }
 }
 
-// What is written in a text of the form of a timestamp. Fourteen digits go a shorter way to the same answer.
-fn written(text: &[u8]) -> Option<Written>
-    ensures { FormOf text.now result }
+// The moment of fourteen digits.
+fn fourteen_moment(n: Numbers, shift: Shift) -> Moment
+    requires { Possible shift.minutes (fourteen_written n) }
+    ensures { result ≡ moment_written shift.minutes (fourteen_written n) }
 {
-    fourteen::read(text).or_else(|| form::read_form(text))
+    let date = Tick::of_date(n.year, n.month, n.day);
+    let clock = Tick::of_clock(n.hour, n.minute, n.second, 0);
+    let start = date.0 + clock.0 + shift.minutes * Tick::MINUTE.0;
+    Moment {
+        start,
+        precision: 14,
+        next: start + Tick::SECOND.0,
+    }
 }
 
 // Reads a text as a timestamp; `shift` is 840 less the agreed offset in minutes. A text of the wrong form is VALUE. Of one of the right
-// form an impossible date is DATE, else an impossible clock CLOCK, else an impossible offset ZONE.
+// form an impossible date is DATE, else an impossible clock CLOCK, else an impossible offset ZONE. Fourteen digits go a shorter way to the
+// same answer.
 pub fn read(text: &[u8], shift: Shift) -> Result<Moment, Refusal>
     ensures { outcome_of result ≡ read_timestamp shift.minutes text.now }
 {
-    let w = written(text).ok_or(Refusal::Value)?;
+    if let Some(n) = fourteen::read(text) {
+        if !is_date(n.year, n.month, n.day) {
+            return Err(Refusal::Date);
+        }
+        if !is_clock(n.hour, n.minute, n.second) {
+            return Err(Refusal::Clock);
+        }
+        return Ok(fourteen_moment(n, shift));
+    }
+    let w = form::read_form(text).ok_or(Refusal::Value)?;
     let p = w.parts;
     if !is_date(w.year, p.month, p.day) {
         return Err(Refusal::Date);
