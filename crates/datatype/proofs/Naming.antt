@@ -1,8 +1,8 @@
 -- The type that an element names.
 use Prim.Native.Nat.{ℕ, zero, suc, ◌+◌, ◌<◌}
 use mathlib.Core.Path.{◌≡◌, refl, sym, ◌∙◌}
-use mathlib.Core.Bool.{Bool, true, false}
-use mathlib.Core.List.{List, [], ◌∷◌}
+use mathlib.Core.Bool.{Bool, true, false, cond}
+use mathlib.Core.List.{List, [], ◌∷◌, ◌++◌}
 use mathlib.Core.Option.{none, some}
 use native.Mathlib.Omega.{arith}
 use denote.Bor.{Bor}
@@ -11,7 +11,7 @@ use Rattle.rules.specs.Basics.{bytes, same, find, every, exists, begins}
 use Rattle.rules.specs.Parsers.{ok}
 use Rattle.rules.specs.Markup.{Attribute, lookup, value}
 use Rattle.rules.specs.Types.{Kind, TS, IVL_TS, QSU_TS, QSI_TS, QSD_TS, MO, II, CD, EN, DisplayName, Part, name_of, type_among}
-use Rattle.rules.proofs.Tests.{same_sym}
+use Rattle.rules.proofs.Tests.{same_sym, clash}
 use Rattle.rules.proofs.Writing.{is_bare}
 use Rattle.rules.proofs.References.{is_referenced}
 use Rattle.datatype.specs.declared.kind.Kind.{Kind as CodeKind}
@@ -31,6 +31,25 @@ module _ (attrs : List Attribute) where
   unfolding find
   type-some h [] = refl
   type-some {v} h (k ∷ kinds) = rw (h, same_sym (name_of k) v, type-some h kinds)
+
+-- two lists of kinds, one after the other
+pub named_first : (ks ls : List Kind) (v : List ℕ) {k : Kind} → some k ≡ named_among ks v → some k ≡ named_among (ks ++ ls) v
+named_first [] ls v e = clash (cc)
+named_first (j ∷ ks) ls v {k} e = go (same v (name_of j)) e (named_first ks ls v)
+  where
+    go : (b : Bool) → some k ≡ cond b (some j) (named_among ks v) → (some k ≡ named_among ks v → some k ≡ named_among (ks ++ ls) v)
+        → some k ≡ cond b (some j) (named_among (ks ++ ls) v)
+    go true e rest = e
+    go false e rest = rest e
+
+pub named_second : (ks ls : List Kind) (v : List ℕ) → none ≡ named_among ks v → named_among ls v ≡ named_among (ks ++ ls) v
+named_second [] ls v e = refl
+named_second (j ∷ ks) ls v e = go (same v (name_of j)) e (named_second ks ls v)
+  where
+    go : (b : Bool) → none ≡ cond b (some j) (named_among ks v) → (none ≡ named_among ks v → named_among ls v ≡ named_among (ks ++ ls) v)
+        → named_among ls v ≡ cond b (some j) (named_among (ks ++ ls) v)
+    go true e rest = clash (cc)
+    go false e rest = rest e
 
 -- a name has no byte that can be written as a reference
 plain-name : (k : Kind) → (every is_bare (name_of k) ≡ true) × (exists is_referenced (name_of k) ≡ false)

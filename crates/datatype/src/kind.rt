@@ -61,8 +61,10 @@ pub fn type_at(s: &[u8], place: usize, top: bool) -> Option<Kind>
         return None;
     }
     if top {
-        named(s, place, &TYPES)
-    } else {
-        named(s, place, &TYPES[5..])
+        if let Some(kind) = named(s, place, &TYPES[..5]) {
+            return Some(kind);
+        }
+        return named(s, place, &TYPES[5..]);
     }
+    named(s, place, &TYPES[5..])
 }
