@@ -29,7 +29,7 @@ impl Findings {
     }
 }
 
-const HISTORY: [&str; 3] = ["docs/CHANGES.md", "docs/DESIGN-PASS.md", "docs/PORT.md"];
+const HISTORY: [&str; 4] = ["docs/CHANGES.md", "docs/DESIGN-PASS.md", "docs/LOOK-BACK.md", "docs/PORT.md"];
 const PROVED: &str = "docs/PROVED.md";
 const RULES: &str = "docs/RULES.md";
 const DECISIONS: &str = "docs/DECISIONS.md";
