@@ -156,10 +156,9 @@ pub fn evaluate(s: &[u8], tag: Tag, depth: usize, shift: Shift) -> Evaluated
                     so_far.times = None;
                     return so_far;
                 }
-                if so_far.times.is_none() {
-                    so_far = member;
-                } else {
-                    so_far = join(op, so_far, member);
+                match so_far.times {
+                    None => so_far = member,
+                    Some(_) => so_far = join(op, so_far, member),
                 }
             }
             Inside::Past(end) => {

@@ -74,20 +74,20 @@ returns-then-is_none t c =
           );
     }
 
-pub loop-i-smaller-then-is_none-2 : goal.loop-i-smaller-then-is_none-2
-loop-i-smaller-then-is_none-2 t c =
+pub loop-i-smaller-in-None : goal.loop-i-smaller-in-None
+loop-i-smaller-in-None t c =
     walk_less (rw c.in-Child.is at c.next_inside.ensures) (c.read-child.ensures.within, c.read-child.ensures.tells)
     c.evaluate-member.ensures.within
 
-pub loop-i-preserved-then-is_none-2 : goal.loop-i-preserved-then-is_none-2
-loop-i-preserved-then-is_none-2 t c =
+pub loop-i-preserved-in-None : goal.loop-i-preserved-in-None
+loop-i-preserved-in-None t c =
     let e = c.evaluate-member in
     let op = c.in-Members.op in
     let known = known-so _ c.is_none.ensures c.if-is_none.false in (
       e.ensures.formed,
       walk_goes (rw c.in-Child.is at c.next_inside.ensures) (c.read-child.ensures.within, c.read-child.ensures.tells) c.loop-i.invariant.1 e.ensures.within (λ all left v rest h p.
           let (s, q) = e.ensures.tells v rest h in
-          (q known, member-known c.args.shift.minutes op v s all left p known (λ x y. first_taken op x y _ (known_not _ c.is_none-in-Child.ensures c.if-is_none-2.true) known))),
+          (q known, member-known c.args.shift.minutes op v s all left p known (λ x y. first_taken op x y _ c.in-None.is known))),
     )
 
 pub join-so_far-requires : goal.join-so_far-requires
