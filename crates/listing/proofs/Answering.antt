@@ -1,10 +1,10 @@
 -- What is answered on an accepted record, from what is known of its set.
 use Prim.Native.Nat.{ℕ, suc, ◌/◌, ◌≤◌, ◌<◌}
 use mathlib.Core.Path.{◌≡◌, refl, sym, ap, ◌∙◌}
-use mathlib.Core.Bool.{true}
+use mathlib.Core.Bool.{true, false}
 use mathlib.Core.List.{List, [], ◌∷◌, flat_map, map}
 use native.Mathlib.Omega.{arith}
-use Rattle.std.specs.Prelude.{Some, None, Ok, Err}
+use Rattle.std.specs.Prelude.{Ok, Err}
 use lib.ListN.{length, length-take}
 use Rattle.rules.specs.Refusal.{UNKNOWN_BOUND, TOO_MANY, NO_ROOM, Outcome, answered, refused}
 use Rattle.rules.specs.Markup.{Element}
@@ -14,6 +14,7 @@ use Rattle.rules.specs.Stretches.{stretches}
 use Rattle.rules.specs.Listing.{set_of, intervals_written, list_element, list_numbers}
 use Rattle.rules.specs.Services.{eight_bytes, overwrite, room_of}
 use Rattle.rules.specs.ListingPromise.{is_listed}
+use Rattle.rules.proofs.Tests.{clash}
 use Rattle.rules.proofs.Members.{set-intervals, set-refused}
 use Rattle.rules.proofs.ListingCases.{element_unclear, element_too_many, element_no_room, element-listing}
 use Rattle.refusal.specs.declared.Refusal.TheVariants.{UnknownBound, TooMany, NoRoom}
@@ -21,7 +22,7 @@ use Rattle.interval.specs.declared.Interval.{Interval}
 use Rattle.interval.specs.declared.Stretches.{Stretches}
 use Rattle.interval.specs.Meaning.{interval_of, used, stretches_of}
 use Rattle.interval.proofs.Unique.{stretches-meant}
-use Rattle.listing.specs.declared.set.Times.{Times}
+use Rattle.listing.specs.declared.set.Evaluated.{Evaluated}
 use Rattle.listing.specs.Sets.{Formed, IsSet, Says, is_set, is_unknown}
 use Rattle.listing.specs.Answers.{Answers}
 
@@ -37,23 +38,23 @@ module _ (shift : ℕ) (e : Element) (before : List ℕ) where
   abbrev expected : Outcome (List PageInterval)
   expected = list_element shift (room_of before) e
 
-module _ (shift : ℕ) (e : Element) (before : List ℕ) (faultless : top_faults shift e ≡ []) (listed : is_listed e ≡ true) where
-  pub answers-unknown : Says (set_of shift e) None → Answers (expected shift e before) before (Err UnknownBound) before
-  answers-unknown says = go (set_of shift e) refl says
+module _ (shift : ℕ) (e : Element) (before : List ℕ) (faultless : top_faults shift e ≡ []) (listed : is_listed e ≡ true) {r : Evaluated} (says : Says (set_of shift e) r) where
+  pub answers-unknown : r.known ≡ false → Answers (expected shift e before) before (Err UnknownBound) before
+  answers-unknown f = go (set_of shift e) refl says
     where
-      go : (o : Outcome Expression) → set_of shift e ≡ o → Says o None → Answers (expected shift e before) before (Err UnknownBound) before
-      go (refused q) z is_unknown =
+      go : (o : Outcome Expression) → set_of shift e ≡ o → Says o r → Answers (expected shift e before) before (Err UnknownBound) before
+      go (answered x) z (is_set s) = clash (cc s.known)
+      go (refused q) z s =
           let d : expected shift e before ≡ refused UNKNOWN_BOUND = element_unclear shift (room_of before) e z ∙ ap refused (set-refused shift e faultless listed z) in
           rw d (record { answer = refl; lent = refl })
-      go (answered x) z s = elim s [ ]
 
-  module _ {r : Times} (says : Says (set_of shift e) (Some r)) where
+  module _ (known : r.known ≡ true) where
     the_set : (x : Expression) × (set_of shift e ≡ answered x) × IsSet x r
     the_set = go (set_of shift e) refl says
       where
-        go : (o : Outcome Expression) → set_of shift e ≡ o → Says o (Some r) → (x : Expression) × (set_of shift e ≡ answered x) × IsSet x r
+        go : (o : Outcome Expression) → set_of shift e ≡ o → Says o r → (x : Expression) × (set_of shift e ≡ answered x) × IsSet x r
         go (answered x) z (is_set s) = (x, z, s)
-        go (refused q) z s = elim s [ ]
+        go (refused q) z (is_unknown s) = clash (cc)
 
     pub answers-many : 32 < r.count → Answers (expected shift e before) before (Err TooMany) before
     answers-many l =

@@ -1,10 +1,11 @@
 -- The set that an element writes, and those of members one after another.
-use Prim.Native.Nat.{ℕ}
+use Prim.Native.Nat.{ℕ, ◌≤◌}
 use mathlib.Core.Path.{◌≡◌, refl, sym, ap, ◌∙◌, subst}
-use mathlib.Core.Bool.{Bool, true, false, not}
+use mathlib.Core.Bool.{Bool, true, false}
 use mathlib.Core.List.{List}
 use mathlib.Core.Option.{Option, none, some}
-use Rattle.std.specs.Prelude.{Option as StdOption, Some, None, IsSome, is_some}
+use native.Mathlib.Omega.{arith}
+use lib.ListN.{length}
 use Rattle.rules.specs.Refusal.{Refusal, TYPE, UNKNOWN_BOUND, Outcome, answered, refused, both}
 use Rattle.rules.specs.Markup.{Nodes, end, node, Element}
 use Rattle.rules.specs.Invariants.{is_null}
@@ -16,22 +17,14 @@ use Rattle.interval.specs.Meaning.{op_of}
 use Rattle.element.specs.Tags.{TagOf}
 use Rattle.element.specs.declared.tag.Tag.{Tag}
 use Rattle.listing.specs.declared.set.Shape.TheVariants.{Single, Members, Other}
-use Rattle.listing.specs.declared.set.Times.{Times}
-use Rattle.listing.specs.Sets.{WritesAs, Says, is_set, is_unknown, SoFar, none_yet, so_far, put, joined as joined_with, expressed, SaysElement}
+use Rattle.listing.specs.declared.set.Evaluated.{Evaluated}
+use Rattle.listing.specs.Sets.{WritesAs, Formed, IsSet, Says, is_set, is_unknown, SoFar, none_yet, so_far, put, expressed, SaysElement}
 
 -- an element that writes no set
-pub none_said : {s : List ℕ} {t : Tag} {depth : ℕ} (shift : ℕ) (e : ℕ)
-    → ((v : Element) (after : List ℕ) → TagOf s depth v after t → (q : Refusal) × (set_of shift v ≡ refused q)) → SaysElement s t depth shift (record { times = None; end = e })
-none_said shift e q v after h = (rw (q v after h).1 is_unknown, λ y. clash (cc))
-
--- whether a set is known
-pub known_not : (o : StdOption Times) {b : Bool} → is_some o ≡ not b → b ≡ true → o ≡ None
-known_not None e f = refl
-known_not (Some r) e f = clash (cc (e, ap not f))
-
-pub known-so : (o : StdOption Times) {b : Bool} → is_some o ≡ not b → b ≡ false → IsSome o
-known-so (Some r) e f = refl
-known-so None e f = clash (cc (e, ap not f))
+pub none_said : {s : List ℕ} {t : Tag} {depth : ℕ} (shift : ℕ) {r : Evaluated} → t.end ≤ length s → Formed r × (r.known ≡ false) × (r.count ≡ 0) × (r.end ≡ t.end)
+    → ((v : Element) (after : List ℕ) → TagOf s depth v after t → (q : Refusal) × (set_of shift v ≡ refused q))
+    → Formed r × (((t.end ≤ r.end) × (r.end ≤ length s)) × SaysElement s t depth shift r)
+none_said shift w (f, k, n, e) q = (f, ((omega (arith, e), omega (arith, e, w)), λ v after h. (rw (q v after h).1 (is_unknown k), λ y. clash (cc))))
 
 -- an element, by what it writes
 module _ (shift : ℕ) (v : Element) {b : Bool} (null : b ≡ is_null v.attrs) where
@@ -44,11 +37,11 @@ module _ (shift : ℕ) (v : Element) {b : Bool} (null : b ≡ is_null v.attrs) w
     unfolding set_from
     other-set w = rw (sym null ∙ not, w.0, w.1)
 
-    pub single_set : WritesAs v.attrs Single → {r : StdOption Times} → Says (expressed (interval_of shift v.attrs v.kids)) r → Says (set_of shift v) r
+    pub single_set : WritesAs v.attrs Single → {r : Evaluated} → Says (expressed (interval_of shift v.attrs v.kids)) r → Says (set_of shift v) r
     unfolding set_from
     single_set w s = rw (sym null ∙ not, w) s
 
-    pub members_set : (op : Op) → WritesAs v.attrs (Members op) → {r : StdOption Times} → Says (members_of shift (op_of op) v.kids) r → Says (set_of shift v) r
+    pub members_set : (op : Op) → WritesAs v.attrs (Members op) → {r : Evaluated} → Says (members_of shift (op_of op) v.kids) r → Says (set_of shift v) r
     unfolding set_from
     members_set op w s = rw (sym null ∙ not, w.0, w.1) s
 
@@ -58,7 +51,7 @@ with_left shift o none left = members_of shift o left
 with_left shift o (some x) left = joined shift o (answered x) left
 
 -- what is known of the set of all members at one of them
-abbrev pub Evaluating : (shift : ℕ) → Op → StdOption Times → (all left : Nodes) → Type 0
+abbrev pub Evaluating : (shift : ℕ) → Op → Evaluated → (all left : Nodes) → Type 0
 Evaluating shift op a all left = (x : Option Expression) × SoFar x a × (members_of shift (op_of op) all ≡ with_left shift (op_of op) x left)
 
 stays-refused : (shift : ℕ) (o : PageOp) (q : Refusal) (left : Nodes) → joined shift o (refused q) left ≡ refused q
@@ -79,37 +72,29 @@ module _ (shift : ℕ) (o : PageOp) (v : Element) (left : Nodes) where
   unknown_more {q} z none = ap (λ (p : Outcome Expression). joined shift o p left) z ∙ stays-refused shift o q left
   unknown_more {q} z (some x) = ap (λ (p : Outcome Expression). joined shift o (both (combine o) (answered x) p) left) z ∙ stays-refused shift o q left
 
-module _ (shift : ℕ) (op : Op) {a : StdOption Times} where
-  module _ (v : Element) {m : StdOption Times} (says : Says (set_of shift v) m) (all left : Nodes) (e : Evaluating shift op a all (node v.name v.attrs v.kids left)) where
-    pub member-known : IsSome m → {r : StdOption Times} → ((x : Option Expression) (y : Outcome Expression) → SoFar x a → Says y m → Says (joined_with op x y) r)
-        → Evaluating shift op r all left
-    member-known known {r} join = let (x, s, q) = e in go x s q (set_of shift v) refl says
+module _ (shift : ℕ) (op : Op) {a : Evaluated} where
+  module _ {m : Evaluated} (v : Element) (says : Says (set_of shift v) m) (all left : Nodes) (e : Evaluating shift op a all (node v.name v.attrs v.kids left)) where
+    pub member-known : m.known ≡ true → {r : Evaluated} → ((x : Option Expression) (y : Expression) → SoFar x a → IsSet y m → IsSet (put (op_of op) x y) r) → Evaluating shift op r all left
+    member-known k {r} join = let (x, s, q) = e in go x s q (set_of shift v) refl says
       where
-        told : {w : Expression} {r : StdOption Times} → Says (answered w) r → SoFar (some w) r
-        told (is_set t) = so_far t
-
-        unsaid : {p : Refusal} (m : StdOption Times) → Says (refused p) m → IsSome m → ⊥
-        unsaid None s known = clash (cc)
-        unsaid (Some k) s known = elim s [ ]
-
         go : (x : Option Expression) → SoFar x a → members_of shift (op_of op) all ≡ with_left shift (op_of op) x (node v.name v.attrs v.kids left)
             → (o : Outcome Expression) → set_of shift v ≡ o → Says o m → Evaluating shift op r all left
-        go x s q (answered y) z t = (some (put (op_of op) x y), told (join x (answered y) s t), q ∙ known_more shift (op_of op) v left z x)
-        go x s q (refused p) z t = absurd (unsaid m t known)
+        go x s q (answered y) z (is_set t) = (some (put (op_of op) x y), so_far (join x y s t), q ∙ known_more shift (op_of op) v left z x)
+        go x s q (refused p) z (is_unknown t) = clash (cc)
 
-    pub member-unknown : m ≡ None → Says (members_of shift (op_of op) all) None
-    member-unknown unknown = let (x, s, q) = e in go x q (set_of shift v) refl (subst (λ (o : StdOption Times). Says (set_of shift v) o) unknown says)
+    pub member-unknown : m.known ≡ false → {r : Evaluated} → r.known ≡ false → Says (members_of shift (op_of op) all) r
+    member-unknown k {r} u = let (x, s, q) = e in go x q (set_of shift v) refl says
       where
         go : (x : Option Expression) → members_of shift (op_of op) all ≡ with_left shift (op_of op) x (node v.name v.attrs v.kids left)
-            → (o : Outcome Expression) → set_of shift v ≡ o → Says o None → Says (members_of shift (op_of op) all) None
-        go x q (refused p) z is_unknown = subst (λ (o : Outcome Expression). Says o None) (sym (q ∙ unknown_more shift (op_of op) v left z x)) is_unknown
-        go x q (answered y) z t = elim t [ ]
+            → (o : Outcome Expression) → set_of shift v ≡ o → Says o m → Says (members_of shift (op_of op) all) r
+        go x q (answered y) z (is_set t) = clash (cc t.known)
+        go x q (refused p) z (is_unknown t) = subst (λ (o : Outcome Expression). Says o r) (sym (q ∙ unknown_more shift (op_of op) v left z x)) (is_unknown u)
 
   -- no member is left
-  pub members_said : (all : Nodes) → Evaluating shift op a all end → Says (members_of shift (op_of op) all) a
+  pub members_said : (all : Nodes) → Evaluating shift op a all end → (p : ℕ) → Says (members_of shift (op_of op) all) (record { known = a.known; count = a.count; set = a.set; end = p })
   unfolding members_of joined
-  members_said all e = let (x, s, q) = e in subst (λ (o : Outcome Expression). Says o a) (sym q) (go x s)
+  members_said all e p = let (x, s, q) = e in subst (λ (o : Outcome Expression). Says o (record { known = a.known; count = a.count; set = a.set; end = p })) (sym q) (go x s)
     where
-      go : {b : StdOption Times} (x : Option Expression) → SoFar x b → Says (with_left shift (op_of op) x end) b
-      go none none_yet = is_unknown
-      go (some x) (so_far s) = is_set s
+      go : (x : Option Expression) → SoFar x a → Says (with_left shift (op_of op) x end) (record { known = a.known; count = a.count; set = a.set; end = p })
+      go none (none_yet k c) = is_unknown k
+      go (some x) (so_far s) = is_set (record { known = s.known; count = s.count; places = s.places })

@@ -30,6 +30,7 @@ abbrev pub LimitOn : Option Bound → Type 0
 LimitOn (Some b) = Ticked b
 LimitOn None = Unit {0}
 
+-- both of its ticks are
 abbrev pub IntervalOn : Option Interval → Type 0
 IntervalOn (Some v) = Ticked v.low × Ticked v.high
 IntervalOn None = Unit {0}

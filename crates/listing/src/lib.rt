@@ -58,10 +58,10 @@ pub fn list(s: &[u8], record: Record, shift: Shift, out: &mut [u8]) -> Result<us
     ensures few { Few result }
 {
     let tag = record.tag;
-    let evaluated = set::evaluate(s, tag, DEPTH, shift);
-    let Some(written) = evaluated.times else {
+    let written = set::evaluate(s, tag, DEPTH, shift);
+    if !written.known {
         return Err(Refusal::UnknownBound);
-    };
+    }
     if 32 < written.count {
         return Err(Refusal::TooMany);
     }

@@ -1,13 +1,11 @@
 // The set of times that an element writes, put together from the intervals in it.
-ghost use Rattle.std.specs.Prelude.{◌≡◌, List, ℕ, ◌≤◌, length, drop, IfSome};
-ghost use Rattle.std.proofs.Math.Option.{Option};
-ghost use Rattle.rules.specs.Refusal.{Outcome};
+ghost use Rattle.std.specs.Prelude.{◌≡◌, false, List, ℕ, ◌≤◌, length, drop};
 ghost use Rattle.rules.specs.Markup.{Element};
 ghost use Rattle.rules.specs.Sets.{Expression, combine};
 ghost use Rattle.rules.specs.Listing.{interval_of};
 ghost use Rattle.interval.specs.Meaning.{op_of};
 ghost use Rattle.element.specs.Tags.{TagOf, TagIn};
-ghost use Rattle.listing.specs.Sets.{shape_of, WritesAs, Formed, IsSet, Says, SoFar, joined, expressed, SaysElement};
+ghost use Rattle.listing.specs.Sets.{shape_of, WritesAs, Formed, IsSet, Says, expressed, SaysElement};
 
 use crate::bound::interval_of;
 use datatype::kind::{Kind, type_at};
@@ -26,17 +24,13 @@ pub enum Shape {
     Other,
 }
 
-// A set of times: how many intervals are written in it, 33 for more than 32, and, up to 32, its stretches.
-#[derive(Clone, Copy)]
-pub struct Times {
-    pub count: usize,
-    pub set: Stretches,
-}
-
-// The set of times that an element writes, if all of it is known, and the position past the element.
+// A set of times: whether all of it is known; and, if it is, how many intervals are written in it, 33 for more than 32, up to 32 its
+// stretches, and the position past the element that writes it.
 #[derive(Clone, Copy)]
 pub struct Evaluated {
-    pub times: Option<Times>,
+    pub known: bool,
+    pub count: usize,
+    pub set: Stretches,
     pub end: usize,
 }
 
@@ -64,78 +58,77 @@ pub fn shape_of(s: &[u8], tag: Tag) -> Shape
     shape_of_kind(kind)
 }
 
+// A set that is not known, with no interval counted: that of an element that is null, of a type that writes neither an interval nor
+// members, or whose one interval is not known; and that of members before the first is read.
+fn nothing(end: usize) -> Evaluated
+    ensures { Formed result × (result.known ≡ false) × (result.count ≡ 0) × (result.end ≡ end) }
+{
+    let set = interval::empty();
+    Evaluated {
+        known: false,
+        count: 0,
+        set,
+        end,
+    }
+}
+
 // The set of the one interval that the element of a tag writes, where `depth` may be open at once.
 fn of_single(s: &[u8], tag: Tag, depth: usize, shift: Shift) -> Evaluated
     requires { TagIn s.now tag }
-    ensures formed { IfSome result.times Formed }
+    ensures formed { Formed result }
     ensures within { (tag.end ≤ result.end) × (result.end ≤ length s.now) }
-    ensures tells { (v : Element) (after : List ℕ) → TagOf s.now depth v after tag → Says (expressed (interval_of shift.minutes v.attrs v.kids)) result.times × (after ≡ drop result.end s.now) }
+    ensures tells { (v : Element) (after : List ℕ) → TagOf s.now depth v after tag → Says (expressed (interval_of shift.minutes v.attrs v.kids)) result × (after ≡ drop result.end s.now) }
 {
     let w = interval_of(s, tag, depth, shift);
-    let times = match w.interval {
-        Some(v) => Some(Times {
-            count: 1,
-            set: interval::single(v),
-        }),
-        None => None,
+    let Some(v) = w.interval else {
+        return nothing(w.end);
     };
-    Evaluated { times, end: w.end }
+    let set = interval::single(v);
+    Evaluated {
+        known: true,
+        count: 1,
+        set,
+        end: w.end,
+    }
 }
 
 // Two sets put together. Where more than 32 intervals are written in them, no operation is done.
-fn both(op: Op, a: Times, b: Times) -> Times
+fn join(op: Op, a: Evaluated, b: Evaluated) -> Evaluated
     requires fact_1 { Formed a }
     requires fact_2 { Formed b }
-    ensures formed { Formed result }
+    ensures formed { Formed result × (result.end ≡ b.end) }
     ensures tells { (x y : Expression) → IsSet x a → IsSet y b → IsSet (combine (op_of op) x y) result }
 {
     let first = a.set;
     let count = a.count + b.count;
     if 32 < count {
-        return Times {
+        return Evaluated {
+            known: true,
             count: 33,
             set: first,
+            end: b.end,
         };
     }
     let second = b.set;
     let set = interval::combine(op, first, second);
-    Times { count, set }
-}
-
-// The set of the members so far, put together with that of the next member, past which it then ends; the next one's where it is the first.
-fn join(op: Op, so_far: Evaluated, member: Evaluated) -> Evaluated
-    requires fact_1 { IfSome so_far.times Formed }
-    requires fact_2 { IfSome member.times Formed }
-    ensures formed { IfSome result.times Formed × (result.end ≡ member.end) }
-    ensures tells { (x : Option Expression) (y : Outcome Expression) → SoFar x so_far.times → Says y member.times → Says (joined op x y) result.times }
-{
-    let Some(next) = member.times else {
-        return member;
-    };
-    let times = match so_far.times {
-        Some(before) => both(op, before, next),
-        None => next,
-    };
     Evaluated {
-        times: Some(times),
-        end: member.end,
+        known: true,
+        count,
+        set,
+        end: b.end,
     }
 }
 
 // The set that the element of a tag writes, where `depth` may be open at once: that of its one interval, or of its members, put together
-// from the first on. It calls itself for the members, with `depth` falling. The first member that is not known ends it. It is not known where
-// the element is null, of a type that writes neither an interval nor members, or has no member. What is returned is always `so_far`: a set is
-// large, and each place that it is made at is one more to copy it from.
+// from the first on. It calls itself for the members, with `depth` falling. The first member that is not known ends it. What is returned is
+// always `so_far`: a set is large, and each place that it is made at is one more to copy it from.
 pub fn evaluate(s: &[u8], tag: Tag, depth: usize, shift: Shift) -> Evaluated
     requires { TagIn s.now tag }
-    ensures formed { IfSome result.times Formed }
+    ensures formed { Formed result }
     ensures within { (tag.end ≤ result.end) × (result.end ≤ length s.now) }
     ensures tells { SaysElement s.now tag depth shift.minutes result }
 {
-    let mut so_far = Evaluated {
-        times: None,
-        end: tag.end,
-    };
+    let mut so_far = nothing(tag.end);
     if tag::has(tag, NULL_FLAVOR) {
         return so_far;
     }
@@ -152,13 +145,14 @@ pub fn evaluate(s: &[u8], tag: Tag, depth: usize, shift: Shift) -> Evaluated
             Inside::Child(i) => {
                 let child = tag::read(s, i);
                 let member = evaluate(s, child, depth - 1, shift);
-                if member.times.is_none() {
-                    so_far.times = None;
+                if !member.known {
+                    so_far.known = false;
                     return so_far;
                 }
-                match so_far.times {
-                    None => so_far = member,
-                    Some(_) => so_far = join(op, so_far, member),
+                if so_far.count == 0 {
+                    so_far = member;
+                } else {
+                    so_far = join(op, so_far, member);
                 }
             }
             Inside::Past(end) => {

@@ -1,19 +1,20 @@
 use native.Mathlib.Omega.{arith}
 use mathlib.Core.Path.{refl}
+use mathlib.Core.Bool.{false}
 use mathlib.Core.Option.{none}
+use borrow.Author.Tests.{not-true, not-false}
 use Rattle.rules.proofs.Tests.{clash}
 use Rattle.element.proofs.Walks.{walk_begins, walk_less, walk_child, walk_goes, walk_ends}
 use Rattle.listing.specs.Sets.{none_yet}
-use Rattle.listing.proofs.Evaluating.{none_said, null-set, single_set, other-set, members_set, known_not, known-so, member-known, member-unknown, members_said}
-use Rattle.listing.proofs.Joining.{first_taken}
+use Rattle.listing.proofs.Joining.{as_formed, join_first, join_next}
+use Rattle.listing.proofs.Evaluating.{none_said, null-set, single_set, other-set, members_set, member-known, member-unknown, members_said}
 use Rattle.listing.proofs.set.+evaluate.Goals as goal
 
 pub returns-then-has : goal.returns-then-has
-returns-then-has t c = record {
-  formed = tt;
-  within = (omega arith, c.requires.end);
-  tells = none_said c.args.shift.minutes _ (λ v after h. (_, null-set c.args.shift.minutes v (c.has.ensures _ v.attrs h.tells) c.if-has.true));
-}
+returns-then-has t c =
+    let all = none_said c.args.shift.minutes c.requires.end c.nothing-so_far.ensures (λ v after h.
+    (_, null-set c.args.shift.minutes v (c.has.ensures _ v.attrs h.tells) c.if-has.true))
+    in record { formed = all.0; within = all.1.0; tells = all.1.1 }
 
 pub shape_of-requires : goal.shape_of-requires
 shape_of-requires t c = c.requires
@@ -33,17 +34,17 @@ returns-in-Single t c =
     }
 
 pub returns-in-Other : goal.returns-in-Other
-returns-in-Other t c = record {
-  formed = tt;
-  within = (omega arith, c.requires.end);
-  tells = none_said c.args.shift.minutes _ (λ v after h. (
-    _,
-    other-set c.args.shift.minutes v (c.has.ensures _ v.attrs h.tells) c.if-has.false (rw c.in-Other.is at (c.shape_of.ensures _ v after h)),
-  ));
-}
+returns-in-Other t c =
+    let all = none_said c.args.shift.minutes c.requires.end c.nothing-so_far.ensures (λ v after h. (
+      _,
+      other-set c.args.shift.minutes v (c.has.ensures _ v.attrs h.tells) c.if-has.false (rw c.in-Other.is at (c.shape_of.ensures _ v after h)),
+    ))
+    in record { formed = all.0; within = all.1.0; tells = all.1.1 }
 
 pub loop-i-init : goal.loop-i-init
-loop-i-init t c = (tt, walk_begins c.requires.end (λ all. (none, none_yet, refl)))
+loop-i-init t c =
+    let (f, k, n, e) = c.nothing-so_far.ensures in
+    (f, rw e (walk_begins c.requires.end (λ all. (none, none_yet k n, refl))))
 
 pub next_inside-requires : goal.next_inside-requires
 next_inside-requires t c = let tag = c.requires in record { fact_1 = tag.name; fact_2 = tag.past; fact_3 = c.loop-i.invariant.1.within }
@@ -58,36 +59,36 @@ pub evaluate-member-requires : goal.evaluate-member-requires
 evaluate-member-requires t c =
     (omega (arith, (rw c.in-Child.is at c.next_inside.ensures).deep), c.read-child.ensures.within.0)
 
-pub returns-then-is_none : goal.returns-then-is_none
-returns-then-is_none t c =
+pub returns-then-not-member : goal.returns-then-not-member
+returns-then-not-member t c =
+    let e = c.evaluate-member in
     let n = rw c.in-Child.is at c.next_inside.ensures in
-    let w = c.loop-i.invariant.1 in
-    let shift = c.args.shift.minutes in let op = c.in-Members.op in record {
-      formed = tt;
+    let shift = c.args.shift.minutes in let op = c.in-Members.op in let (f, w) = c.loop-i.invariant in record {
+      formed = as_formed false _ f;
       within = (w.from, w.within);
       tells = λ v after h.
           let (all, m, k, p) = walk_child n (c.read-child.ensures.within, c.read-child.ensures.tells) w v after h in
           let y = rw c.in-Members.is at (c.shape_of.ensures _ v after h) in (
             members_set shift v (c.has.ensures _ v.attrs h.tells) c.if-has.false op y
-                (member-unknown shift op m.child (c.evaluate-member.ensures.tells m.child m.rest k).0 v.kids m.others p (known_not _ c.is_none.ensures c.if-is_none.true)),
-            λ k. clash (cc),
+                (member-unknown shift op m.child (e.ensures.tells m.child m.rest k).0 v.kids m.others p (not-true e.result.known c.if-not-member.true) refl),
+            λ k. clash (cc (k)),
           );
     }
 
-pub loop-i-smaller-in-None : goal.loop-i-smaller-in-None
-loop-i-smaller-in-None t c =
+pub loop-i-smaller-then-so_far-eq0 : goal.loop-i-smaller-then-so_far-eq0
+loop-i-smaller-then-so_far-eq0 t c =
     walk_less (rw c.in-Child.is at c.next_inside.ensures) (c.read-child.ensures.within, c.read-child.ensures.tells)
     c.evaluate-member.ensures.within
 
-pub loop-i-preserved-in-None : goal.loop-i-preserved-in-None
-loop-i-preserved-in-None t c =
+pub loop-i-preserved-then-so_far-eq0 : goal.loop-i-preserved-then-so_far-eq0
+loop-i-preserved-then-so_far-eq0 t c =
     let e = c.evaluate-member in
     let op = c.in-Members.op in
-    let known = known-so _ c.is_none.ensures c.if-is_none.false in (
+    let k = not-false e.result.known c.if-not-member.false in (
       e.ensures.formed,
       walk_goes (rw c.in-Child.is at c.next_inside.ensures) (c.read-child.ensures.within, c.read-child.ensures.tells) c.loop-i.invariant.1 e.ensures.within (λ all left v rest h p.
           let (s, q) = e.ensures.tells v rest h in
-          (q known, member-known c.args.shift.minutes op v s all left p known (λ x y. first_taken op x y _ c.in-None.is known))),
+          (q k, member-known c.args.shift.minutes op v s all left p k (join_first op _ _ c.if-so_far-eq0.true))),
     )
 
 pub join-so_far-requires : goal.join-so_far-requires
@@ -103,21 +104,21 @@ pub loop-i-preserved : goal.loop-i-preserved
 loop-i-preserved t c =
     let e = c.evaluate-member in
     let op = c.in-Members.op in
-    let known = known-so _ c.is_none.ensures c.if-is_none.false in let (f, z) = c.join-so_far.ensures.formed in (
+    let k = not-false e.result.known c.if-not-member.false in let (f, z) = c.join-so_far.ensures.formed in (
       f,
       walk_goes (rw c.in-Child.is at c.next_inside.ensures) (c.read-child.ensures.within, c.read-child.ensures.tells) c.loop-i.invariant.1 (rw z e.ensures.within) (λ all left v rest h p.
           let (s, q) = e.ensures.tells v rest h in
-          (rw z (q known), member-known c.args.shift.minutes op v s all left p known c.join-so_far.ensures.tells)),
+          (rw z (q k), member-known c.args.shift.minutes op v s all left p k (join_next op _ _ c.if-so_far-eq0.false c.join-so_far.ensures.tells))),
     )
 
 pub returns-in-Past : goal.returns-in-Past
 returns-in-Past t c =
     let (f, w) = c.loop-i.invariant in let n = rw c.in-Past.is at c.next_inside.ensures in
     let shift = c.args.shift.minutes in let op = c.in-Members.op in record {
-      formed = f;
+      formed = as_formed _ _ f;
       within = (omega (arith, w.from, n.low), n.high);
       tells = λ v after h.
           let (p, e) = walk_ends n w v after h in
           let y = rw c.in-Members.is at (c.shape_of.ensures _ v after h) in
-          (members_set shift v (c.has.ensures _ v.attrs h.tells) c.if-has.false op y (members_said shift op v.kids p), λ k. e);
+          (members_set shift v (c.has.ensures _ v.attrs h.tells) c.if-has.false op y (members_said shift op v.kids p _), λ k. e);
     }

@@ -1,7 +1,6 @@
 -- `listing::set::evaluate` meets its contract. The remaining depth falls: members are read with less left than the element that they stand in.
 use Prim.Native.Nat.{◌-◌}
 use lib.ListN.{length}
-use Rattle.std.specs.Prelude.{IfSome}
 use Rattle.element.proofs.Walks.{Walked}
 use Rattle.listing.specs.Sets.{Formed}
 use Rattle.listing.proofs.Evaluating.{Evaluating}
@@ -11,7 +10,7 @@ abbrev pub decreases-evaluate : goal.decreases-evaluate
 decreases-evaluate l = l.depth
 
 abbrev pub invariant-loop-i : goal.invariant-loop-i
-invariant-loop-i l = IfSome l.so_far.times Formed × Walked l.s l.tag l.depth l.so_far.end (Evaluating l.shift.minutes l.op l.so_far.times)
+invariant-loop-i l = Formed l.so_far × Walked l.s l.tag l.depth l.so_far.end (Evaluating l.shift.minutes l.op l.so_far)
 
 abbrev pub decreases-loop-i : goal.decreases-loop-i
 decreases-loop-i l = length l.s - l.so_far.end
