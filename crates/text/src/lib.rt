@@ -170,14 +170,30 @@ pub fn is_utf8(s: &[u8]) -> bool
 pub fn is_same(a: &[u8], b: &[u8]) -> bool
     ensures { result ≡ same a.now b.now }
 {
-    a == b
+    if a.len() != b.len() {
+        return false;
+    }
+    for i in 0..a.len() {
+        if a[i] != b[i] {
+            return false;
+        }
+    }
+    true
 }
 
 // Whether a text begins with another.
 pub fn begins_with(t: &[u8], prefix: &[u8]) -> bool
     ensures { result ≡ begins prefix.now t.now }
 {
-    t.starts_with(prefix)
+    if t.len() < prefix.len() {
+        return false;
+    }
+    for i in 0..prefix.len() {
+        if prefix[i] != t[i] {
+            return false;
+        }
+    }
+    true
 }
 
 // The length of the longest beginning of a text that is whole characters and fits a room.
