@@ -115,7 +115,10 @@ pub fn read_literal(s: &[u8], at: usize, t: &[u8]) -> Option<usize>
 {
     let mut end = at;
     for b in t {
-        end = read_byte(s, end, *b)?;
+        let Some(next) = read_byte(s, end, *b) else {
+            return None;
+        };
+        end = next;
     }
     Some(end)
 }
