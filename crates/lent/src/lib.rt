@@ -1,7 +1,7 @@
 // A lent list of stretches, read and judged: four numbers a stretch, eight bytes a number.
 #![tactic(auto)]
 
-ghost use Rattle.std.specs.Prelude.{◌≡◌, ◌+◌, ◌*◌, ◌<◌, ◌≤◌, not, length};
+ghost use Rattle.std.specs.Prelude.{◌≡◌, ◌+◌, ◌*◌, ◌<◌, ◌≤◌, not, length, int_lt};
 ghost use Rattle.rules.specs.LentLists.{signed, is_improper_list};
 ghost use Rattle.lent.specs.Rows.{number_at, row_at, row_of, is_bound, is_in_order, is_faulty, is_clash};
 
@@ -38,6 +38,16 @@ pub fn read_row(list: &[u8], k: usize) -> Row
     }
 }
 
+// Half of the numbers that 64 bits hold: 2^63.
+const HALF: u64 = 9223372036854775808;
+
+// Whether one number is less than another, both read as signed.
+fn is_less(a: u64, b: u64) -> bool
+    ensures { result ≡ int_lt (signed a) (signed b) }
+{
+    std::num::wrapping_add_u64(a, HALF) < std::num::wrapping_add_u64(b, HALF)
+}
+
 // Whether kind and tick are a bound's: a kind of 0, 1 or 2, and tick 0 where it is unbounded.
 fn is_bound(kind: u64, tick: u64) -> bool
     ensures { result ≡ is_bound (signed kind) (signed tick) }
@@ -49,13 +59,7 @@ fn is_bound(kind: u64, tick: u64) -> bool
 fn in_order(t: u64, u: u64, equal: bool) -> bool
     ensures { result ≡ is_in_order (signed t) (signed u) equal }
 {
-    let first = t.cast_signed();
-    let second = u.cast_signed();
-    if equal {
-        first <= second
-    } else {
-        first < second
-    }
+    is_less(t, u) | (equal & (t == u))
 }
 
 // Whether four numbers are a stretch: good kinds, tick 0 at unbounded ends, and some place between its bounds.
