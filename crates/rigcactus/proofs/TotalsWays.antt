@@ -155,7 +155,7 @@ module _ (n : ℕ) (numbers : List ℕ) (d : is_desk n ≡ true) (f : is_faulty 
 
         pub add_posted : {m : ℕ} → m ≡ packed entry_number (reading_meant p.answer) → Adds n offset input numbers m (overwrite numbers (shared_numbers (with_part n (table_meant p.table) (shared_in numbers))))
         add_posted e = record {
-          answers = e ∙ ap (packed entry_number) (q.answer ∙ answer-is ∙ sym asked);
+          answers = e ∙ q.number ∙ ap (packed entry_number) (answer-is ∙ sym asked);
           leaves =
               ap (λ y. overwrite numbers (shared_numbers (with_part n y (shared_in numbers)))) table_is
               ∙ sym (ap (λ b. cond b (numbers_after n (posting_of n offset input (shared_in numbers)) numbers) numbers) d

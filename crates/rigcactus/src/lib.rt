@@ -14,7 +14,6 @@ ghost use Rattle.demands.specs.Services.{services};
 ghost use Rattle.judge.specs.Checks.{CheckedAs};
 ghost use Rattle.rules.specs.Markup.{Element};
 ghost use Rattle.rules.specs.Totals.{reading};
-ghost use Rattle.rules.specs.TotalNumbers.{entry_number};
 ghost use Rattle.totals.specs.Readings.{Readable, reading_meant};
 ghost use Rattle.rigcactus.specs.Faults.{typed_faults, AllowedAs};
 
@@ -26,7 +25,7 @@ use timestamp::tick::Tick;
 use totals::damage::is_full;
 use totals::entry::Money;
 use totals::part::{is_desk, is_faulty, lent, part};
-use totals::post::post;
+use totals::post::{post, posted_number};
 use totals::share::{clear, share};
 use totals::{entry, report};
 
@@ -240,17 +239,6 @@ fn read_money(record: &[u8], offset: i64) -> Result<Option<Money>, Refusal>
     let held = checked.record;
     typed_fault(checked, entry::is_money(held))?;
     Ok(entry::read(record, held))
-}
-
-// The packed answer on a record that is added, or null, or refused.
-fn posted_number(answer: Result<Option<Money>, Refusal>) -> u64
-    ensures { result ≡ packed entry_number (reading_meant answer) }
-{
-    match answer {
-        Ok(Some(_)) => 256,
-        Ok(None) => 512,
-        Err(r) => refusal::number(r),
-    }
 }
 
 // Opens a table of totals for two desks: all its numbers are 0. Always answers 0.

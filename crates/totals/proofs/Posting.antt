@@ -7,9 +7,10 @@ use lib.Seq.{take-set-lt}
 use Rattle.rules.specs.Basics.{if_some, exists, every, find}
 use Rattle.rules.specs.Refusal.{NO_ROW, TOTAL, rank_in, first_of, Outcome, answered, refused, ◌unless◌, ◌when◌, ◌and_then◌}
 use Rattle.rules.specs.Forms.{is_currency}
+use Rattle.rules.specs.Services.{packed}
 use Rattle.std.specs.Prelude.{Some, None, Ok, Err}
 use Rattle.rules.specs.Totals.{Row as RulesRow, table, counting, totalling, is_in_range, is_of, is_held, Entry, null, money, new_total, fitting, entered, is_uncounted, recorded}
-use Rattle.rules.specs.TotalNumbers.{is64, currency_in, total_in}
+use Rattle.rules.specs.TotalNumbers.{is64, currency_in, total_in, entry_number}
 use Rattle.rules.proofs.Tests.{clash, neither, both_true}
 use Rattle.rules.proofs.TotalRows.{entered-new}
 use Rattle.rules.proofs.Totals.{undamaged}
@@ -29,6 +30,7 @@ pub refused_as : (t : Table) → Usable t → {o : Outcome Entry} {r : Refusal} 
     → p.table ≡ with_refused t → p.answer ≡ Err r → PostedAs t o p
 refused_as t u {r = r} n e f g = record {
   answer = ap reading_meant g ∙ sym e;
+  number = ap (packed entry_number) (ap reading_meant g ∙ sym e);
   table = ap table_meant f ∙ rw (e, n, add-one) refl;
   few = rw f u.few;
   bits = rw f u.bits;
@@ -206,6 +208,7 @@ module _ (t : Table) (u : Usable t) (long : length t.rows ≡ 16) (c a : ℕ) (c
         let k : t.added + 1 ≡ suc t.added = omega arith in
         record {
           answer = ap reading_meant r ∙ sym h;
+          number = ap (packed entry_number) (ap reading_meant r ∙ sym h);
           table = ap table_meant q ∙ ap₂ table x.rows_are (ap (λ m. counting m t.null t.refused) k) ∙ sym (ap (λ o. recorded o (table_meant t)) h);
           few = rw q x.few;
           bits = rw q x.bits;
@@ -215,4 +218,4 @@ module _ (t : Table) (u : Usable t) (long : length t.rows ≡ 16) (c a : ℕ) (c
 pub null_as : (t : Table) → Usable t → {p : Posted} → p.table ≡ record { rows = t.rows; held = t.held; added = t.added; null = t.null + 1; refused = t.refused }
     → p.answer ≡ Ok None → PostedAs t (answered null) p
 unfolding fitting
-null_as t u e f = record { answer = ap reading_meant f; table = ap table_meant e ∙ rw add-one refl; few = rw e u.few; bits = rw e u.bits }
+null_as t u e f = record { answer = ap reading_meant f; number = ap (packed entry_number) (ap reading_meant f); table = ap table_meant e ∙ rw add-one refl; few = rw e u.few; bits = rw e u.bits }

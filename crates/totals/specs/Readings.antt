@@ -2,8 +2,9 @@
 use Rattle.std.specs.Prelude.{◌≡◌, ℕ, ◌+◌, ◌-◌, ◌^◌, ◌<◌, ◌≤◌, true, false, cond, ◌⊎◌, nat_lt, slice_set, Option, Some, None, Result, Ok, Err}
 use Rattle.rules.specs.Refusal.{Outcome, answered, refused, ◌and_then◌}
 use Rattle.rules.specs.Forms.{is_currency}
+use Rattle.rules.specs.Services.{packed}
 use Rattle.rules.specs.Totals.{Entry, null, money, counted, is_damaged, fitting, is_uncounted, recorded}
-use Rattle.rules.specs.TotalNumbers.{currency_in, total_in}
+use Rattle.rules.specs.TotalNumbers.{currency_in, total_in, entry_number}
 use Rattle.refusal.specs.declared.Refusal.{Refusal}
 use Rattle.refusal.specs.Meaning.{refusal_of}
 use Rattle.totals.specs.Tables.{held_rows, counts_meant, table_meant, are_totals}
@@ -61,9 +62,10 @@ with_row t at r = record {
   refused = t.refused;
 }
 
--- the answer to what was read, and the table after it
+-- the answer to what was read, its number, and the table after it
 pub record PostedAs (t : Table) (o : Outcome Entry) (p : Posted) : Type 0 where
   pub answer : reading_meant p.answer ≡ (o and_then fitting (table_meant t).rows)
+  pub number : packed entry_number (reading_meant p.answer) ≡ packed entry_number (o and_then fitting (table_meant t).rows)
   pub table : table_meant p.table ≡ recorded (o and_then fitting (table_meant t).rows) (table_meant t)
   pub few : p.table.held ≤ 16
   pub bits : are_totals (held_rows p.table) ≡ true

@@ -1,6 +1,8 @@
 // What a record does to a table that is neither damaged nor full.
 ghost use Rattle.std.specs.Prelude.{◌≡◌, ◌+◌, ◌<◌, ◌≤◌, Some, Err, if◌then◌else◌, nat_lt, slice_index_or};
 ghost use Rattle.rules.specs.Refusal.{answered};
+ghost use Rattle.rules.specs.Services.{packed};
+ghost use Rattle.rules.specs.TotalNumbers.{entry_number};
 ghost use Rattle.totals.specs.Readings.{Readable, reading_meant, IsMoney, entry_meant, Usable, with_refused, with_row, PostedAs};
 ghost use Rattle.totals.specs.Tables.{blank};
 
@@ -97,5 +99,16 @@ pub fn post(t: Table, reading: Result<Option<Money>, Refusal>) -> Posted
         }
         Ok(Some(money)) => add(t, money),
         Err(r) => refuse(t, r),
+    }
+}
+
+// The packed answer on a record that is added, or null, or refused.
+pub fn posted_number(answer: Result<Option<Money>, Refusal>) -> u64
+    ensures { result ≡ packed entry_number (reading_meant answer) }
+{
+    match answer {
+        Ok(Some(_)) => 256,
+        Ok(None) => 512,
+        Err(r) => refusal::number(r),
     }
 }
