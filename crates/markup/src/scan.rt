@@ -20,12 +20,14 @@ pub fn skip<F: Fn(u8) -> bool>(s: &[u8], at: usize, passes: F) -> usize
     ensures passed { (i : ℕ) → at ≤ i → i < result → F.post passes (slice_index s.now i) true }
     ensures stopped { result < length s.now → F.post passes (slice_index s.now result) false }
 {
-    for i in at..s.len() {
+    let mut i = at;
+    while i < s.len() {
         if !passes(s[i]) {
             return i;
         }
+        i += 1;
     }
-    s.len()
+    i
 }
 
 // The end of the white space, if any, at a position.

@@ -98,12 +98,14 @@ fn skip_simple(s: &[u8], at: usize) -> usize
     requires { at ≤ length s.now }
     ensures { TextOn s.now at result }
 {
-    for i in at..s.len() {
+    let mut i = at;
+    while i < s.len() {
         if !is_simple(s[i]) {
             return i;
         }
+        i += 1;
     }
-    s.len()
+    i
 }
 
 // The end of the characters from a position on, past the quote that ends them.
